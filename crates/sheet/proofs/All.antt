@@ -1,0 +1,58 @@
+-- Laws of `and` and of `allBelow`.
+use Prim.Native.Nat.{ℕ, zero, suc, _+_, _<_, _≤_}
+use mathlib.Core.Path.{_≡_, refl, sym, ap, _∙_}
+use mathlib.Core.Bool.{Bool, true, false, true≢false}
+use native.Mathlib.Omega.{arith}
+use native.Mathlib.Numerals.{add-one}
+use native.Mathlib.Decide.{decLt}
+use Rattle.sheet.specs.All.{_and_, allBelow}
+
+pub true-false : {b : Bool} → b ≡ true → b ≡ false → ⊥
+true-false p q = true≢false (sym p ∙ q)
+
+-- what is not true is false
+pub not-so : (b : Bool) → (b ≡ true → ⊥) → b ≡ false
+not-so true h = absurd (h refl)
+not-so false h = refl
+
+pub and-true : (a b : Bool) → a ≡ true → b ≡ true → a and b ≡ true
+unfolding _and_
+and-true a b p q = rw (p, q) refl
+
+pub and-first : (a b : Bool) → a and b ≡ true → a ≡ true
+unfolding _and_
+and-first true b e = refl
+and-first false b e = e
+
+pub and-second : (a b : Bool) → a and b ≡ true → b ≡ true
+unfolding _and_
+and-second true b e = e
+and-second false b e = absurd (true≢false (sym e))
+
+pub true-and : (a b : Bool) → a ≡ true → a and b ≡ b
+unfolding _and_
+true-and a b e = rw e refl
+
+pub false-and : (a b : Bool) → a ≡ false → a and b ≡ false
+unfolding _and_
+false-and a b e = rw e refl
+
+pub and-false : (a b : Bool) → b ≡ false → a and b ≡ false
+unfolding _and_
+and-false true b e = e
+and-false false b e = refl
+
+pub all-more : (n : ℕ) (p : ℕ → Bool) → allBelow n p ≡ true → p n ≡ true → allBelow (n + 1) p ≡ true
+unfolding allBelow
+all-more n p h e = rw add-one (and-true (allBelow n p) (p n) h e)
+
+pub all-at : (n : ℕ) (p : ℕ → Bool) → allBelow n p ≡ true → (i : ℕ) → i < n → p i ≡ true
+unfolding allBelow
+all-at zero p h i l = absurd (omega arith)
+all-at (suc n) p h i l = elim (decLt i n) [
+  | yes q ↦ all-at n p (and-first _ _ h) i q
+  | no q ↦ (let e : i ≡ n = omega arith in rw e (and-second _ _ h))
+]
+
+pub all-fails : (n : ℕ) (p : ℕ → Bool) (i : ℕ) → i < n → p i ≡ false → allBelow n p ≡ false
+all-fails n p i l e = not-so _ (λ h. true-false (all-at n p h i l) e)
