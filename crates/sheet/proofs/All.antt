@@ -56,3 +56,18 @@ all-at (suc n) p h i l = elim (decLt i n) [
 
 pub all-fails : (n : ℕ) (p : ℕ → Bool) (i : ℕ) → i < n → p i ≡ false → allBelow n p ≡ false
 all-fails n p i l e = not-so _ (λ h. true-false (all-at n p h i l) e)
+
+-- ---- the same, as a test in code comes to its answer
+
+pub first-fails : (a b : Bool) → a ≡ false → false ≡ a and b
+first-fails a b e = sym (false-and a b e)
+
+pub rest-fails : (a b : Bool) → false ≡ b → false ≡ a and b
+rest-fails a b e = sym (and-false a b (sym e))
+
+pub first-holds : (a b x : Bool) → a ≡ true → x ≡ b → x ≡ a and b
+first-holds a b x e f = f ∙ sym (true-and a b e)
+
+-- a number from k on that is not k
+pub from-next : (k i : ℕ) → k ≤ i → (i ≡ k → ⊥) → suc k ≤ i
+from-next k i h n = omega arith

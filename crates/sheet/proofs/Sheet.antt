@@ -161,3 +161,10 @@ module _ (s d : List ℕ) (opened : d ≡ directoryOf s) where
 
   pub opened-offset : (k n : ℕ) → n < countOf s k → getD d (2 * k) 0 ≡ offsetOf s k
   opened-offset k n h = let some : (directoryRight s ≡ true) × (k < 8) = count-some s k n h in rw opened (directory-offset s (some .0) k (some .1))
+
+-- a section has at most 4,095 records
+pub count-limit : (s : List ℕ) (k : ℕ) → countOf s k ≤ 4095
+count-limit s k = elim (decLt 4095 (countOf s k)) [
+  | no h ↦ omega arith
+  | yes h ↦ absurd (let some : (directoryRight s ≡ true) × (k < 8) = count-some s k 4095 h in omega (arith, record-inside s k 4095 h, sheet-limit s (some .0)))
+]

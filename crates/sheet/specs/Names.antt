@@ -4,6 +4,7 @@ use mathlib.Core.Bool.{Bool, true, false}
 use lib.Dec.{leb, ltb, eqb}
 use Rattle.sheet.specs.All.{_and_}
 use Rattle.sheet.specs.declared.Record.{Record}
+use Rattle.sheet.specs.declared.Range.{Range}
 
 -- ---- sections
 
@@ -59,10 +60,6 @@ abbrev pub declaredType : Record → ℕ
 declaredType r = r .f0
 
 -- ---- a range of records: its first one and how many
-
-pub record Range : Type 0 where
-  pub first : ℕ
-  pub count : ℕ
 
 abbrev pub range : ℕ → ℕ → Range
 range first count = record { first = first; count = count }

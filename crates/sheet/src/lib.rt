@@ -17,3 +17,9 @@ pub enum Found {
     Present(Record),
     Absent,
 }
+
+// A range of records: its first one and how many.
+pub struct Range {
+    pub first: usize,
+    pub count: usize,
+}

@@ -1,0 +1,70 @@
+-- Which operators have which form.
+use Prim.Native.Nat.{ℕ, zero, suc, _<_, _≤_}
+use mathlib.Core.Path.{_≡_, refl, sym, ap, _∙_}
+use mathlib.Core.List.{List, [], _∷_}
+use mathlib.Core.Bool.{Bool, true, false, _&&_}
+use native.Mathlib.Omega.{arith}
+use native.Mathlib.Decide.{decLt}
+use lib.ListN.{getD, drop}
+use lib.Dec.{T, ltb, leb, leb→le}
+use borrow.Author.Tests.{lt-ltb, le-ltb}
+use Rattle.laris.specs.Forms.{Form, literal, binary, clock, arm, clockAct, unknown, Bound, formIn, formTable, formOf}
+
+line-past : (b : Bound) (bs : List Bound) (op : ℕ) → b .below ≤ op → formIn (b ∷ bs) op ≡ formIn bs op
+unfolding formIn
+line-past b bs op h = rw (formIn, le-ltb op (b .below) h) refl
+
+line-here : (b : Bound) (bs : List Bound) (op : ℕ) → op < b .below → formIn (b ∷ bs) op ≡ b .form
+unfolding formIn
+line-here b bs op h = rw (formIn, lt-ltb op (b .below) h) refl
+
+-- the first n lines of a table are for operators below m
+abbrev linesBelow : ℕ → List Bound → ℕ → Bool
+linesBelow zero l m = true
+linesBelow (suc n) [] m = true
+linesBelow (suc n) (b ∷ bs) m = leb (b .below) m && linesBelow n bs m
+
+both : (a b : Bool) → T (a && b) → T a × T b
+both true b q = (tt, q)
+both false b q = absurd q
+
+lines-past : (n : ℕ) (l : List Bound) (m op : ℕ) → T (linesBelow n l m) → m ≤ op → formIn l op ≡ formIn (drop n l) op
+lines-past zero l m op q h = refl
+lines-past (suc n) [] m op q h = refl
+lines-past (suc n) (b ∷ bs) m op q h =
+    let parts = both (leb (b .below) m) (linesBelow n bs m) q in
+    line-past b bs op (omega (arith, leb→le (b .below) m (parts .0))) ∙ lines-past n bs m op (parts .1) h
+
+-- an operator from m on, below the bound of the line that follows the first n
+form-at : (n m op : ℕ) (b : Bound) (bs : List Bound) → drop n formTable ≡ b ∷ bs → T (linesBelow n formTable m) → m ≤ op → op < b .below → formOf op ≡ b .form
+unfolding formOf
+form-at n m op b bs e q h l = lines-past n formTable m op q h ∙ ap (λ t. formIn t op) e ∙ line-here b bs op l
+
+module _ (op : ℕ) where
+  pub form-literal : 1 ≤ op → op ≤ 6 → formOf op ≡ literal
+  form-literal h l = form-at 1 1 op _ _ refl tt h (omega arith)
+
+  pub form-binary : 9 ≤ op → op ≤ 16 → formOf op ≡ binary
+  form-binary h l = form-at 4 9 op _ _ refl tt h (omega arith)
+
+  pub form-clock : 17 ≤ op → op ≤ 18 → formOf op ≡ clock
+  form-clock h l = form-at 5 17 op _ _ refl tt h (omega arith)
+
+  pub form-arm : 36 ≤ op → op ≤ 37 → formOf op ≡ arm
+  form-arm h l = form-at 11 36 op _ _ refl tt h (omega arith)
+
+  pub form-clockAct : 38 ≤ op → op ≤ 39 → formOf op ≡ clockAct
+  form-clockAct h l = form-at 12 38 op _ _ refl tt h (omega arith)
+
+  pub form-unknown : (1 ≤ op → op ≤ 18 → ⊥) → (32 ≤ op → op ≤ 43 → ⊥) → formOf op ≡ unknown
+  unfolding formOf formIn
+  form-unknown u v = elim (decLt op 1) [
+    | yes l ↦ form-at 0 0 op _ _ refl tt (omega arith) l
+    | no g ↦ elim (decLt op 19) [
+      | yes l ↦ absurd (u (omega arith) (omega arith))
+      | no h ↦ elim (decLt op 32) [
+        | yes l ↦ form-at 6 19 op _ _ refl tt (omega arith) l
+        | no k ↦ elim (decLt op 44) [ yes l ↦ absurd (v (omega arith) (omega arith)) | no m ↦ lines-past 17 formTable 44 op tt (omega arith) ]
+      ]
+    ]
+  ]

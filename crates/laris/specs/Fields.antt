@@ -1,0 +1,60 @@
+-- Fields by number, records that a test asks for, ranges, sums.
+use Prim.Native.Nat.{ℕ, zero, suc, _+_, _-_}
+use mathlib.Core.List.{List, [], _∷_}
+use mathlib.Core.Bool.{Bool, true, false}
+use lib.ListN.{getD}
+use lib.Dec.{ltb, leb, eqb}
+use Rattle.sheet.specs.declared.Record.{Record}
+use Rattle.sheet.specs.declared.Range.{Range}
+use Rattle.sheet.specs.declared.Found.{Found}
+use Rattle.sheet.specs.declared.Found.the-variants.{Present, Absent}
+use Rattle.sheet.specs.All.{_and_, allBelow}
+use Rattle.sheet.specs.Names.{head, declarations, components, externals, ports, declaredType}
+use Rattle.sheet.specs.Sheet.{countOf, recordOf}
+
+unfoldable pub fieldOf : Record → ℕ → ℕ
+fieldOf r i = getD (r .f0 ∷ r .f1 ∷ r .f2 ∷ r .f3 ∷ r .f4 ∷ r .f5 ∷ r .f6 ∷ r .f7 ∷ []) i 0
+
+-- "fields not named are 0": the fields from number n on
+unfoldable pub zeroFrom : ℕ → Record → Bool
+zeroFrom n r = allBelow (8 - n) (λ i. eqb (fieldOf r (n + i)) 0)
+
+-- a record that is there and meets a test
+unfoldable pub holds : Found → (Record → Bool) → Bool
+holds (Present r) p = p r
+holds Absent p = false
+
+-- a number of a record, 0 where there is none
+unfoldable pub numberOr0 : Found → (Record → ℕ) → ℕ
+numberOr0 (Present r) f = f r
+numberOr0 Absent f = 0
+
+-- field i of record n of section k, 0 where there is none
+unfoldable pub fieldAt : List ℕ → ℕ → ℕ → ℕ → ℕ
+fieldAt s k n i = numberOr0 (recordOf s k n) (λ r. fieldOf r i)
+
+unfoldable pub sumBelow : ℕ → (ℕ → ℕ) → ℕ
+sumBelow zero f = 0
+sumBelow (suc n) f = sumBelow n f + f n
+
+-- how many numbers below n meet a test
+unfoldable pub countBelow : ℕ → (ℕ → Bool) → ℕ
+countBelow n p = sumBelow n (λ i. elim (p i) [ true ↦ 1 | false ↦ 0 ])
+
+-- the head's numbers
+unfoldable pub componentsOf : List ℕ → ℕ
+componentsOf s = numberOr0 (recordOf s head 0) components
+
+unfoldable pub externalsOf : List ℕ → ℕ
+externalsOf s = numberOr0 (recordOf s head 0) externals
+
+unfoldable pub portsOf : List ℕ → ℕ
+portsOf s = numberOr0 (recordOf s head 0) ports
+
+-- the type of a declaration
+unfoldable pub typeAt : List ℕ → ℕ → ℕ
+typeAt s d = numberOr0 (recordOf s declarations d) declaredType
+
+-- "A range of records ends within its section; an empty one may start at the section's end."
+unfoldable pub inSection : List ℕ → ℕ → Range → Bool
+inSection s k g = leb (g .first + g .count) (countOf s k)

@@ -1,0 +1,7 @@
+pub mod Fields
+pub mod Forms
+pub mod Shape
+pub mod Uses
+pub mod Types
+pub mod Static
+pub mod Check

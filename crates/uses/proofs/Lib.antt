@@ -1,0 +1,5 @@
+pub mod Sums
+pub mod Trees
+pub mod Marks
+pub mod Counted
+pub mod Added
