@@ -37,9 +37,13 @@ unfoldable pub sumBelow : ℕ → (ℕ → ℕ) → ℕ
 sumBelow zero f = 0
 sumBelow (suc n) f = sumBelow n f + f n
 
+abbrev pub oneIf : Bool → ℕ
+oneIf true = 1
+oneIf false = 0
+
 -- how many numbers below n meet a test
 unfoldable pub countBelow : ℕ → (ℕ → Bool) → ℕ
-countBelow n p = sumBelow n (λ i. elim (p i) [ true ↦ 1 | false ↦ 0 ])
+countBelow n p = sumBelow n (λ i. oneIf (p i))
 
 -- the head's numbers
 unfoldable pub componentsOf : List ℕ → ℕ

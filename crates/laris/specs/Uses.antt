@@ -7,13 +7,9 @@ use Rattle.sheet.specs.declared.Record.{Record}
 use Rattle.sheet.specs.All.{allBelow}
 use Rattle.sheet.specs.Names.{charts, bodies, nodes, bindings, chartParameters, chartBodies, root, boundChart}
 use Rattle.sheet.specs.Sheet.{countOf, recordOf}
-use Rattle.laris.specs.Fields.{numberOr0, sumBelow}
+use Rattle.laris.specs.Fields.{numberOr0, oneIf, sumBelow}
 use Rattle.laris.specs.Forms.{operandsOf, operandCount, operandAt}
 use Rattle.laris.specs.Shape.{constantOf}
-
-abbrev pub oneIf : Bool → ℕ
-oneIf true = 1
-oneIf false = 0
 
 -- an operand that is not lower is not gone into
 unfoldable pub lowerOnly : ℕ → (ℕ → ℕ) → ℕ → ℕ

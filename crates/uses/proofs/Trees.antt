@@ -13,9 +13,9 @@ use Rattle.sheet.specs.declared.Found.the-variants.{Present, Absent}
 use Rattle.sheet.specs.Names.{charts, nodes}
 use Rattle.sheet.specs.Sheet.{countOf, recordOf}
 use Rattle.sheet.proofs.Sheet.{record-absent}
-use Rattle.laris.specs.Fields.{numberOr0, sumBelow}
+use Rattle.laris.specs.Fields.{oneIf, numberOr0, sumBelow}
 use Rattle.laris.specs.Forms.{operandsOf, operandCount, operandAt}
-use Rattle.laris.specs.Uses.{oneIf, lowerOnly, standsStep, standsF, standsIn}
+use Rattle.laris.specs.Uses.{lowerOnly, standsStep, standsF, standsIn}
 use Rattle.laris.proofs.Fields.{number-present, number-absent}
 use Rattle.uses.specs.Marks.{belowIn, markedBelow, markedBy}
 use Rattle.uses.proofs.Sums.{sum-zero}

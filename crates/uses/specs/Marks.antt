@@ -8,9 +8,9 @@ use lib.Dec.{eqb}
 use Rattle.sheet.specs.declared.Record.{Record}
 use Rattle.sheet.specs.Names.{charts, nodes}
 use Rattle.sheet.specs.Sheet.{recordOf}
-use Rattle.laris.specs.Fields.{numberOr0, sumBelow}
+use Rattle.laris.specs.Fields.{oneIf, numberOr0, sumBelow}
 use Rattle.laris.specs.Forms.{operandsOf, operandCount, operandAt}
-use Rattle.laris.specs.Uses.{oneIf, lowerOnly, standsIn}
+use Rattle.laris.specs.Uses.{lowerOnly, standsIn}
 
 -- how often node n stands in the trees of the operands of node m, a node of chart c
 unfoldable pub belowIn : List ℕ → Record → ℕ → ℕ → ℕ

@@ -1,0 +1,55 @@
+use native.Mathlib.Omega.{arith}
+use mathlib.Core.Path.{_≡_, refl, sym, ap, _∙_}
+use mathlib.Core.Bool.{Bool, true, false, not}
+use mathlib.Core.List.{List}
+use Prim.Native.Nat.{ℕ, _+_, _-_, _*_, _≤_, _<_}
+use borrow.Author.Tests.{lt-ltb, le-ltb, le-leb, lt-leb, eq-eqb, ne-eqb, not-true, not-false}
+use borrow.Author.Needs.{needs}
+use Rattle.laris.specs.declared.Checked.{Checked}
+use Rattle.laris.specs.declared.Checked.the-variants.{Passed, Shape, Static}
+use Rattle.laris.specs.Static.{static}
+use Rattle.laris.specs.Check.{shape, checkOf, nodesShape, sectionsShape}
+use Rattle.checker.proofs.check.Statement.{statement}
+use Rattle.checker.proofs.check.Tie as tie
+
+module _ (s : List ℕ) where
+  no-shape : shape s ≡ false → Shape ≡ checkOf s
+  unfolding checkOf
+  no-shape e = rw (checkOf, e) refl
+
+  no-static : shape s ≡ true → static s ≡ false → Static ≡ checkOf s
+  unfolding checkOf
+  no-static e f = rw (checkOf, e, f) refl
+
+  passes : shape s ≡ true → static s ≡ true → Passed ≡ checkOf s
+  unfolding checkOf
+  passes e f = rw (checkOf, e, f) refl
+
+directory-requires : tie.Need-directory-requires
+directory-requires c κs = search needs
+
+shape-holds-requires : tie.Need-shape-holds-requires
+shape-holds-requires c κs = search needs
+
+returns : tie.Need-returns
+returns c = no-shape _ (sym (c .before .shape-holds .ensures) ∙ not-true _ (c .if1 .taken))
+
+rules-hold-requires : tie.Need-rules-hold-requires
+rules-hold-requires c κs = search needs
+
+returns-2 : tie.Need-returns-2
+returns-2 c = no-static _ (sym (c .before .before .before .before .shape-holds .ensures) ∙ not-false _ (c .before .before .before .if1 .left)) (sym (c .before .rules-hold .ensures) ∙ not-true _ (c .if2 .taken))
+
+returns-3 : tie.Need-returns-3
+returns-3 c = passes _ (sym (c .before .before .before .before .shape-holds .ensures) ∙ not-false _ (c .before .before .before .if1 .left)) (sym (c .before .rules-hold .ensures) ∙ not-false _ (c .if2 .left))
+
+pub check-spec : {M : Type 1} → statement M
+check-spec =
+    tie.close
+    (tie.spec
+    directory-requires
+    shape-holds-requires
+    returns
+    rules-hold-requires
+    returns-2
+    returns-3)

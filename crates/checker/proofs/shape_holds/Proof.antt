@@ -1,0 +1,108 @@
+use native.Mathlib.Omega.{arith}
+use mathlib.Core.Path.{_≡_, refl, sym, ap, _∙_}
+use mathlib.Core.Bool.{Bool, true, false, not}
+use mathlib.Core.List.{List}
+use Prim.Native.Nat.{ℕ, _+_, _-_, _*_, _≤_, _<_}
+use borrow.Author.Tests.{lt-ltb, le-ltb, le-leb, lt-leb, eq-eqb, ne-eqb, not-true, not-false}
+use borrow.Author.Needs.{needs}
+use Rattle.sheet.specs.All.{_and_, allBelow}
+use Rattle.sheet.proofs.All.{first-fails, rest-fails, first-holds, all-more, all-fails}
+use Rattle.sheet.specs.Sheet.{countOf, directoryRight}
+use Rattle.sheet.proofs.Sheet.{count-some, count-limit}
+use Rattle.laris.specs.Fields.{fieldOf, fieldAt, componentsOf, externalsOf}
+use Rattle.laris.specs.Shape.{elementsBound}
+use Rattle.laris.specs.Check.{shape, checkOf, nodesShape, sectionsShape}
+use Rattle.checker.proofs.shape_holds.Statement.{statement}
+use Rattle.checker.proofs.shape_holds.Tie as tie
+
+right-with-head : (s : List ℕ) (n : ℕ) → n ≡ countOf s 0 → n ≡ 1 → directoryRight s ≡ true
+right-with-head s n e one = count-some s 0 0 (omega arith) .0
+
+module _ (s : List ℕ) (x y n : ℕ) (p : x ≡ fieldAt s 0 0 1) (q : y ≡ fieldAt s 0 0 0) (e : n ≡ countOf s 7) where
+  bound : x + n ≡ y → externalsOf s + countOf s 7 ≡ componentsOf s
+  unfolding externalsOf componentsOf fieldAt fieldOf
+  bound h = rw (← p, ← q, ← e) h
+
+  bound-back : externalsOf s + countOf s 7 ≡ componentsOf s → x + n ≡ y
+  unfolding externalsOf componentsOf fieldAt fieldOf
+  bound-back h = rw (p, q, e) h
+
+count-in-requires : tie.Need-count-in-requires
+count-in-requires c κs = search needs
+
+returns : tie.Need-returns
+unfolding shape
+returns c = rest-fails _ _ (first-fails _ _ (ne-eqb _ _ (λ e. c .if1 .taken (c .before .count-in .ensures _ (c .before .before .before .pre) ∙ e))))
+
+sections-fit-requires : tie.Need-sections-fit-requires
+sections-fit-requires c κs = search needs
+
+returns-2 : tie.Need-returns-2
+unfolding shape
+returns-2 c = rest-fails _ _ (rest-fails _ _ (first-fails _ _ (sym (c .before .sections-fit .ensures) ∙ not-true _ (c .if2 .taken))))
+
+bodies-covered-requires : tie.Need-bodies-covered-requires
+bodies-covered-requires c κs = search needs
+
+returns-3 : tie.Need-returns-3
+unfolding shape
+returns-3 c = rest-fails _ _ (rest-fails _ _ (rest-fails _ _ (first-fails _ _ (sym (c .before .bodies-covered .ensures) ∙ not-true _ (c .if3 .taken)))))
+
+field-at-requires : tie.Need-field-at-requires
+field-at-requires c κs = search needs
+
+field-at-requires-2 : tie.Need-field-at-requires-2
+field-at-requires-2 c κs = search needs
+
+count-in-requires-2 : tie.Need-count-in-requires-2
+count-in-requires-2 c κs = search needs
+
+add-if4 : tie.Need-add-if4
+add-if4 c = omega (arith, c .before .field-at2 .ensures .1, c .count-in2 .ensures _ (c .before .before .before .before .before .before .before .before .before .before .pre), count-limit (c .before .before .before .before .before .before .before .before .before .before .args .sheet .now) 7)
+
+returns-4 : tie.Need-returns-4
+unfolding shape elementsBound
+returns-4 c = rest-fails _ _ (rest-fails _ _ (rest-fails _ _ (rest-fails _ _ (first-fails _ _ (ne-eqb _ _ (λ e. c .if4 .taken (bound-back _ _ _ _ (c .before .before .field-at2 .ensures .0) (c .before .before .before .field-at .ensures .0) (c .before .count-in2 .ensures _ (c .before .before .before .before .before .before .before .before .before .before .before .pre)) e)))))))
+
+variables-requires : tie.Need-variables-requires
+variables-requires c κs = search needs
+
+returns-5 : tie.Need-returns-5
+unfolding shape
+returns-5 c = rest-fails _ _ (rest-fails _ _ (rest-fails _ _ (rest-fails _ _ (rest-fails _ _ (first-fails _ _ (lt-leb _ _ (rw (c .before .variables .ensures) at (c .if5 .taken))))))))
+
+used-once-requires : tie.Need-used-once-requires
+used-once-requires c κs = search needs
+
+returns-6 : tie.Need-returns-6
+unfolding shape
+returns-6 c = rest-fails _ _ (rest-fails _ _ (rest-fails _ _ (rest-fails _ _ (rest-fails _ _ (rest-fails _ _ (first-fails _ _ (sym (c .before .used-once .ensures) ∙ not-true _ (c .if6 .taken))))))))
+
+nodes-fit-requires : tie.Need-nodes-fit-requires
+nodes-fit-requires c κs = search needs
+
+returns-7 : tie.Need-returns-7
+unfolding shape elementsBound
+returns-7 c = first-holds _ _ _ (right-with-head _ _ (c .before .before .before .before .before .before .before .before .before .before .before .before .before .before .count-in .ensures _ (c .before .before .before .before .before .before .before .before .before .before .before .before .before .before .before .before .pre)) (c .before .before .before .before .before .before .before .before .before .before .before .before .before .if1 .left)) (first-holds _ _ _ (eq-eqb _ _ (sym (c .before .before .before .before .before .before .before .before .before .before .before .before .before .before .count-in .ensures _ (c .before .before .before .before .before .before .before .before .before .before .before .before .before .before .before .before .pre)) ∙ c .before .before .before .before .before .before .before .before .before .before .before .before .before .if1 .left)) (first-holds _ _ _ (sym (c .before .before .before .before .before .before .before .before .before .before .before .before .sections-fit .ensures) ∙ not-false _ (c .before .before .before .before .before .before .before .before .before .before .before .if2 .left)) (first-holds _ _ _ (sym (c .before .before .before .before .before .before .before .before .before .before .bodies-covered .ensures) ∙ not-false _ (c .before .before .before .before .before .before .before .before .before .if3 .left)) (first-holds _ _ _ (eq-eqb _ _ (bound _ _ _ _ (c .before .before .before .before .before .before .before .field-at2 .ensures .0) (c .before .before .before .before .before .before .before .before .field-at .ensures .0) (c .before .before .before .before .before .before .count-in2 .ensures _ (c .before .before .before .before .before .before .before .before .before .before .before .before .before .before .before .before .pre)) (c .before .before .before .before .before .if4 .left))) (first-holds _ _ _ (le-leb _ _ (rw (c .before .before .before .before .variables .ensures) at (c .before .before .before .if5 .left))) (first-holds _ _ _ (sym (c .before .before .used-once .ensures) ∙ not-false _ (c .before .if6 .left)) (c .nodes-fit .ensures)))))))
+
+pub shape-holds-spec : {M : Type 1} → statement M
+shape-holds-spec =
+    tie.close
+    (tie.spec
+    count-in-requires
+    returns
+    sections-fit-requires
+    returns-2
+    bodies-covered-requires
+    returns-3
+    field-at-requires
+    field-at-requires-2
+    count-in-requires-2
+    add-if4
+    returns-4
+    variables-requires
+    returns-5
+    used-once-requires
+    returns-6
+    nodes-fit-requires
+    returns-7)

@@ -1,0 +1,92 @@
+use native.Mathlib.Omega.{arith}
+use mathlib.Core.Path.{_≡_, refl, sym, ap, _∙_}
+use mathlib.Core.Bool.{Bool, true, false, not}
+use mathlib.Core.List.{List}
+use Prim.Native.Nat.{ℕ, _+_, _-_, _*_, _≤_, _<_}
+use borrow.Author.Tests.{lt-ltb, le-ltb, le-leb, lt-leb, eq-eqb, ne-eqb, not-true, not-false}
+use borrow.Author.Needs.{needs}
+use Rattle.sheet.specs.All.{_and_, allBelow}
+use Rattle.sheet.proofs.All.{first-fails, rest-fails, first-holds, all-more, all-fails}
+use Rattle.sheet.specs.declared.Record.{Record}
+use Rattle.laris.specs.Fields.{holds, typeAt}
+use Rattle.laris.specs.Fields.{fieldOf}
+use Rattle.laris.specs.Static.{constantStatic, constantsStatic}
+use Rattle.statics.proofs.constants_static.Statement.{statement}
+use Rattle.statics.proofs.constants_static.Tie as tie
+
+abbrev constantFits : List ℕ → Record → ℕ → ℕ → Bool
+constantFits s r first j = constantStatic s (fieldOf r (1 + j)) (typeAt s (first + j))
+
+same-constant : (s : List ℕ) (n n′ t t′ : ℕ) (x : Bool) → n ≡ n′ → t ≡ t′ → x ≡ constantStatic s n t → constantStatic s n′ t′ ≡ x
+same-constant s n n′ t t′ x p q e = sym (rw (p, q) at e)
+
+all-fit : (s : List ℕ) (r c : Record) (j : ℕ) → j ≤ c .f1 → c .f1 ≤ j → allBelow j (constantFits s r (c .f0)) ≡ true → true ≡ constantsStatic s r c
+unfolding constantsStatic
+all-fit s r c j a b h = let same : c .f1 ≡ j = omega arith in sym (ap (λ n. allBelow n (constantFits s r (c .f0))) same ∙ h)
+
+abbrev Inv-loop : tie.InvT-loop
+Inv-loop sheet directory r first count j₀ j = (j ≤ count) × (count < 65536) × (allBelow j (constantFits sheet r first) ≡ true)
+
+abbrev μ-loop : tie.MeasureT-loop
+μ-loop sheet directory r first count j₀ j = count - j
+
+cast-first : tie.Need-cast-first Inv-loop μ-loop
+cast-first c = search needs
+
+cast-count : tie.Need-cast-count Inv-loop μ-loop
+cast-count c = search needs
+
+loop-holds : tie.Need-loop-holds Inv-loop μ-loop
+unfolding allBelow
+loop-holds c = (omega arith, omega arith, refl)
+
+add-type-at : tie.Need-add-type-at Inv-loop μ-loop
+add-type-at c = search needs
+
+type-at-requires : tie.Need-type-at-requires Inv-loop μ-loop
+type-at-requires c κs = search needs
+
+add-field : tie.Need-add-field Inv-loop μ-loop
+add-field c = search needs
+
+field-requires : tie.Need-field-requires Inv-loop μ-loop
+field-requires c κs = search needs
+
+constant-static-requires : tie.Need-constant-static-requires Inv-loop μ-loop
+constant-static-requires c κs = search needs
+
+returns : tie.Need-returns Inv-loop μ-loop
+unfolding constantsStatic
+returns c = sym (all-fails _ (constantFits _ _ _) (c .before .before .before .before .before .loop .j) (c .before .before .before .before .loop-test .taken) (same-constant _ _ _ _ _ _ (c .before .before .field .ensures .0) (c .before .before .before .type-at .ensures) (c .before .constant-static .ensures) ∙ not-true _ (c .if1 .taken)))
+
+add-j : tie.Need-add-j Inv-loop μ-loop
+add-j c = search needs
+
+loop-less : tie.Need-loop-less Inv-loop μ-loop
+loop-less c = search needs
+
+loop-again : tie.Need-loop-again Inv-loop μ-loop
+loop-again c = (omega arith, c .before .before .before .before .before .loop .inv .1, all-more (c .before .before .before .before .before .loop .j) _ (c .before .before .before .before .before .loop .inv .2) (same-constant _ _ _ _ _ _ (c .before .before .field .ensures .0) (c .before .before .before .type-at .ensures) (c .before .constant-static .ensures) ∙ not-false _ (c .if1 .left)))
+
+returns-2 : tie.Need-returns-2 Inv-loop μ-loop
+returns-2 c = all-fit _ _ _ _ (c .before .loop .inv .0) (c .loop-test .left) (c .before .loop .inv .2)
+
+pub constants-static-spec : {M : Type 1} → statement M
+constants-static-spec =
+    tie.close
+    (tie.spec
+    Inv-loop
+    μ-loop
+    cast-first
+    cast-count
+    loop-holds
+    add-type-at
+    type-at-requires
+    add-field
+    field-requires
+    constant-static-requires
+    returns
+    add-j
+    loop-less
+    loop-again
+    returns-2)

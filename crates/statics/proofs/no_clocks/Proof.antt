@@ -1,0 +1,76 @@
+use native.Mathlib.Omega.{arith}
+use mathlib.Core.Path.{_≡_, refl, sym, ap, _∙_}
+use mathlib.Core.Bool.{Bool, true, false, not}
+use mathlib.Core.List.{List}
+use Prim.Native.Nat.{ℕ, _+_, _-_, _*_, _≤_, _<_}
+use borrow.Author.Tests.{lt-ltb, le-ltb, le-leb, lt-leb, eq-eqb, ne-eqb, not-true, not-false}
+use borrow.Author.Needs.{needs}
+use Rattle.sheet.specs.All.{_and_, allBelow}
+use Rattle.sheet.proofs.All.{first-fails, rest-fails, first-holds, all-more, all-fails}
+use Rattle.sheet.specs.declared.Range.{Range}
+use Rattle.laris.specs.Fields.{holds, typeAt}
+use Rattle.sheet.specs.Names.{isClock}
+use Rattle.laris.specs.Static.{noClocks}
+use Rattle.statics.proofs.no_clocks.Statement.{statement}
+use Rattle.statics.proofs.no_clocks.Tie as tie
+
+abbrev noClock : List ℕ → ℕ → ℕ → Bool
+noClock s first j = not (isClock (typeAt s (first + j)))
+
+is-clock : (t u : ℕ) (x : Bool) {y : Bool} → t ≡ u → x ≡ isClock t → x ≡ y → isClock u ≡ y
+is-clock t u x p q e = sym (ap isClock p) ∙ sym q ∙ e
+
+none-is : (s : List ℕ) (g : Range) (j : ℕ) → j ≤ g .count → g .count ≤ j → allBelow j (noClock s (g .first)) ≡ true → true ≡ noClocks s g
+unfolding noClocks
+none-is s g j a b h = let same : g .count ≡ j = omega arith in sym (ap (λ n. allBelow n (noClock s (g .first))) same ∙ h)
+
+abbrev Inv-loop : tie.InvT-loop
+Inv-loop sheet directory first count j₀ j = (j ≤ count) × (allBelow j (noClock sheet first) ≡ true)
+
+abbrev μ-loop : tie.MeasureT-loop
+μ-loop sheet directory first count j₀ j = count - j
+
+loop-holds : tie.Need-loop-holds Inv-loop μ-loop
+unfolding allBelow
+loop-holds c = (omega arith, refl)
+
+add-type-at : tie.Need-add-type-at Inv-loop μ-loop
+add-type-at c = search needs
+
+type-at-requires : tie.Need-type-at-requires Inv-loop μ-loop
+type-at-requires c κs = search needs
+
+is-clock-requires : tie.Need-is-clock-requires Inv-loop μ-loop
+is-clock-requires c κs = search needs
+
+returns : tie.Need-returns Inv-loop μ-loop
+unfolding noClocks
+returns c = sym (all-fails _ (noClock _ _) (c .before .before .before .before .loop .j) (c .before .before .before .loop-test .taken) (ap not (is-clock _ _ _ (c .before .before .type-at .ensures) (c .before .is-clock .ensures) (c .if1 .taken))))
+
+add-j : tie.Need-add-j Inv-loop μ-loop
+add-j c = search needs
+
+loop-less : tie.Need-loop-less Inv-loop μ-loop
+loop-less c = search needs
+
+loop-again : tie.Need-loop-again Inv-loop μ-loop
+loop-again c = (omega arith, all-more (c .before .before .before .before .loop .j) _ (c .before .before .before .before .loop .inv .1) (ap not (is-clock _ _ _ (c .before .before .type-at .ensures) (c .before .is-clock .ensures) (c .if1 .left))))
+
+returns-2 : tie.Need-returns-2 Inv-loop μ-loop
+returns-2 c = none-is _ _ _ (c .before .loop .inv .0) (c .loop-test .left) (c .before .loop .inv .1)
+
+pub no-clocks-spec : {M : Type 1} → statement M
+no-clocks-spec =
+    tie.close
+    (tie.spec
+    Inv-loop
+    μ-loop
+    loop-holds
+    add-type-at
+    type-at-requires
+    is-clock-requires
+    returns
+    add-j
+    loop-less
+    loop-again
+    returns-2)

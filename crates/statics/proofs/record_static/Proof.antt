@@ -1,0 +1,51 @@
+use native.Mathlib.Omega.{arith}
+use mathlib.Core.Path.{_≡_, refl, sym, ap, _∙_}
+use mathlib.Core.Bool.{Bool, true, false, not}
+use mathlib.Core.List.{List}
+use Prim.Native.Nat.{ℕ, _+_, _-_, _*_, _≤_, _<_}
+use borrow.Author.Tests.{lt-ltb, le-ltb, le-leb, lt-leb, eq-eqb, ne-eqb, not-true, not-false}
+use borrow.Author.Needs.{needs}
+use Rattle.sheet.specs.declared.Record.{Record}
+use Rattle.laris.specs.Static.{recordStatic}
+use Rattle.statics.proofs.record_static.Statement.{statement}
+use Rattle.statics.proofs.record_static.Tie as tie
+
+other : (s : List ℕ) (k : ℕ) (r : Record) → (k ≡ 3 → ⊥) → (k ≡ 4 → ⊥) → (k ≡ 7 → ⊥) → recordStatic s k r ≡ true
+unfolding recordStatic
+other s k r a b d = rw (recordStatic, ne-eqb _ _ a, ne-eqb _ _ b, ne-eqb _ _ d) refl
+
+name-static-requires : tie.Need-name-static-requires
+name-static-requires c κs = search needs
+
+chart-static-requires : tie.Need-chart-static-requires
+chart-static-requires c κs = search needs
+
+binding-static-requires : tie.Need-binding-static-requires
+binding-static-requires c κs = search needs
+
+returns : tie.Need-returns
+unfolding recordStatic
+returns c = c .name-static .ensures ∙ sym (ap (λ n. recordStatic (c .before .before .before .args .sheet .now) n (c .before .before .before .args .r)) (c .before .match .keys1))
+
+returns-2 : tie.Need-returns-2
+unfolding recordStatic
+returns-2 c = c .chart-static .ensures ∙ sym (ap (λ n. recordStatic (c .before .before .before .args .sheet .now) n (c .before .before .before .args .r)) (c .before .match .keys2))
+
+returns-3 : tie.Need-returns-3
+unfolding recordStatic
+returns-3 c = c .binding-static .ensures ∙ sym (ap (λ n. recordStatic (c .before .before .before .args .sheet .now) n (c .before .before .before .args .r)) (c .before .match .keys3))
+
+returns-4 : tie.Need-returns-4
+returns-4 c = sym (other _ _ _ (c .match .rest .0 .0 .1) (c .match .rest .0 .1) (c .match .rest .1))
+
+pub record-static-spec : {M : Type 1} → statement M
+record-static-spec =
+    tie.close
+    (tie.spec
+    name-static-requires
+    chart-static-requires
+    binding-static-requires
+    returns
+    returns-2
+    returns-3
+    returns-4)

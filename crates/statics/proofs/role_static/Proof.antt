@@ -1,0 +1,47 @@
+use native.Mathlib.Omega.{arith}
+use mathlib.Core.Path.{_≡_, refl, sym, ap, _∙_}
+use mathlib.Core.Bool.{Bool, true, false, not}
+use mathlib.Core.List.{List}
+use Prim.Native.Nat.{ℕ, suc, _+_, _-_, _*_, _≤_, _<_}
+use borrow.Author.Tests.{lt-ltb, le-ltb, le-leb, lt-leb, eq-eqb, ne-eqb, not-true, not-false}
+use lib.Dec.{leb, eqb}
+use native.Mathlib.Decide.{decLt}
+use borrow.Author.Needs.{needs}
+use Rattle.sheet.specs.All.{_and_, allBelow}
+use Rattle.sheet.proofs.All.{and-true, and-false, false-and}
+use Rattle.sheet.specs.declared.Record.{Record}
+use Rattle.laris.specs.Shape.{isReaction}
+use Rattle.laris.specs.Static.{reactionStatic, roleStatic}
+use Rattle.statics.proofs.role_static.Statement.{statement}
+use Rattle.statics.proofs.role_static.Tie as tie
+
+below-is : (n k : ℕ) → n < suc k → n ≤ k
+below-is n k h = omega arith
+
+module _ (s : List ℕ) (b : Record) where
+  first-two : b .f0 < 2 → roleStatic s b ≡ eqb (b .f4) 0
+  unfolding roleStatic isReaction
+  first-two h = rw (roleStatic, false-and (leb 2 (b .f0)) (leb (b .f0) 3) (lt-leb 2 (b .f0) h), le-leb (b .f0) 1 (omega arith)) refl
+
+  a-reaction : 2 ≤ b .f0 → b .f0 ≤ 3 → roleStatic s b ≡ reactionStatic s b
+  unfolding roleStatic isReaction
+  a-reaction h k = rw (roleStatic, and-true (leb 2 (b .f0)) (leb (b .f0) 3) (le-leb 2 (b .f0) h) (le-leb (b .f0) 3 k)) refl
+
+  another : 3 < b .f0 → roleStatic s b ≡ true
+  unfolding roleStatic isReaction
+  another h = rw (roleStatic, and-false (leb 2 (b .f0)) (leb (b .f0) 3) (lt-leb (b .f0) 3 h), lt-leb (b .f0) 1 (omega arith)) refl
+
+reaction-static-requires : tie.Need-reaction-static-requires
+reaction-static-requires c κs = search needs
+
+returns : tie.Need-returns
+returns c = sym (first-two _ _ (c .before .if1 .taken))
+
+returns-2 : tie.Need-returns-2
+returns-2 c = c .reaction-static .ensures ∙ sym (a-reaction _ _ (c .before .before .if1 .left) (below-is _ _ (c .before .if2 .taken)))
+
+returns-3 : tie.Need-returns-3
+returns-3 c = sym (another _ _ (c .if2 .left))
+
+pub role-static-spec : {M : Type 1} → statement M
+role-static-spec = tie.close (tie.spec reaction-static-requires returns returns-2 returns-3)

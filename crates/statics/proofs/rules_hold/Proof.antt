@@ -1,0 +1,56 @@
+use native.Mathlib.Omega.{arith}
+use mathlib.Core.Path.{_≡_, refl, sym, ap, _∙_}
+use mathlib.Core.Bool.{Bool, true, false, not}
+use mathlib.Core.List.{List}
+use Prim.Native.Nat.{ℕ, _+_, _-_, _*_, _≤_, _<_}
+use borrow.Author.Tests.{lt-ltb, le-ltb, le-leb, lt-leb, eq-eqb, ne-eqb, not-true, not-false}
+use borrow.Author.Needs.{needs}
+use Rattle.sheet.specs.All.{_and_, allBelow}
+use Rattle.sheet.proofs.All.{all-more, all-fails}
+use Rattle.laris.specs.Static.{sectionStatic, static}
+use Rattle.statics.proofs.rules_hold.Statement.{statement}
+use Rattle.statics.proofs.rules_hold.Tie as tie
+
+abbrev Inv-loop : tie.InvT-loop
+Inv-loop sheet directory k₀ k = (k ≤ 8) × (allBelow k (sectionStatic sheet) ≡ true)
+
+abbrev μ-loop : tie.MeasureT-loop
+μ-loop sheet directory k₀ k = 8 - k
+
+loop-holds : tie.Need-loop-holds Inv-loop μ-loop
+unfolding allBelow
+loop-holds c = (omega arith, refl)
+
+section-static-requires : tie.Need-section-static-requires Inv-loop μ-loop
+section-static-requires c κs = search needs
+
+returns : tie.Need-returns Inv-loop μ-loop
+unfolding static
+returns c = sym (all-fails 8 _ (c .before .before .before .loop .k) (c .before .before .loop-test .taken) (sym (c .before .section-static .ensures) ∙ not-true _ (c .if1 .taken)))
+
+add-k : tie.Need-add-k Inv-loop μ-loop
+add-k c = search needs
+
+loop-less : tie.Need-loop-less Inv-loop μ-loop
+loop-less c = search needs
+
+loop-again : tie.Need-loop-again Inv-loop μ-loop
+loop-again c = (omega arith, all-more (c .before .before .before .loop .k) _ (c .before .before .before .loop .inv .1) (sym (c .before .section-static .ensures) ∙ not-false _ (c .if1 .left)))
+
+returns-2 : tie.Need-returns-2 Inv-loop μ-loop
+unfolding static
+returns-2 c = sym (let e : 8 ≡ c .before .loop .k = omega arith in rw e (c .before .loop .inv .1))
+
+pub rules-hold-spec : {M : Type 1} → statement M
+rules-hold-spec =
+    tie.close
+    (tie.spec
+    Inv-loop
+    μ-loop
+    loop-holds
+    section-static-requires
+    returns
+    add-k
+    loop-less
+    loop-again
+    returns-2)

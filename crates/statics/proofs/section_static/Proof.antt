@@ -1,0 +1,89 @@
+use native.Mathlib.Omega.{arith}
+use mathlib.Core.Path.{_≡_, refl, sym, ap, _∙_}
+use mathlib.Core.Bool.{Bool, true, false, not}
+use mathlib.Core.List.{List}
+use Prim.Native.Nat.{ℕ, _+_, _-_, _*_, _≤_, _<_}
+use borrow.Author.Tests.{lt-ltb, le-ltb, le-leb, lt-leb, eq-eqb, ne-eqb, not-true, not-false}
+use borrow.Author.Needs.{needs}
+use Rattle.sheet.specs.All.{_and_, allBelow}
+use Rattle.sheet.proofs.All.{all-more, all-fails}
+use Rattle.laris.proofs.Fields.{holds-present, holds-absent}
+use Rattle.sheet.specs.Sheet.{recordOf, countOf}
+use Rattle.laris.specs.Fields.{holds}
+use Rattle.laris.specs.Static.{recordStatic, sectionStatic}
+use Rattle.statics.proofs.section_static.Statement.{statement}
+use Rattle.statics.proofs.section_static.Tie as tie
+
+abbrev fits : List ℕ → ℕ → ℕ → Bool
+fits s k i = holds (recordOf s k i) (recordStatic s k)
+
+module _ (s : List ℕ) (k n i : ℕ) (e : n ≡ countOf s k) where
+  one-fails : i < n → fits s k i ≡ false → false ≡ sectionStatic s k
+  unfolding sectionStatic
+  one-fails l f = sym (all-fails (countOf s k) (fits s k) i (omega arith) f)
+
+  all-fit : i ≤ n → n ≤ i → allBelow i (fits s k) ≡ true → true ≡ sectionStatic s k
+  unfolding sectionStatic
+  all-fit a b h = let same : countOf s k ≡ i = omega arith in sym (rw same h)
+
+abbrev Inv-loop : tie.InvT-loop
+Inv-loop sheet directory k count i₀ i = (i ≤ count) × (allBelow i (fits sheet k) ≡ true)
+
+abbrev μ-loop : tie.MeasureT-loop
+μ-loop sheet directory k count i₀ i = count - i
+
+count-in-requires : tie.Need-count-in-requires Inv-loop μ-loop
+count-in-requires c κs = search needs
+
+loop-holds : tie.Need-loop-holds Inv-loop μ-loop
+unfolding allBelow
+loop-holds c = (omega arith, refl)
+
+read-requires : tie.Need-read-requires Inv-loop μ-loop
+read-requires c κs = search needs
+
+enum-known-r : tie.Need-enum-known-r Inv-loop μ-loop
+enum-known-r c = search needs
+
+enum-told : tie.Need-enum-told Inv-loop μ-loop
+enum-told c = search needs
+
+returns : tie.Need-returns Inv-loop μ-loop
+returns c = one-fails _ _ _ _ (c .before .before .before .before .before .count-in .ensures _ (c .before .before .before .before .before .before .before .pre)) (c .before .before .before .loop-test .taken) (holds-absent _ _ (sym (c .before .before .read .ensures) ∙ c .enum-told .given .1))
+
+record-static-requires : tie.Need-record-static-requires Inv-loop μ-loop
+record-static-requires c κs = search needs
+
+returns-2 : tie.Need-returns-2 Inv-loop μ-loop
+returns-2 c = one-fails _ _ _ _ (c .before .before .before .before .before .before .before .before .count-in .ensures _ (c .before .before .before .before .before .before .before .before .before .before .pre)) (c .before .before .before .before .before .before .loop-test .taken) (holds-present _ _ _ (sym (c .before .before .before .before .before .read .ensures) ∙ c .before .before .before .r .given .1) ∙ sym (c .before .record-static .ensures) ∙ not-true _ (c .if1 .taken))
+
+add-i : tie.Need-add-i Inv-loop μ-loop
+add-i c = search needs
+
+loop-less : tie.Need-loop-less Inv-loop μ-loop
+loop-less c = search needs
+
+loop-again : tie.Need-loop-again Inv-loop μ-loop
+loop-again c = (omega arith, all-more (c .before .before .before .before .before .before .before .loop .i) _ (c .before .before .before .before .before .before .before .loop .inv .1) (holds-present _ _ _ (sym (c .before .before .before .before .before .read .ensures) ∙ c .before .before .before .r .given .1) ∙ sym (c .before .record-static .ensures) ∙ not-false _ (c .if1 .left)))
+
+returns-3 : tie.Need-returns-3 Inv-loop μ-loop
+returns-3 c = all-fit _ _ _ _ (c .before .before .count-in .ensures _ (c .before .before .before .before .pre)) (c .before .loop .inv .0) (c .loop-test .left) (c .before .loop .inv .1)
+
+pub section-static-spec : {M : Type 1} → statement M
+section-static-spec =
+    tie.close
+    (tie.spec
+    Inv-loop
+    μ-loop
+    count-in-requires
+    loop-holds
+    read-requires
+    enum-known-r
+    enum-told
+    returns
+    record-static-requires
+    returns-2
+    add-i
+    loop-less
+    loop-again
+    returns-3)

@@ -1,0 +1,25 @@
+use mathlib.Core.Path.{sym, _∙_}
+use borrow.Author.Needs.{needs}
+use Rattle.sheet.proofs.All.{true-and, false-and}
+use Rattle.laris.specs.Types.{internalName}
+use Rattle.typing.proofs.Laws.{no, so}
+use Rattle.typing.proofs.internal_name.Statement.{statement}
+use Rattle.typing.proofs.internal_name.Tie as tie
+
+has-class-requires : tie.Need-has-class-requires
+has-class-requires c κs = search needs
+
+returns : tie.Need-returns
+unfolding internalName
+returns c = sym (false-and _ _ (no (c .before .has-class .ensures) (c .if1 .taken)))
+
+has-reaction-requires : tie.Need-has-reaction-requires
+has-reaction-requires c κs = search needs
+
+returns-2 : tie.Need-returns-2
+unfolding internalName
+returns-2 c = c .has-reaction .ensures ∙ sym (true-and _ _ (so (c .before .before .has-class .ensures) (c .before .if1 .left)))
+
+pub internal-name-spec : {M : Type 1} → statement M
+internal-name-spec =
+    tie.close (tie.spec has-class-requires returns has-reaction-requires returns-2)
