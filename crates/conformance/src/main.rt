@@ -4,12 +4,24 @@
 use laris::Checked;
 use libc::STDIN_FILENO;
 use libc::STDOUT_FILENO;
+ghost use Prim.Native.Nat.{_<_};
 
-fn number(b: &[u8], at: usize) -> u64 {
-    b[at] as u64
-        + 256 * (b[at + 1] as u64)
-        + 65536 * (b[at + 2] as u64)
-        + 16777216 * (b[at + 3] as u64)
+fn join(a: u8, b: u8, c: u8, d: u8) -> u64
+    ensures { λ r. ⌜ r < 4294967296 ⌝ }
+{
+    a as u64 + 256 * (b as u64) + 65536 * (c as u64) + 16777216 * (d as u64)
+}
+
+fn kind_of(head: &[u8; 8]) -> u64
+    ensures { λ r. ⌜ r < 4294967296 ⌝ }
+{
+    join(head[0], head[1], head[2], head[3])
+}
+
+fn size_of(head: &[u8; 8]) -> u64
+    ensures { λ r. ⌜ r < 4294967296 ⌝ }
+{
+    join(head[4], head[5], head[6], head[7])
 }
 
 fn answer(r: Checked) -> u64 {
@@ -34,8 +46,8 @@ fn main() {
         if io::read_full(STDIN_FILENO, &mut head) < 8 {
             return;
         }
-        let kind = number(&head, 0);
-        let size = number(&head, 4) as usize;
+        let kind = kind_of(&head);
+        let size = size_of(&head) as usize;
         if kind != 0 {
             return;
         }

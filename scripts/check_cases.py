@@ -1,0 +1,98 @@
+#!/usr/bin/env python3
+"""Writes calls of check on sheets of extreme shape to standard output, and the answers to the file that is named.
+
+  check_cases.py ANSWERS > CALLS
+
+A call is three parts: kind 0 and the sheet's length as 32-bit little-endian numbers, and the sheet.
+"""
+import struct
+import sys
+
+SKIP = [32]
+
+
+def sheet(sections):
+    """The bytes of eight sections, each a list of records given by their first fields."""
+    blobs = [b"".join(struct.pack("<8H", *(r + [0] * (8 - len(r)))) for r in s) for s in sections]
+    at, directory = 32, []
+    for blob in blobs:
+        directory += [at % 65536, len(blob) % 65536]
+        at += len(blob)
+    return struct.pack("<16H", *directory) + b"".join(blobs)
+
+
+def yard(nodes, root, declarations=(), variables=0, bodies=(), names=(), ports=2):
+    """One bound element; its initial body has the root, its panic body is the last node, a skip."""
+    n = len(nodes)
+    own = [[0, 0, 0, 0, 0, 0, 0, root], [1, 0, 0, 0, 0, 0, 0, n]] + list(bodies)
+    return sheet([
+        [[3, 2, ports]], [], [list(d) for d in declarations], [list(x) for x in names],
+        [[0, 0, 0, variables, 0, len(own)]], own, nodes + [SKIP], [[0]],
+    ])
+
+
+def nots(depth):
+    """An assignment whose tree has that many levels: a literal under nots."""
+    nodes = [[1, 1]] + [[8, i] for i in range(depth - 2)]
+    return nodes + [[33, 1, 0, len(nodes) - 1]]
+
+
+def balanced(leaves):
+    """A tree of sequences over skips, operands before the node that uses them."""
+    nodes = []
+
+    def grow(count):
+        if count == 1:
+            nodes.append(SKIP)
+        else:
+            left = grow(count // 2)
+            right = grow(count - count // 2)
+            nodes.append([43, left, right])
+        return len(nodes) - 1
+
+    grow(leaves)
+    return nodes
+
+
+def cases():
+    yield b"", 1
+    for size in (1, 31, 32, 48):
+        yield bytes(size), 1
+    for depth in (2, 63, 64, 65, 66):
+        nodes = nots(depth)
+        yield yard(nodes, len(nodes) - 1, [[0]], 1), 0 if depth <= 64 else 1
+    # a node used twice, and a node that nothing uses
+    yield yard([SKIP, [43, 0, 0]], 1), 1
+    yield yard([SKIP, SKIP, [43, 0, 1], SKIP], 2), 1
+    # as large as a sheet can be: 65,520 bytes, in one tree
+    nodes = balanced(2044)
+    largest = yard(nodes, len(nodes) - 1)
+    assert len(largest) == 65520
+    yield largest, 0
+    yield largest + bytes(16), 1
+    # each node uses the one before it twice; a chain of nots; a chain of sequences
+    twice = [SKIP] + [[43, i, i] for i in range(4000)]
+    yield yard(twice, len(twice) - 1), 1
+    chain = nots(4000)
+    yield yard(chain, len(chain) - 1, [[0]], 1), 1
+    comb = [SKIP]
+    for _ in range(2000):
+        comb += [SKIP, [43, len(comb) - 1, len(comb)]]
+    yield yard(comb, len(comb) - 1), 1
+    # some 2,000 reactions in one chart, all different, and with one pair alike
+    reactions = [[2, i % 64, i // 64, 0, 0, 0, 0, i] for i in range(1900)]
+    roots = [SKIP] * 1901
+    for same in (False, True):
+        if same:
+            reactions[1899] = reactions[0][:7] + [1899]
+        yield yard(roots, 1900, (), 0, reactions, [[0, 0, 0]] * 30, 64), 2 if same else 0
+
+
+def main():
+    with open(sys.argv[1], "w") as answers:
+        for blob, answer in cases():
+            sys.stdout.buffer.write(struct.pack("<II", 0, len(blob)) + blob)
+            answers.write("%d\n" % answer)
+
+
+main()
