@@ -12,6 +12,11 @@ use Rattle.laris.specs.Shape.{headShape, enumeratedShape, typeExists, de
 use Rattle.laris.specs.Uses.{lowerOnly, standsStep, standsF, standsIn, usesInChart, usesInBinding, usesOf, usedOnce}
 use Rattle.laris.specs.Types.{given, isOf, isStatement, sameType, literalType, variableAt, binaryType, hasClass, hasReaction, internalName, nameRange, parametersOf, clockOf, dataMatch, lowerType, readType, notType, clockType, assignType, externalType, internalType, armType, clockActType, callType, choiceType, loopType, sequenceType, typeIn, typeStep, typeF, typeOf}
 use Rattle.laris.specs.Static.{noClocks, nameStatic, sameTypes, reactionStatic, roleStatic, bodyStatic, hasRole, bodiesWith, sameReaction, noTwin, bodiesStatic, chartStatic, constantStatic, constantsStatic, bindingStatic, recordStatic, sectionStatic, static}
+use lib.IntN.{ℤ, pos, negsuc}
+use Rattle.laris.specs.declared.Out.{Out}
+use Rattle.laris.specs.declared.Out.the-variants.{Val, Refused}
+use Rattle.laris.specs.Values.{fits32, isZero}
+use Rattle.laris.specs.Eval.{needs, val, intOut, quotient, remainder, dividing, intVal, binaryVal}
 use Rattle.laris.specs.Check.{nodesShape, sectionsShape, shape, checkOf, checkNumber}
 
 -- ---- a sheet from its eight sections, each the fields of its records
@@ -89,3 +94,33 @@ internal-send-with-a-reaction = refl
 internal-send-without-a-reaction : check (sending 4) ≡ 2
 unfolding check sending
 internal-send-without-a-reaction = refl
+
+-- ---- Int: operator 15 div, 16 mod, with l steps left
+
+int : ℤ → ℕ → Out
+int z l = Val (val 1 z) l
+
+-- an operator on two Ints
+on-ints : ℕ → ℤ → ℤ → ℕ → Out
+unfolding _and_ fits32 isZero needs intOut quotient remainder dividing intVal binaryVal
+on-ints op a b l = binaryVal op (val 1 a) (val 1 b) l
+
+seven-div-two : (l : ℕ) → on-ints 15 (negsuc 6) (pos 2) l ≡ int (negsuc 2) l
+unfolding on-ints int
+seven-div-two l = refl
+
+seven-mod-two : (l : ℕ) → on-ints 16 (negsuc 6) (pos 2) l ≡ int (negsuc 0) l
+unfolding on-ints int
+seven-mod-two l = refl
+
+least-div-minus-one : (l : ℕ) → on-ints 15 (negsuc 2147483647) (negsuc 0) l ≡ Refused 6 l
+unfolding on-ints
+least-div-minus-one l = refl
+
+least-mod-minus-one : (l : ℕ) → on-ints 16 (negsuc 2147483647) (negsuc 0) l ≡ int (pos 0) l
+unfolding on-ints int
+least-mod-minus-one l = refl
+
+mod-zero : (l : ℕ) → on-ints 16 (pos 7) (pos 0) l ≡ Refused 6 l
+unfolding on-ints
+mod-zero l = refl

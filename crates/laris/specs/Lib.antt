@@ -5,3 +5,9 @@ pub mod Uses
 pub mod Types
 pub mod Static
 pub mod Check
+pub mod Values
+pub mod State
+pub mod Valid
+pub mod Eval
+pub mod Run
+pub mod Play

@@ -68,6 +68,18 @@ rest-fails a b e = sym (and-false a b (sym e))
 pub first-holds : (a b x : Bool) → a ≡ true → x ≡ b → x ≡ a and b
 first-holds a b x e f = f ∙ sym (true-and a b e)
 
+-- a loop that tests every i below n, where n is the count m, leaves at an i that fails
+pub loop-fails : (n m i : ℕ) (p : ℕ → Bool) → n ≡ m → i < n → p i ≡ false → false ≡ allBelow m p
+loop-fails n m i p e l f = sym (all-fails m p i (rw e at l) f)
+
+-- .. or ends with every i tested
+pub loop-ends : (n m i : ℕ) (p : ℕ → Bool) → n ≡ m → i ≤ n → n ≤ i → allBelow i p ≡ true → true ≡ allBelow m p
+loop-ends n m i p e a b h = let same : m ≡ i = omega arith in sym (rw same h)
+
 -- a number from k on that is not k
 pub from-next : (k i : ℕ) → k ≤ i → (i ≡ k → ⊥) → suc k ≤ i
 from-next k i h n = omega arith
+
+-- a number below the one after k
+pub below-is : (n k : ℕ) → n < suc k → n ≤ k
+below-is n k h = omega arith

@@ -163,15 +163,9 @@ isClock t = leb 4 t and leb t 6
 abbrev pub operator : Record → ℕ
 operator r = r .f0
 
--- literals are 1 to 6, expressions 1 to 18, statements 32 to 43
+-- literals are 1 to 6; the table of all forms stands with the definitions of shape
 unfoldable pub isLiteral : ℕ → Bool
 isLiteral op = leb 1 op and leb op 6
-
-unfoldable pub isExpression : ℕ → Bool
-isExpression op = leb 1 op and leb op 18
-
-unfoldable pub isStatement : ℕ → Bool
-isStatement op = leb 32 op and leb op 43
 
 -- ---- places of a read or an assignment (f1 of operators 7 and 33)
 

@@ -6,7 +6,7 @@ use Prim.Native.Nat.{ℕ, _+_, _-_, _*_, _≤_, _<_}
 use borrow.Author.Tests.{lt-ltb, le-ltb, le-leb, lt-leb, eq-eqb, ne-eqb, not-true, not-false}
 use borrow.Author.Needs.{needs}
 use Rattle.sheet.specs.All.{_and_, allBelow}
-use Rattle.sheet.proofs.All.{first-fails, rest-fails, first-holds, all-more, all-fails}
+use Rattle.sheet.proofs.All.{first-fails, rest-fails, first-holds, all-more, all-fails, loop-ends}
 use Rattle.sheet.specs.declared.Record.{Record}
 use Rattle.laris.specs.Fields.{fieldOf}
 use Rattle.laris.specs.Shape.{constantShape, constantsShape}
@@ -15,9 +15,6 @@ use Rattle.shape.proofs.constants_fit.Tie as tie
 
 abbrev fits : List ℕ → Record → ℕ → Bool
 fits s r j = constantShape s (fieldOf r (1 + j))
-
-ended : (j n : ℕ) (p : ℕ → Bool) → j ≤ n → n ≤ j → allBelow j p ≡ true → allBelow n p ≡ true
-ended j n p a b h = let e : n ≡ j = omega arith in rw e h
 
 abbrev Inv-loop : tie.InvT-loop
 Inv-loop sheet directory r count j₀ j = (j ≤ count) × (allBelow j (fits sheet r) ≡ true)
@@ -62,7 +59,7 @@ zero-from-requires c κs = search needs
 
 returns-2 : tie.Need-returns-2 Inv-loop μ-loop
 unfolding constantsShape
-returns-2 c = first-holds _ _ _ (ended _ _ _ (c .before .before .loop .inv .0) (c .before .loop-test .left) (c .before .before .loop .inv .1)) (c .zero-from .ensures)
+returns-2 c = first-holds _ _ _ (sym (loop-ends _ _ _ _ refl (c .before .before .loop .inv .0) (c .before .loop-test .left) (c .before .before .loop .inv .1))) (c .zero-from .ensures)
 
 pub constants-fit-spec : {M : Type 1} → statement M
 constants-fit-spec =

@@ -1,14 +1,14 @@
 use native.Mathlib.Omega.{arith}
 use mathlib.Core.Path.{_≡_, refl, sym, ap, _∙_}
-use mathlib.Core.Bool.{Bool, true, false}
+use mathlib.Core.Bool.{Bool, true}
 use mathlib.Core.List.{List}
-use Prim.Native.Nat.{ℕ, _+_, _-_, _*_, _≤_, _<_}
+use Prim.Native.Nat.{ℕ, _+_, _-_, _*_, _≤_}
 use borrow.Author.Tests.{lt-ltb, le-ltb, le-leb, lt-leb, eq-eqb, ne-eqb, not-true, not-false}
 use borrow.Author.Needs.{needs}
 use Rattle.sheet.specs.All.{_and_, allBelow}
-use Rattle.sheet.proofs.All.{all-more, all-fails}
+use Rattle.sheet.proofs.All.{all-more, loop-fails, loop-ends}
 use Rattle.laris.proofs.Fields.{holds-present, holds-absent, number-present, number-absent, sum-more}
-use Rattle.sheet.specs.Sheet.{recordOf, countOf, directoryOf}
+use Rattle.sheet.specs.Sheet.{recordOf, directoryOf}
 use Rattle.laris.specs.Fields.{holds}
 use Rattle.laris.specs.Shape.{recordShape, sectionShape}
 use Rattle.shape.proofs.section_fits.Statement.{statement}
@@ -16,15 +16,6 @@ use Rattle.shape.proofs.section_fits.Tie as tie
 
 abbrev fits : List ℕ → ℕ → ℕ → Bool
 fits s k i = holds (recordOf s k i) (recordShape s k i)
-
-module _ (s : List ℕ) (k n i : ℕ) (e : n ≡ countOf s k) where
-  one-fails : i < n → fits s k i ≡ false → false ≡ sectionShape s k
-  unfolding sectionShape
-  one-fails l f = sym (all-fails (countOf s k) (fits s k) i (omega arith) f)
-
-  all-fit : i ≤ n → n ≤ i → allBelow i (fits s k) ≡ true → true ≡ sectionShape s k
-  unfolding sectionShape
-  all-fit a b h = let same : countOf s k ≡ i = omega arith in sym (rw same h)
 
 abbrev Inv-loop : tie.InvT-loop
 Inv-loop sheet directory k count i₀ i = (i ≤ count) × (allBelow i (fits sheet k) ≡ true)
@@ -49,13 +40,15 @@ enum-told : tie.Need-enum-told Inv-loop μ-loop
 enum-told c = search needs
 
 returns : tie.Need-returns Inv-loop μ-loop
-returns c = one-fails _ _ _ _ (c .before .before .before .before .before .count-in .ensures _ (c .before .before .before .before .before .before .before .pre)) (c .before .before .before .loop-test .taken) (holds-absent _ _ (sym (c .before .before .read .ensures) ∙ c .enum-told .given .1))
+unfolding sectionShape
+returns c = loop-fails _ _ _ _ (c .before .before .before .before .before .count-in .ensures _ (c .before .before .before .before .before .before .before .pre)) (c .before .before .before .loop-test .taken) (holds-absent _ _ (sym (c .before .before .read .ensures) ∙ c .enum-told .given .1))
 
 record-fits-requires : tie.Need-record-fits-requires Inv-loop μ-loop
 record-fits-requires c κs = search needs
 
 returns-2 : tie.Need-returns-2 Inv-loop μ-loop
-returns-2 c = one-fails _ _ _ _ (c .before .before .before .before .before .before .before .before .count-in .ensures _ (c .before .before .before .before .before .before .before .before .before .before .pre)) (c .before .before .before .before .before .before .loop-test .taken) (holds-present _ _ _ (sym (c .before .before .before .before .before .read .ensures) ∙ c .before .before .before .r .given .1) ∙ sym (c .before .record-fits .ensures) ∙ not-true _ (c .if1 .taken))
+unfolding sectionShape
+returns-2 c = loop-fails _ _ _ _ (c .before .before .before .before .before .before .before .before .count-in .ensures _ (c .before .before .before .before .before .before .before .before .before .before .pre)) (c .before .before .before .before .before .before .loop-test .taken) (holds-present _ _ _ (sym (c .before .before .before .before .before .read .ensures) ∙ c .before .before .before .r .given .1) ∙ sym (c .before .record-fits .ensures) ∙ not-true _ (c .if1 .taken))
 
 add-i : tie.Need-add-i Inv-loop μ-loop
 add-i c = search needs
@@ -67,7 +60,8 @@ loop-again : tie.Need-loop-again Inv-loop μ-loop
 loop-again c = (omega arith, all-more (c .before .before .before .before .before .before .before .loop .i) _ (c .before .before .before .before .before .before .before .loop .inv .1) (holds-present _ _ _ (sym (c .before .before .before .before .before .read .ensures) ∙ c .before .before .before .r .given .1) ∙ sym (c .before .record-fits .ensures) ∙ not-false _ (c .if1 .left)))
 
 returns-3 : tie.Need-returns-3 Inv-loop μ-loop
-returns-3 c = all-fit _ _ _ _ (c .before .before .count-in .ensures _ (c .before .before .before .before .pre)) (c .before .loop .inv .0) (c .loop-test .left) (c .before .loop .inv .1)
+unfolding sectionShape
+returns-3 c = loop-ends _ _ _ _ (c .before .before .count-in .ensures _ (c .before .before .before .before .pre)) (c .before .loop .inv .0) (c .loop-test .left) (c .before .loop .inv .1)
 
 pub section-fits-spec : {M : Type 1} → statement M
 section-fits-spec =

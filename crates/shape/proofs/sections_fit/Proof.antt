@@ -6,7 +6,7 @@ use Prim.Native.Nat.{ℕ, _+_, _-_, _*_, _≤_, _<_}
 use borrow.Author.Tests.{lt-ltb, le-ltb, le-leb, lt-leb, eq-eqb, ne-eqb, not-true, not-false}
 use borrow.Author.Needs.{needs}
 use Rattle.sheet.specs.All.{_and_, allBelow}
-use Rattle.sheet.proofs.All.{all-more, all-fails}
+use Rattle.sheet.proofs.All.{all-more, loop-fails, loop-ends}
 use Rattle.laris.specs.Check.{sectionsShape}
 use Rattle.laris.specs.Shape.{sectionShape}
 use Rattle.shape.proofs.sections_fit.Statement.{statement}
@@ -27,7 +27,7 @@ section-fits-requires c κs = search needs
 
 returns : tie.Need-returns Inv-loop μ-loop
 unfolding sectionsShape
-returns c = sym (all-fails 8 _ (c .before .before .before .loop .k) (c .before .before .loop-test .taken) (sym (c .before .section-fits .ensures) ∙ not-true _ (c .if1 .taken)))
+returns c = loop-fails _ _ _ _ refl (c .before .before .loop-test .taken) (sym (c .before .section-fits .ensures) ∙ not-true _ (c .if1 .taken))
 
 add-k : tie.Need-add-k Inv-loop μ-loop
 add-k c = search needs
@@ -40,7 +40,7 @@ loop-again c = (omega arith, all-more (c .before .before .before .loop .k) _ (c 
 
 returns-2 : tie.Need-returns-2 Inv-loop μ-loop
 unfolding sectionsShape
-returns-2 c = sym (let e : 8 ≡ c .before .loop .k = omega arith in rw e (c .before .loop .inv .1))
+returns-2 c = loop-ends _ _ _ _ refl (c .before .loop .inv .0) (c .loop-test .left) (c .before .loop .inv .1)
 
 pub sections-fit-spec : {M : Type 1} → statement M
 sections-fit-spec =

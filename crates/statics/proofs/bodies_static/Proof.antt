@@ -1,12 +1,12 @@
 use native.Mathlib.Omega.{arith}
-use mathlib.Core.Path.{_≡_, refl, sym, ap, _∙_}
+use mathlib.Core.Path.{_≡_, refl, sym, _∙_}
 use mathlib.Core.Bool.{Bool, true, false, not}
 use mathlib.Core.List.{List}
 use Prim.Native.Nat.{ℕ, _+_, _-_, _*_, _≤_, _<_}
 use borrow.Author.Tests.{lt-ltb, le-ltb, le-leb, lt-leb, eq-eqb, ne-eqb, not-true, not-false}
 use borrow.Author.Needs.{needs}
 use Rattle.sheet.specs.All.{_and_, allBelow}
-use Rattle.sheet.proofs.All.{first-fails, rest-fails, first-holds, all-more, all-fails}
+use Rattle.sheet.proofs.All.{first-fails, rest-fails, first-holds, all-more, loop-fails, loop-ends}
 use Rattle.sheet.proofs.All.{and-true}
 use Rattle.sheet.specs.declared.Record.{Record}
 use Rattle.laris.proofs.Fields.{holds-present, holds-absent}
@@ -18,10 +18,6 @@ use Rattle.statics.proofs.bodies_static.Tie as tie
 
 abbrev bodyFits : List ℕ → Record → ℕ → Bool
 bodyFits s c j = holds (recordOf s 5 (c .f4 + j)) (λ b. noTwin s c j b and bodyStatic s c b)
-
-all-fit : (s : List ℕ) (c : Record) (j : ℕ) → j ≤ c .f5 → c .f5 ≤ j → allBelow j (bodyFits s c) ≡ true → true ≡ bodiesStatic s c
-unfolding bodiesStatic
-all-fit s c j a b h = let same : c .f5 ≡ j = omega arith in sym (ap (λ n. allBelow n (bodyFits s c)) same ∙ h)
 
 abbrev Inv-loop : tie.InvT-loop
 Inv-loop sheet directory c first count j₀ j = (j ≤ count) × (count < 65536) × (allBelow j (bodyFits sheet c) ≡ true)
@@ -53,21 +49,21 @@ enum-told c = search needs
 
 returns : tie.Need-returns Inv-loop μ-loop
 unfolding bodiesStatic
-returns c = sym (all-fails (c .before .before .before .before .before .before .before .before .args .c .f5) (bodyFits (c .before .before .before .before .before .before .before .before .args .sheet .now) (c .before .before .before .before .before .before .before .before .args .c)) (c .before .before .before .before .loop .j) (c .before .before .before .loop-test .taken) (holds-absent _ _ (sym (c .before .before .read .ensures) ∙ c .enum-told .given .1)))
+returns c = loop-fails _ _ _ _ refl (c .before .before .before .loop-test .taken) (holds-absent _ _ (sym (c .before .before .read .ensures) ∙ c .enum-told .given .1))
 
 no-twin-requires : tie.Need-no-twin-requires Inv-loop μ-loop
 no-twin-requires c κs = (c .before .before .before .before .before .before .before .before .before .pre, omega arith)
 
 returns-2 : tie.Need-returns-2 Inv-loop μ-loop
 unfolding bodiesStatic
-returns-2 c = sym (all-fails (c .before .before .before .before .before .before .before .before .before .before .before .args .c .f5) (bodyFits (c .before .before .before .before .before .before .before .before .before .before .before .args .sheet .now) (c .before .before .before .before .before .before .before .before .before .before .before .args .c)) (c .before .before .before .before .before .before .before .loop .j) (c .before .before .before .before .before .before .loop-test .taken) (holds-present _ _ _ (sym (c .before .before .before .before .before .read .ensures) ∙ c .before .before .before .b .given .1) ∙ sym (first-fails _ _ (sym (c .before .no-twin .ensures) ∙ not-true _ (c .if1 .taken)))))
+returns-2 c = loop-fails _ _ _ _ refl (c .before .before .before .before .before .before .loop-test .taken) (holds-present _ _ _ (sym (c .before .before .before .before .before .read .ensures) ∙ c .before .before .before .b .given .1) ∙ sym (first-fails _ _ (sym (c .before .no-twin .ensures) ∙ not-true _ (c .if1 .taken))))
 
 body-static-requires : tie.Need-body-static-requires Inv-loop μ-loop
 body-static-requires c κs = search needs
 
 returns-3 : tie.Need-returns-3 Inv-loop μ-loop
 unfolding bodiesStatic
-returns-3 c = sym (all-fails (c .before .before .before .before .before .before .before .before .before .before .before .before .before .args .c .f5) (bodyFits (c .before .before .before .before .before .before .before .before .before .before .before .before .before .args .sheet .now) (c .before .before .before .before .before .before .before .before .before .before .before .before .before .args .c)) (c .before .before .before .before .before .before .before .before .before .loop .j) (c .before .before .before .before .before .before .before .before .loop-test .taken) (holds-present _ _ _ (sym (c .before .before .before .before .before .before .before .read .ensures) ∙ c .before .before .before .before .before .b .given .1) ∙ sym (rest-fails _ _ (sym (sym (c .before .body-static .ensures) ∙ not-true _ (c .if2 .taken))))))
+returns-3 c = loop-fails _ _ _ _ refl (c .before .before .before .before .before .before .before .before .loop-test .taken) (holds-present _ _ _ (sym (c .before .before .before .before .before .before .before .read .ensures) ∙ c .before .before .before .before .before .b .given .1) ∙ sym (rest-fails _ _ (sym (sym (c .before .body-static .ensures) ∙ not-true _ (c .if2 .taken)))))
 
 add-j : tie.Need-add-j Inv-loop μ-loop
 add-j c = search needs
@@ -79,7 +75,8 @@ loop-again : tie.Need-loop-again Inv-loop μ-loop
 loop-again c = (omega arith, c .before .before .before .before .before .before .before .before .before .loop .inv .1, all-more (c .before .before .before .before .before .before .before .before .before .loop .j) _ (c .before .before .before .before .before .before .before .before .before .loop .inv .2) (holds-present _ _ _ (sym (c .before .before .before .before .before .before .before .read .ensures) ∙ c .before .before .before .before .before .b .given .1) ∙ and-true _ _ (sym (c .before .before .before .no-twin .ensures) ∙ not-false _ (c .before .before .if1 .left)) (sym (c .before .body-static .ensures) ∙ not-false _ (c .if2 .left))))
 
 returns-4 : tie.Need-returns-4 Inv-loop μ-loop
-returns-4 c = all-fit _ _ _ (c .before .loop .inv .0) (c .loop-test .left) (c .before .loop .inv .2)
+unfolding bodiesStatic
+returns-4 c = loop-ends _ _ _ _ refl (c .before .loop .inv .0) (c .loop-test .left) (c .before .loop .inv .2)
 
 pub bodies-static-spec : {M : Type 1} → statement M
 bodies-static-spec =

@@ -1,12 +1,12 @@
 use native.Mathlib.Omega.{arith}
-use mathlib.Core.Path.{_≡_, refl, sym, ap, _∙_}
+use mathlib.Core.Path.{_≡_, refl, sym, _∙_}
 use mathlib.Core.Bool.{Bool, true, false, not}
 use mathlib.Core.List.{List}
 use Prim.Native.Nat.{ℕ, _+_, _-_, _*_, _≤_, _<_}
 use borrow.Author.Tests.{lt-ltb, le-ltb, le-leb, lt-leb, eq-eqb, ne-eqb, not-true, not-false}
 use borrow.Author.Needs.{needs}
 use Rattle.sheet.specs.All.{_and_, allBelow}
-use Rattle.sheet.proofs.All.{first-fails, rest-fails, first-holds, all-more, all-fails}
+use Rattle.sheet.proofs.All.{first-fails, rest-fails, first-holds, all-more, loop-fails, loop-ends}
 use Rattle.sheet.specs.declared.Record.{Record}
 use Rattle.laris.specs.Fields.{holds, typeAt}
 use Rattle.laris.specs.Fields.{fieldOf}
@@ -19,10 +19,6 @@ constantFits s r first j = constantStatic s (fieldOf r (1 + j)) (typeAt s (first
 
 same-constant : (s : List ℕ) (n n′ t t′ : ℕ) (x : Bool) → n ≡ n′ → t ≡ t′ → x ≡ constantStatic s n t → constantStatic s n′ t′ ≡ x
 same-constant s n n′ t t′ x p q e = sym (rw (p, q) at e)
-
-all-fit : (s : List ℕ) (r c : Record) (j : ℕ) → j ≤ c .f1 → c .f1 ≤ j → allBelow j (constantFits s r (c .f0)) ≡ true → true ≡ constantsStatic s r c
-unfolding constantsStatic
-all-fit s r c j a b h = let same : c .f1 ≡ j = omega arith in sym (ap (λ n. allBelow n (constantFits s r (c .f0))) same ∙ h)
 
 abbrev Inv-loop : tie.InvT-loop
 Inv-loop sheet directory r first count j₀ j = (j ≤ count) × (count < 65536) × (allBelow j (constantFits sheet r first) ≡ true)
@@ -57,7 +53,7 @@ constant-static-requires c κs = search needs
 
 returns : tie.Need-returns Inv-loop μ-loop
 unfolding constantsStatic
-returns c = sym (all-fails _ (constantFits _ _ _) (c .before .before .before .before .before .loop .j) (c .before .before .before .before .loop-test .taken) (same-constant _ _ _ _ _ _ (c .before .before .field .ensures .0) (c .before .before .before .type-at .ensures) (c .before .constant-static .ensures) ∙ not-true _ (c .if1 .taken)))
+returns c = loop-fails _ _ _ _ refl (c .before .before .before .before .loop-test .taken) (same-constant _ _ _ _ _ _ (c .before .before .field .ensures .0) (c .before .before .before .type-at .ensures) (c .before .constant-static .ensures) ∙ not-true _ (c .if1 .taken))
 
 add-j : tie.Need-add-j Inv-loop μ-loop
 add-j c = search needs
@@ -69,7 +65,8 @@ loop-again : tie.Need-loop-again Inv-loop μ-loop
 loop-again c = (omega arith, c .before .before .before .before .before .loop .inv .1, all-more (c .before .before .before .before .before .loop .j) _ (c .before .before .before .before .before .loop .inv .2) (same-constant _ _ _ _ _ _ (c .before .before .field .ensures .0) (c .before .before .before .type-at .ensures) (c .before .constant-static .ensures) ∙ not-false _ (c .if1 .left)))
 
 returns-2 : tie.Need-returns-2 Inv-loop μ-loop
-returns-2 c = all-fit _ _ _ _ (c .before .loop .inv .0) (c .loop-test .left) (c .before .loop .inv .2)
+unfolding constantsStatic
+returns-2 c = loop-ends _ _ _ _ refl (c .before .loop .inv .0) (c .loop-test .left) (c .before .loop .inv .2)
 
 pub constants-static-spec : {M : Type 1} → statement M
 constants-static-spec =

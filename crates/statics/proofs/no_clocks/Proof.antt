@@ -6,8 +6,7 @@ use Prim.Native.Nat.{ℕ, _+_, _-_, _*_, _≤_, _<_}
 use borrow.Author.Tests.{lt-ltb, le-ltb, le-leb, lt-leb, eq-eqb, ne-eqb, not-true, not-false}
 use borrow.Author.Needs.{needs}
 use Rattle.sheet.specs.All.{_and_, allBelow}
-use Rattle.sheet.proofs.All.{first-fails, rest-fails, first-holds, all-more, all-fails}
-use Rattle.sheet.specs.declared.Range.{Range}
+use Rattle.sheet.proofs.All.{first-fails, rest-fails, first-holds, all-more, loop-fails, loop-ends}
 use Rattle.laris.specs.Fields.{holds, typeAt}
 use Rattle.sheet.specs.Names.{isClock}
 use Rattle.laris.specs.Static.{noClocks}
@@ -19,10 +18,6 @@ noClock s first j = not (isClock (typeAt s (first + j)))
 
 is-clock : (t u : ℕ) (x : Bool) {y : Bool} → t ≡ u → x ≡ isClock t → x ≡ y → isClock u ≡ y
 is-clock t u x p q e = sym (ap isClock p) ∙ sym q ∙ e
-
-none-is : (s : List ℕ) (g : Range) (j : ℕ) → j ≤ g .count → g .count ≤ j → allBelow j (noClock s (g .first)) ≡ true → true ≡ noClocks s g
-unfolding noClocks
-none-is s g j a b h = let same : g .count ≡ j = omega arith in sym (ap (λ n. allBelow n (noClock s (g .first))) same ∙ h)
 
 abbrev Inv-loop : tie.InvT-loop
 Inv-loop sheet directory first count j₀ j = (j ≤ count) × (allBelow j (noClock sheet first) ≡ true)
@@ -45,7 +40,7 @@ is-clock-requires c κs = search needs
 
 returns : tie.Need-returns Inv-loop μ-loop
 unfolding noClocks
-returns c = sym (all-fails _ (noClock _ _) (c .before .before .before .before .loop .j) (c .before .before .before .loop-test .taken) (ap not (is-clock _ _ _ (c .before .before .type-at .ensures) (c .before .is-clock .ensures) (c .if1 .taken))))
+returns c = loop-fails _ _ _ _ refl (c .before .before .before .loop-test .taken) (ap not (is-clock _ _ _ (c .before .before .type-at .ensures) (c .before .is-clock .ensures) (c .if1 .taken)))
 
 add-j : tie.Need-add-j Inv-loop μ-loop
 add-j c = search needs
@@ -57,7 +52,8 @@ loop-again : tie.Need-loop-again Inv-loop μ-loop
 loop-again c = (omega arith, all-more (c .before .before .before .before .loop .j) _ (c .before .before .before .before .loop .inv .1) (ap not (is-clock _ _ _ (c .before .before .type-at .ensures) (c .before .is-clock .ensures) (c .if1 .left))))
 
 returns-2 : tie.Need-returns-2 Inv-loop μ-loop
-returns-2 c = none-is _ _ _ (c .before .loop .inv .0) (c .loop-test .left) (c .before .loop .inv .1)
+unfolding noClocks
+returns-2 c = loop-ends _ _ _ _ refl (c .before .loop .inv .0) (c .loop-test .left) (c .before .loop .inv .1)
 
 pub no-clocks-spec : {M : Type 1} → statement M
 no-clocks-spec =

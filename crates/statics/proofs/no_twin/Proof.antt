@@ -6,7 +6,7 @@ use Prim.Native.Nat.{ℕ, _+_, _-_, _*_, _≤_, _<_}
 use borrow.Author.Tests.{lt-ltb, le-ltb, le-leb, lt-leb, eq-eqb, ne-eqb, not-true, not-false}
 use borrow.Author.Needs.{needs}
 use Rattle.sheet.specs.All.{_and_, allBelow}
-use Rattle.sheet.proofs.All.{first-fails, rest-fails, first-holds, all-more, all-fails}
+use Rattle.sheet.proofs.All.{first-fails, rest-fails, first-holds, all-more, loop-fails, loop-ends}
 use Rattle.sheet.specs.declared.Record.{Record}
 use Rattle.laris.proofs.Fields.{holds-present, holds-absent}
 use Rattle.laris.specs.Fields.{holds, typeAt}
@@ -17,10 +17,6 @@ use Rattle.statics.proofs.no_twin.Tie as tie
 
 abbrev noTwinAt : List ℕ → ℕ → Record → ℕ → Bool
 noTwinAt s first b i = holds (recordOf s 5 (first + i)) (λ a. not (sameReaction a b))
-
-none-twin : (s : List ℕ) (c : Record) (j : ℕ) (b : Record) (i : ℕ) → i ≤ j → j ≤ i → allBelow i (noTwinAt s (c .f4) b) ≡ true → true ≡ noTwin s c j b
-unfolding noTwin
-none-twin s c j b i a d h = let same : j ≡ i = omega arith in sym (ap (λ n. allBelow n (noTwinAt s (c .f4) b)) same ∙ h)
 
 abbrev Inv-loop : tie.InvT-loop
 Inv-loop sheet directory j b first i₀ i = (i ≤ j) × (allBelow i (noTwinAt sheet first b) ≡ true)
@@ -49,14 +45,14 @@ enum-told c = search needs
 
 returns : tie.Need-returns Inv-loop μ-loop
 unfolding noTwin
-returns c = sym (all-fails _ (noTwinAt _ _ _) (c .before .before .before .before .loop .i) (c .before .before .before .loop-test .taken) (holds-absent _ _ (sym (c .before .before .read .ensures) ∙ c .enum-told .given .1)))
+returns c = loop-fails _ _ _ _ refl (c .before .before .before .loop-test .taken) (holds-absent _ _ (sym (c .before .before .read .ensures) ∙ c .enum-told .given .1))
 
 same-reaction-requires : tie.Need-same-reaction-requires Inv-loop μ-loop
 same-reaction-requires c κs = search needs
 
 returns-2 : tie.Need-returns-2 Inv-loop μ-loop
 unfolding noTwin
-returns-2 c = sym (all-fails _ (noTwinAt _ _ _) (c .before .before .before .before .before .before .before .loop .i) (c .before .before .before .before .before .before .loop-test .taken) (holds-present _ _ _ (sym (c .before .before .before .before .before .read .ensures) ∙ c .before .before .before .a .given .1) ∙ ap not (sym (c .before .same-reaction .ensures) ∙ c .if1 .taken)))
+returns-2 c = loop-fails _ _ _ _ refl (c .before .before .before .before .before .before .loop-test .taken) (holds-present _ _ _ (sym (c .before .before .before .before .before .read .ensures) ∙ c .before .before .before .a .given .1) ∙ ap not (sym (c .before .same-reaction .ensures) ∙ c .if1 .taken))
 
 add-i : tie.Need-add-i Inv-loop μ-loop
 add-i c = search needs
@@ -68,7 +64,8 @@ loop-again : tie.Need-loop-again Inv-loop μ-loop
 loop-again c = (omega arith, all-more (c .before .before .before .before .before .before .before .loop .i) _ (c .before .before .before .before .before .before .before .loop .inv .1) (holds-present _ _ _ (sym (c .before .before .before .before .before .read .ensures) ∙ c .before .before .before .a .given .1) ∙ ap not (sym (c .before .same-reaction .ensures) ∙ c .if1 .left)))
 
 returns-3 : tie.Need-returns-3 Inv-loop μ-loop
-returns-3 c = none-twin _ _ _ _ _ (c .before .loop .inv .0) (c .loop-test .left) (c .before .loop .inv .1)
+unfolding noTwin
+returns-3 c = loop-ends _ _ _ _ refl (c .before .loop .inv .0) (c .loop-test .left) (c .before .loop .inv .1)
 
 pub no-twin-spec : {M : Type 1} → statement M
 no-twin-spec =

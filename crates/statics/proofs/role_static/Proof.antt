@@ -2,21 +2,18 @@ use native.Mathlib.Omega.{arith}
 use mathlib.Core.Path.{_≡_, refl, sym, ap, _∙_}
 use mathlib.Core.Bool.{Bool, true, false, not}
 use mathlib.Core.List.{List}
-use Prim.Native.Nat.{ℕ, suc, _+_, _-_, _*_, _≤_, _<_}
+use Prim.Native.Nat.{ℕ, _+_, _-_, _*_, _≤_, _<_}
 use borrow.Author.Tests.{lt-ltb, le-ltb, le-leb, lt-leb, eq-eqb, ne-eqb, not-true, not-false}
 use lib.Dec.{leb, eqb}
 use native.Mathlib.Decide.{decLt}
 use borrow.Author.Needs.{needs}
 use Rattle.sheet.specs.All.{_and_, allBelow}
-use Rattle.sheet.proofs.All.{and-true, and-false, false-and}
+use Rattle.sheet.proofs.All.{and-true, and-false, false-and, below-is}
 use Rattle.sheet.specs.declared.Record.{Record}
 use Rattle.laris.specs.Shape.{isReaction}
 use Rattle.laris.specs.Static.{reactionStatic, roleStatic}
 use Rattle.statics.proofs.role_static.Statement.{statement}
 use Rattle.statics.proofs.role_static.Tie as tie
-
-below-is : (n k : ℕ) → n < suc k → n ≤ k
-below-is n k h = omega arith
 
 module _ (s : List ℕ) (b : Record) where
   first-two : b .f0 < 2 → roleStatic s b ≡ eqb (b .f4) 0

@@ -1,5 +1,5 @@
 use native.Mathlib.Omega.{arith}
-use mathlib.Core.Path.{_≡_, refl, sym, ap, _∙_}
+use mathlib.Core.Path.{_≡_, refl, sym, _∙_}
 use mathlib.Core.Bool.{Bool, true, false, not}
 use mathlib.Core.List.{List}
 use Prim.Native.Nat.{ℕ, _+_, _-_, _*_, _≤_, _<_}
@@ -7,8 +7,7 @@ use borrow.Author.Tests.{lt-ltb, le-ltb, le-leb, lt-leb, eq-eqb, ne-eqb, not-tru
 use lib.Dec.{eqb}
 use borrow.Author.Needs.{needs}
 use Rattle.sheet.specs.All.{_and_, allBelow}
-use Rattle.sheet.proofs.All.{first-fails, rest-fails, first-holds, all-more, all-fails}
-use Rattle.sheet.specs.declared.Range.{Range}
+use Rattle.sheet.proofs.All.{first-fails, rest-fails, first-holds, all-more, loop-fails, loop-ends}
 use Rattle.laris.specs.Fields.{holds, typeAt}
 use Rattle.laris.specs.Static.{sameTypes}
 use Rattle.statics.proofs.same_types.Statement.{statement}
@@ -16,10 +15,6 @@ use Rattle.statics.proofs.same_types.Tie as tie
 
 abbrev sameType : List ℕ → ℕ → ℕ → ℕ → Bool
 sameType s a b j = eqb (typeAt s (a + j)) (typeAt s (b + j))
-
-all-same : (s : List ℕ) (g h : Range) (j : ℕ) → g .count ≡ h .count → j ≤ g .count → g .count ≤ j → allBelow j (sameType s (g .first) (h .first)) ≡ true → true ≡ sameTypes s g h
-unfolding sameTypes
-all-same s g h j e a b p = let same : g .count ≡ j = omega arith in first-holds _ _ _ (eq-eqb _ _ e) (sym (ap (λ n. allBelow n (sameType s (g .first) (h .first))) same ∙ p))
 
 abbrev Inv-loop : tie.InvT-loop
 Inv-loop sheet directory count from with j₀ j = (j ≤ count) × (allBelow j (sameType sheet from with) ≡ true)
@@ -49,7 +44,7 @@ type-at-requires-2 c κs = search needs
 
 returns-2 : tie.Need-returns-2 Inv-loop μ-loop
 unfolding sameTypes
-returns-2 c = rest-fails _ _ (sym (all-fails _ (sameType _ _ _) (c .before .before .before .before .loop .j) (c .before .before .before .loop-test .taken) (ne-eqb _ _ (λ e. c .if2 .taken (c .before .before .type-at .ensures ∙ e ∙ sym (c .before .type-at2 .ensures))))))
+returns-2 c = rest-fails _ _ (loop-fails _ _ _ _ refl (c .before .before .before .loop-test .taken) (ne-eqb _ _ (λ e. c .if2 .taken (c .before .before .type-at .ensures ∙ e ∙ sym (c .before .type-at2 .ensures)))))
 
 add-j : tie.Need-add-j Inv-loop μ-loop
 add-j c = search needs
@@ -61,7 +56,8 @@ loop-again : tie.Need-loop-again Inv-loop μ-loop
 loop-again c = (omega arith, all-more (c .before .before .before .before .loop .j) _ (c .before .before .before .before .loop .inv .1) (eq-eqb _ _ (sym (c .before .before .type-at .ensures) ∙ c .if2 .left ∙ c .before .type-at2 .ensures)))
 
 returns-3 : tie.Need-returns-3 Inv-loop μ-loop
-returns-3 c = all-same _ _ _ _ (c .before .before .if1 .left) (c .before .loop .inv .0) (c .loop-test .left) (c .before .loop .inv .1)
+unfolding sameTypes
+returns-3 c = first-holds _ _ _ (eq-eqb _ _ (c .before .before .if1 .left)) (loop-ends _ _ _ _ refl (c .before .loop .inv .0) (c .loop-test .left) (c .before .loop .inv .1))
 
 pub same-types-spec : {M : Type 1} → statement M
 same-types-spec =

@@ -1,14 +1,14 @@
 use native.Mathlib.Omega.{arith}
 use mathlib.Core.Path.{_≡_, refl, sym, ap, _∙_}
-use mathlib.Core.Bool.{Bool, true, false, not}
+use mathlib.Core.Bool.{Bool, true, not}
 use mathlib.Core.List.{List}
-use Prim.Native.Nat.{ℕ, _+_, _-_, _*_, _≤_, _<_}
+use Prim.Native.Nat.{ℕ, _+_, _-_, _*_, _≤_}
 use borrow.Author.Tests.{lt-ltb, le-ltb, le-leb, lt-leb, eq-eqb, ne-eqb, not-true, not-false}
 use borrow.Author.Needs.{needs}
 use Rattle.sheet.specs.All.{_and_, allBelow}
-use Rattle.sheet.proofs.All.{all-more, all-fails}
+use Rattle.sheet.proofs.All.{all-more, loop-fails, loop-ends}
 use Rattle.laris.proofs.Fields.{holds-present, holds-absent}
-use Rattle.sheet.specs.Sheet.{recordOf, countOf}
+use Rattle.sheet.specs.Sheet.{recordOf}
 use Rattle.laris.specs.Fields.{holds}
 use Rattle.laris.specs.Static.{recordStatic, sectionStatic}
 use Rattle.statics.proofs.section_static.Statement.{statement}
@@ -16,15 +16,6 @@ use Rattle.statics.proofs.section_static.Tie as tie
 
 abbrev fits : List ℕ → ℕ → ℕ → Bool
 fits s k i = holds (recordOf s k i) (recordStatic s k)
-
-module _ (s : List ℕ) (k n i : ℕ) (e : n ≡ countOf s k) where
-  one-fails : i < n → fits s k i ≡ false → false ≡ sectionStatic s k
-  unfolding sectionStatic
-  one-fails l f = sym (all-fails (countOf s k) (fits s k) i (omega arith) f)
-
-  all-fit : i ≤ n → n ≤ i → allBelow i (fits s k) ≡ true → true ≡ sectionStatic s k
-  unfolding sectionStatic
-  all-fit a b h = let same : countOf s k ≡ i = omega arith in sym (rw same h)
 
 abbrev Inv-loop : tie.InvT-loop
 Inv-loop sheet directory k count i₀ i = (i ≤ count) × (allBelow i (fits sheet k) ≡ true)
@@ -49,13 +40,15 @@ enum-told : tie.Need-enum-told Inv-loop μ-loop
 enum-told c = search needs
 
 returns : tie.Need-returns Inv-loop μ-loop
-returns c = one-fails _ _ _ _ (c .before .before .before .before .before .count-in .ensures _ (c .before .before .before .before .before .before .before .pre)) (c .before .before .before .loop-test .taken) (holds-absent _ _ (sym (c .before .before .read .ensures) ∙ c .enum-told .given .1))
+unfolding sectionStatic
+returns c = loop-fails _ _ _ _ (c .before .before .before .before .before .count-in .ensures _ (c .before .before .before .before .before .before .before .pre)) (c .before .before .before .loop-test .taken) (holds-absent _ _ (sym (c .before .before .read .ensures) ∙ c .enum-told .given .1))
 
 record-static-requires : tie.Need-record-static-requires Inv-loop μ-loop
 record-static-requires c κs = search needs
 
 returns-2 : tie.Need-returns-2 Inv-loop μ-loop
-returns-2 c = one-fails _ _ _ _ (c .before .before .before .before .before .before .before .before .count-in .ensures _ (c .before .before .before .before .before .before .before .before .before .before .pre)) (c .before .before .before .before .before .before .loop-test .taken) (holds-present _ _ _ (sym (c .before .before .before .before .before .read .ensures) ∙ c .before .before .before .r .given .1) ∙ sym (c .before .record-static .ensures) ∙ not-true _ (c .if1 .taken))
+unfolding sectionStatic
+returns-2 c = loop-fails _ _ _ _ (c .before .before .before .before .before .before .before .before .count-in .ensures _ (c .before .before .before .before .before .before .before .before .before .before .pre)) (c .before .before .before .before .before .before .loop-test .taken) (holds-present _ _ _ (sym (c .before .before .before .before .before .read .ensures) ∙ c .before .before .before .r .given .1) ∙ sym (c .before .record-static .ensures) ∙ not-true _ (c .if1 .taken))
 
 add-i : tie.Need-add-i Inv-loop μ-loop
 add-i c = search needs
@@ -67,7 +60,8 @@ loop-again : tie.Need-loop-again Inv-loop μ-loop
 loop-again c = (omega arith, all-more (c .before .before .before .before .before .before .before .loop .i) _ (c .before .before .before .before .before .before .before .loop .inv .1) (holds-present _ _ _ (sym (c .before .before .before .before .before .read .ensures) ∙ c .before .before .before .r .given .1) ∙ sym (c .before .record-static .ensures) ∙ not-false _ (c .if1 .left)))
 
 returns-3 : tie.Need-returns-3 Inv-loop μ-loop
-returns-3 c = all-fit _ _ _ _ (c .before .before .count-in .ensures _ (c .before .before .before .before .pre)) (c .before .loop .inv .0) (c .loop-test .left) (c .before .loop .inv .1)
+unfolding sectionStatic
+returns-3 c = loop-ends _ _ _ _ (c .before .before .count-in .ensures _ (c .before .before .before .before .pre)) (c .before .loop .inv .0) (c .loop-test .left) (c .before .loop .inv .1)
 
 pub section-static-spec : {M : Type 1} → statement M
 section-static-spec =

@@ -13,7 +13,7 @@ use Prim.Native.Nat.{ℕ, _<_}
 use borrow.Fn.Kinds.{In}
 use borrow.Fn.PlainCycle.{Measures, is, falls, and as joined}
 use Rattle.sheet.specs.All.{_and_, allBelow}
-use Rattle.sheet.proofs.All.{first-fails, rest-fails, first-holds, false-and, true-and, all-more, all-fails}
+use Rattle.sheet.proofs.All.{first-fails, rest-fails, first-holds, false-and, true-and, all-more, loop-fails, loop-ends}
 use Rattle.sheet.specs.declared.Record.{Record}
 use Rattle.sheet.specs.declared.Found.{Found}
 use Rattle.sheet.specs.declared.Found.the-variants.{Present, Absent}
@@ -65,10 +65,10 @@ module _ (s : List ℕ) (c b : Record) (levels n : ℕ) (some : levels ≡ 0 →
 
     module _ (o : Operands) (e : o ≡ operandsOf s c r) (j : ℕ) where
       one-fails : j < o .count + o .tail → operandFits s c b (levels - 1) n r j ≡ false → false ≡ treeShape s c b levels n
-      one-fails l f = rest-fails _ _ (sym (all-fails _ _ j (rw e at l) f)) ∙ sym tree-at
+      one-fails l f = rest-fails _ _ (loop-fails _ _ _ _ (ap operandCount e) l f) ∙ sym tree-at
 
       all-fit : fieldsShape s c b r (formOf (r .f0)) ≡ true → j ≤ o .count + o .tail → o .count + o .tail ≤ j → allBelow j (operandFits s c b (levels - 1) n r) ≡ true → true ≡ treeShape s c b levels n
-      all-fit p a d h = first-holds _ _ _ p (sym (rw (← e) (let same : o .count + o .tail ≡ j = omega arith in rw same h))) ∙ sym tree-at
+      all-fit p a d h = first-holds _ _ _ p (loop-ends _ _ _ _ (ap operandCount e) a d h) ∙ sym tree-at
 
 operand-high : (s : List ℕ) (c b : Record) (k n : ℕ) (r : Record) (o : Operands) (j : ℕ) {m : ℕ} → o ≡ operandsOf s c r → m ≡ operandAt r o j → n ≤ m → operandFits s c b k n r j ≡ false
 unfolding operandFits
@@ -88,281 +88,8 @@ abbrev tree-fits-below : ℕ → In 2 tree-fits-kinds.ps
 tree-fits-below t =
     joined 2 tree-fits-kinds.ps (falls 2 tree-fits-kinds.ps _<_ μ-tree-fits t) tree-fits.Pre
 
-abbrev tree-fits-Inv-loop : tree-fits-lts.InvT-loop
-tree-fits-Inv-loop sheet directory c b levels n r o count j₀ j = (j ≤ count) × (allBelow j (operandFits sheet c b (levels - 1) n r) ≡ true)
-
-abbrev tree-fits-μ-loop : tree-fits-lts.MeasureT-loop
-tree-fits-μ-loop sheet directory c b levels n r o count j₀ j = count - j
-
-tree-fits-returns : (t : ℕ) → tree-fits-lts.Need-returns (
-  read-reads.Asked,
-  read-reads.Learnt,
-  fields-fit-reads.Asked,
-  fields-fit-reads.Learnt,
-  operands-reads.Asked,
-  operands-reads.Learnt,
-  operand-reads.Asked,
-  operand-reads.Learnt,
-  tree-fits-below t,
-  tree-fits.Post,
-) (tree-fits-at t) tree-fits.Post tree-fits-Inv-loop tree-fits-μ-loop
-tree-fits-returns t c = tree-none _ _ _ _ _ (c .if1 .taken)
-
-tree-fits-read-requires : (t : ℕ) → tree-fits-lts.Need-read-requires (
-  read-reads.Asked,
-  read-reads.Learnt,
-  fields-fit-reads.Asked,
-  fields-fit-reads.Learnt,
-  operands-reads.Asked,
-  operands-reads.Learnt,
-  operand-reads.Asked,
-  operand-reads.Learnt,
-  tree-fits-below t,
-  tree-fits.Post,
-) (tree-fits-at t) tree-fits.Post tree-fits-Inv-loop tree-fits-μ-loop
-tree-fits-read-requires t c κs = search needs
-
-tree-fits-enum-known-r : (t : ℕ) → tree-fits-lts.Need-enum-known-r (
-  read-reads.Asked,
-  read-reads.Learnt,
-  fields-fit-reads.Asked,
-  fields-fit-reads.Learnt,
-  operands-reads.Asked,
-  operands-reads.Learnt,
-  operand-reads.Asked,
-  operand-reads.Learnt,
-  tree-fits-below t,
-  tree-fits.Post,
-) (tree-fits-at t) tree-fits.Post tree-fits-Inv-loop tree-fits-μ-loop
-tree-fits-enum-known-r t c = search needs
-
-tree-fits-enum-told : (t : ℕ) → tree-fits-lts.Need-enum-told (
-  read-reads.Asked,
-  read-reads.Learnt,
-  fields-fit-reads.Asked,
-  fields-fit-reads.Learnt,
-  operands-reads.Asked,
-  operands-reads.Learnt,
-  operand-reads.Asked,
-  operand-reads.Learnt,
-  tree-fits-below t,
-  tree-fits.Post,
-) (tree-fits-at t) tree-fits.Post tree-fits-Inv-loop tree-fits-μ-loop
-tree-fits-enum-told t c = search needs
-
-tree-fits-returns-2 : (t : ℕ) → tree-fits-lts.Need-returns-2 (
-  read-reads.Asked,
-  read-reads.Learnt,
-  fields-fit-reads.Asked,
-  fields-fit-reads.Learnt,
-  operands-reads.Asked,
-  operands-reads.Learnt,
-  operand-reads.Asked,
-  operand-reads.Learnt,
-  tree-fits-below t,
-  tree-fits.Post,
-) (tree-fits-at t) tree-fits.Post tree-fits-Inv-loop tree-fits-μ-loop
-tree-fits-returns-2 t c = tree-absent _ _ _ _ _ (c .before .before .before .if1 .left) (sym (c .before .before .read .ensures) ∙ c .enum-told .given .1)
-
-tree-fits-fields-fit-requires : (t : ℕ) → tree-fits-lts.Need-fields-fit-requires (
-  read-reads.Asked,
-  read-reads.Learnt,
-  fields-fit-reads.Asked,
-  fields-fit-reads.Learnt,
-  operands-reads.Asked,
-  operands-reads.Learnt,
-  operand-reads.Asked,
-  operand-reads.Learnt,
-  tree-fits-below t,
-  tree-fits.Post,
-) (tree-fits-at t) tree-fits.Post tree-fits-Inv-loop tree-fits-μ-loop
-tree-fits-fields-fit-requires t c κs = search needs
-
-tree-fits-returns-3 : (t : ℕ) → tree-fits-lts.Need-returns-3 (
-  read-reads.Asked,
-  read-reads.Learnt,
-  fields-fit-reads.Asked,
-  fields-fit-reads.Learnt,
-  operands-reads.Asked,
-  operands-reads.Learnt,
-  operand-reads.Asked,
-  operand-reads.Learnt,
-  tree-fits-below t,
-  tree-fits.Post,
-) (tree-fits-at t) tree-fits.Post tree-fits-Inv-loop tree-fits-μ-loop
-tree-fits-returns-3 t c = first-fails _ _ (sym (c .before .fields-fit .ensures) ∙ not-true _ (c .if2 .taken)) ∙ sym (tree-at _ _ _ _ _ (c .before .before .before .before .before .before .if1 .left) _ (sym (c .before .before .before .before .before .read .ensures) ∙ c .before .before .before .r .given .1))
-
-tree-fits-operands-requires : (t : ℕ) → tree-fits-lts.Need-operands-requires (
-  read-reads.Asked,
-  read-reads.Learnt,
-  fields-fit-reads.Asked,
-  fields-fit-reads.Learnt,
-  operands-reads.Asked,
-  operands-reads.Learnt,
-  operand-reads.Asked,
-  operand-reads.Learnt,
-  tree-fits-below t,
-  tree-fits.Post,
-) (tree-fits-at t) tree-fits.Post tree-fits-Inv-loop tree-fits-μ-loop
-tree-fits-operands-requires t c κs = search needs
-
-tree-fits-add-count : (t : ℕ) → tree-fits-lts.Need-add-count (
-  read-reads.Asked,
-  read-reads.Learnt,
-  fields-fit-reads.Asked,
-  fields-fit-reads.Learnt,
-  operands-reads.Asked,
-  operands-reads.Learnt,
-  operand-reads.Asked,
-  operand-reads.Learnt,
-  tree-fits-below t,
-  tree-fits.Post,
-) (tree-fits-at t) tree-fits.Post tree-fits-Inv-loop tree-fits-μ-loop
-tree-fits-add-count t c = small-sum (c .before .operands .result) (c .before .operands .ensures .1)
-
-tree-fits-loop-holds : (t : ℕ) → tree-fits-lts.Need-loop-holds (
-  read-reads.Asked,
-  read-reads.Learnt,
-  fields-fit-reads.Asked,
-  fields-fit-reads.Learnt,
-  operands-reads.Asked,
-  operands-reads.Learnt,
-  operand-reads.Asked,
-  operand-reads.Learnt,
-  tree-fits-below t,
-  tree-fits.Post,
-) (tree-fits-at t) tree-fits.Post tree-fits-Inv-loop tree-fits-μ-loop
-unfolding allBelow
-tree-fits-loop-holds t c = (omega arith, refl)
-
-tree-fits-operand-requires : (t : ℕ) → tree-fits-lts.Need-operand-requires (
-  read-reads.Asked,
-  read-reads.Learnt,
-  fields-fit-reads.Asked,
-  fields-fit-reads.Learnt,
-  operands-reads.Asked,
-  operands-reads.Learnt,
-  operand-reads.Asked,
-  operand-reads.Learnt,
-  tree-fits-below t,
-  tree-fits.Post,
-) (tree-fits-at t) tree-fits.Post tree-fits-Inv-loop tree-fits-μ-loop
-tree-fits-operand-requires t c κs = (c .before .before .before .operands .ensures .1, small-index _ _ (c .before .before .before .operands .ensures .1) (c .loop-test .taken))
-
-tree-fits-returns-4 : (t : ℕ) → tree-fits-lts.Need-returns-4 (
-  read-reads.Asked,
-  read-reads.Learnt,
-  fields-fit-reads.Asked,
-  fields-fit-reads.Learnt,
-  operands-reads.Asked,
-  operands-reads.Learnt,
-  operand-reads.Asked,
-  operand-reads.Learnt,
-  tree-fits-below t,
-  tree-fits.Post,
-) (tree-fits-at t) tree-fits.Post tree-fits-Inv-loop tree-fits-μ-loop
-tree-fits-returns-4 t c = one-fails _ _ _ _ _ (c .before .before .before .before .before .before .before .before .before .before .before .before .if1 .left) _ (sym (c .before .before .before .before .before .before .before .before .before .before .before .read .ensures) ∙ c .before .before .before .before .before .before .before .before .before .r .given .1) _ (c .before .before .before .before .before .operands .ensures .0) _ (c .before .before .loop-test .taken) (operand-high _ _ _ _ _ _ _ _ (c .before .before .before .before .before .operands .ensures .0) (c .before .operand .ensures .0) (c .if3 .taken))
-
-tree-fits-sub-tree-fits : (t : ℕ) → tree-fits-lts.Need-sub-tree-fits (
-  read-reads.Asked,
-  read-reads.Learnt,
-  fields-fit-reads.Asked,
-  fields-fit-reads.Learnt,
-  operands-reads.Asked,
-  operands-reads.Learnt,
-  operand-reads.Asked,
-  operand-reads.Learnt,
-  tree-fits-below t,
-  tree-fits.Post,
-) (tree-fits-at t) tree-fits.Post tree-fits-Inv-loop tree-fits-μ-loop
-tree-fits-sub-tree-fits t c = search needs
-
-tree-fits-tree-fits-requires : (t : ℕ) → tree-fits-lts.Need-tree-fits-requires (
-  read-reads.Asked,
-  read-reads.Learnt,
-  fields-fit-reads.Asked,
-  fields-fit-reads.Learnt,
-  operands-reads.Asked,
-  operands-reads.Learnt,
-  operand-reads.Asked,
-  operand-reads.Learnt,
-  tree-fits-below t,
-  tree-fits.Post,
-) (tree-fits-at t) tree-fits.Post tree-fits-Inv-loop tree-fits-μ-loop
-tree-fits-tree-fits-requires t c κs = (omega arith, c .before .before .before .before .before .before .before .before .before .before .before .before .before .before .pre .1)
-
-tree-fits-returns-5 : (t : ℕ) → tree-fits-lts.Need-returns-5 (
-  read-reads.Asked,
-  read-reads.Learnt,
-  fields-fit-reads.Asked,
-  fields-fit-reads.Learnt,
-  operands-reads.Asked,
-  operands-reads.Learnt,
-  operand-reads.Asked,
-  operand-reads.Learnt,
-  tree-fits-below t,
-  tree-fits.Post,
-) (tree-fits-at t) tree-fits.Post tree-fits-Inv-loop tree-fits-μ-loop
-tree-fits-returns-5 t c = one-fails _ _ _ _ _ (c .before .before .before .before .before .before .before .before .before .before .before .before .before .before .if1 .left) _ (sym (c .before .before .before .before .before .before .before .before .before .before .before .before .before .read .ensures) ∙ c .before .before .before .before .before .before .before .before .before .before .before .r .given .1) _ (c .before .before .before .before .before .before .before .operands .ensures .0) _ (c .before .before .before .before .loop-test .taken) (operand-tree _ _ _ _ _ _ _ _ _ (c .before .before .before .before .before .before .before .operands .ensures .0) (c .before .before .before .operand .ensures .0) (c .before .before .if3 .left) (c .before .tree-fits .ensures) ∙ not-true _ (c .if4 .taken))
-
-tree-fits-add-j : (t : ℕ) → tree-fits-lts.Need-add-j (
-  read-reads.Asked,
-  read-reads.Learnt,
-  fields-fit-reads.Asked,
-  fields-fit-reads.Learnt,
-  operands-reads.Asked,
-  operands-reads.Learnt,
-  operand-reads.Asked,
-  operand-reads.Learnt,
-  tree-fits-below t,
-  tree-fits.Post,
-) (tree-fits-at t) tree-fits.Post tree-fits-Inv-loop tree-fits-μ-loop
-tree-fits-add-j t c = search needs
-
-tree-fits-loop-less : (t : ℕ) → tree-fits-lts.Need-loop-less (
-  read-reads.Asked,
-  read-reads.Learnt,
-  fields-fit-reads.Asked,
-  fields-fit-reads.Learnt,
-  operands-reads.Asked,
-  operands-reads.Learnt,
-  operand-reads.Asked,
-  operand-reads.Learnt,
-  tree-fits-below t,
-  tree-fits.Post,
-) (tree-fits-at t) tree-fits.Post tree-fits-Inv-loop tree-fits-μ-loop
-tree-fits-loop-less t c = search needs
-
-tree-fits-loop-again : (t : ℕ) → tree-fits-lts.Need-loop-again (
-  read-reads.Asked,
-  read-reads.Learnt,
-  fields-fit-reads.Asked,
-  fields-fit-reads.Learnt,
-  operands-reads.Asked,
-  operands-reads.Learnt,
-  operand-reads.Asked,
-  operand-reads.Learnt,
-  tree-fits-below t,
-  tree-fits.Post,
-) (tree-fits-at t) tree-fits.Post tree-fits-Inv-loop tree-fits-μ-loop
-tree-fits-loop-again t c = (omega arith, all-more (c .before .before .before .before .before .loop .j) _ (c .before .before .before .before .before .loop .inv .1) (operand-tree _ _ _ _ _ _ _ _ _ (c .before .before .before .before .before .before .before .operands .ensures .0) (c .before .before .before .operand .ensures .0) (c .before .before .if3 .left) (c .before .tree-fits .ensures) ∙ not-false _ (c .if4 .left)))
-
-tree-fits-returns-6 : (t : ℕ) → tree-fits-lts.Need-returns-6 (
-  read-reads.Asked,
-  read-reads.Learnt,
-  fields-fit-reads.Asked,
-  fields-fit-reads.Learnt,
-  operands-reads.Asked,
-  operands-reads.Learnt,
-  operand-reads.Asked,
-  operand-reads.Learnt,
-  tree-fits-below t,
-  tree-fits.Post,
-) (tree-fits-at t) tree-fits.Post tree-fits-Inv-loop tree-fits-μ-loop
-tree-fits-returns-6 t c = all-fit _ _ _ _ _ (c .before .before .before .before .before .before .before .before .before .before .if1 .left) _ (sym (c .before .before .before .before .before .before .before .before .before .read .ensures) ∙ c .before .before .before .before .before .before .before .r .given .1) _ (c .before .before .before .operands .ensures .0) _ (sym (c .before .before .before .before .before .fields-fit .ensures) ∙ not-false _ (c .before .before .before .before .if2 .left)) (c .before .loop .inv .0) (c .loop-test .left) (c .before .loop .inv .1)
-
-pub +tree-fits-spec : {M : Type 1} → statement M
-+tree-fits-spec = close μ-tree-fits λ t. tree-fits-lts.spec (
+abbrev tree-fits-callees : ℕ → tree-fits-lts.Claims
+tree-fits-callees t = (
   read-reads.Asked,
   read-reads.Learnt,
   fields-fit-reads.Asked,
@@ -374,6 +101,73 @@ pub +tree-fits-spec : {M : Type 1} → statement M
   tree-fits-below t,
   tree-fits.Post,
 )
+
+abbrev tree-fits-Inv-loop : tree-fits-lts.InvT-loop
+tree-fits-Inv-loop sheet directory c b levels n r o count j₀ j = (j ≤ count) × (allBelow j (operandFits sheet c b (levels - 1) n r) ≡ true)
+
+abbrev tree-fits-μ-loop : tree-fits-lts.MeasureT-loop
+tree-fits-μ-loop sheet directory c b levels n r o count j₀ j = count - j
+
+tree-fits-returns : (t : ℕ) → tree-fits-lts.Need-returns (tree-fits-callees t) (tree-fits-at t) tree-fits.Post tree-fits-Inv-loop tree-fits-μ-loop
+tree-fits-returns t c = tree-none _ _ _ _ _ (c .if1 .taken)
+
+tree-fits-read-requires : (t : ℕ) → tree-fits-lts.Need-read-requires (tree-fits-callees t) (tree-fits-at t) tree-fits.Post tree-fits-Inv-loop tree-fits-μ-loop
+tree-fits-read-requires t c κs = search needs
+
+tree-fits-enum-known-r : (t : ℕ) → tree-fits-lts.Need-enum-known-r (tree-fits-callees t) (tree-fits-at t) tree-fits.Post tree-fits-Inv-loop tree-fits-μ-loop
+tree-fits-enum-known-r t c = search needs
+
+tree-fits-enum-told : (t : ℕ) → tree-fits-lts.Need-enum-told (tree-fits-callees t) (tree-fits-at t) tree-fits.Post tree-fits-Inv-loop tree-fits-μ-loop
+tree-fits-enum-told t c = search needs
+
+tree-fits-returns-2 : (t : ℕ) → tree-fits-lts.Need-returns-2 (tree-fits-callees t) (tree-fits-at t) tree-fits.Post tree-fits-Inv-loop tree-fits-μ-loop
+tree-fits-returns-2 t c = tree-absent _ _ _ _ _ (c .before .before .before .if1 .left) (sym (c .before .before .read .ensures) ∙ c .enum-told .given .1)
+
+tree-fits-fields-fit-requires : (t : ℕ) → tree-fits-lts.Need-fields-fit-requires (tree-fits-callees t) (tree-fits-at t) tree-fits.Post tree-fits-Inv-loop tree-fits-μ-loop
+tree-fits-fields-fit-requires t c κs = search needs
+
+tree-fits-returns-3 : (t : ℕ) → tree-fits-lts.Need-returns-3 (tree-fits-callees t) (tree-fits-at t) tree-fits.Post tree-fits-Inv-loop tree-fits-μ-loop
+tree-fits-returns-3 t c = first-fails _ _ (sym (c .before .fields-fit .ensures) ∙ not-true _ (c .if2 .taken)) ∙ sym (tree-at _ _ _ _ _ (c .before .before .before .before .before .before .if1 .left) _ (sym (c .before .before .before .before .before .read .ensures) ∙ c .before .before .before .r .given .1))
+
+tree-fits-operands-requires : (t : ℕ) → tree-fits-lts.Need-operands-requires (tree-fits-callees t) (tree-fits-at t) tree-fits.Post tree-fits-Inv-loop tree-fits-μ-loop
+tree-fits-operands-requires t c κs = search needs
+
+tree-fits-add-count : (t : ℕ) → tree-fits-lts.Need-add-count (tree-fits-callees t) (tree-fits-at t) tree-fits.Post tree-fits-Inv-loop tree-fits-μ-loop
+tree-fits-add-count t c = small-sum (c .before .operands .result) (c .before .operands .ensures .1)
+
+tree-fits-loop-holds : (t : ℕ) → tree-fits-lts.Need-loop-holds (tree-fits-callees t) (tree-fits-at t) tree-fits.Post tree-fits-Inv-loop tree-fits-μ-loop
+unfolding allBelow
+tree-fits-loop-holds t c = (omega arith, refl)
+
+tree-fits-operand-requires : (t : ℕ) → tree-fits-lts.Need-operand-requires (tree-fits-callees t) (tree-fits-at t) tree-fits.Post tree-fits-Inv-loop tree-fits-μ-loop
+tree-fits-operand-requires t c κs = (c .before .before .before .operands .ensures .1, small-index _ _ (c .before .before .before .operands .ensures .1) (c .loop-test .taken))
+
+tree-fits-returns-4 : (t : ℕ) → tree-fits-lts.Need-returns-4 (tree-fits-callees t) (tree-fits-at t) tree-fits.Post tree-fits-Inv-loop tree-fits-μ-loop
+tree-fits-returns-4 t c = one-fails _ _ _ _ _ (c .before .before .before .before .before .before .before .before .before .before .before .before .if1 .left) _ (sym (c .before .before .before .before .before .before .before .before .before .before .before .read .ensures) ∙ c .before .before .before .before .before .before .before .before .before .r .given .1) _ (c .before .before .before .before .before .operands .ensures .0) _ (c .before .before .loop-test .taken) (operand-high _ _ _ _ _ _ _ _ (c .before .before .before .before .before .operands .ensures .0) (c .before .operand .ensures .0) (c .if3 .taken))
+
+tree-fits-sub-tree-fits : (t : ℕ) → tree-fits-lts.Need-sub-tree-fits (tree-fits-callees t) (tree-fits-at t) tree-fits.Post tree-fits-Inv-loop tree-fits-μ-loop
+tree-fits-sub-tree-fits t c = search needs
+
+tree-fits-tree-fits-requires : (t : ℕ) → tree-fits-lts.Need-tree-fits-requires (tree-fits-callees t) (tree-fits-at t) tree-fits.Post tree-fits-Inv-loop tree-fits-μ-loop
+tree-fits-tree-fits-requires t c κs = (omega arith, c .before .before .before .before .before .before .before .before .before .before .before .before .before .before .pre .1)
+
+tree-fits-returns-5 : (t : ℕ) → tree-fits-lts.Need-returns-5 (tree-fits-callees t) (tree-fits-at t) tree-fits.Post tree-fits-Inv-loop tree-fits-μ-loop
+tree-fits-returns-5 t c = one-fails _ _ _ _ _ (c .before .before .before .before .before .before .before .before .before .before .before .before .before .before .if1 .left) _ (sym (c .before .before .before .before .before .before .before .before .before .before .before .before .before .read .ensures) ∙ c .before .before .before .before .before .before .before .before .before .before .before .r .given .1) _ (c .before .before .before .before .before .before .before .operands .ensures .0) _ (c .before .before .before .before .loop-test .taken) (operand-tree _ _ _ _ _ _ _ _ _ (c .before .before .before .before .before .before .before .operands .ensures .0) (c .before .before .before .operand .ensures .0) (c .before .before .if3 .left) (c .before .tree-fits .ensures) ∙ not-true _ (c .if4 .taken))
+
+tree-fits-add-j : (t : ℕ) → tree-fits-lts.Need-add-j (tree-fits-callees t) (tree-fits-at t) tree-fits.Post tree-fits-Inv-loop tree-fits-μ-loop
+tree-fits-add-j t c = search needs
+
+tree-fits-loop-less : (t : ℕ) → tree-fits-lts.Need-loop-less (tree-fits-callees t) (tree-fits-at t) tree-fits.Post tree-fits-Inv-loop tree-fits-μ-loop
+tree-fits-loop-less t c = search needs
+
+tree-fits-loop-again : (t : ℕ) → tree-fits-lts.Need-loop-again (tree-fits-callees t) (tree-fits-at t) tree-fits.Post tree-fits-Inv-loop tree-fits-μ-loop
+tree-fits-loop-again t c = (omega arith, all-more (c .before .before .before .before .before .loop .j) _ (c .before .before .before .before .before .loop .inv .1) (operand-tree _ _ _ _ _ _ _ _ _ (c .before .before .before .before .before .before .before .operands .ensures .0) (c .before .before .before .operand .ensures .0) (c .before .before .if3 .left) (c .before .tree-fits .ensures) ∙ not-false _ (c .if4 .left)))
+
+tree-fits-returns-6 : (t : ℕ) → tree-fits-lts.Need-returns-6 (tree-fits-callees t) (tree-fits-at t) tree-fits.Post tree-fits-Inv-loop tree-fits-μ-loop
+tree-fits-returns-6 t c = all-fit _ _ _ _ _ (c .before .before .before .before .before .before .before .before .before .before .if1 .left) _ (sym (c .before .before .before .before .before .before .before .before .before .read .ensures) ∙ c .before .before .before .before .before .before .before .r .given .1) _ (c .before .before .before .operands .ensures .0) _ (sym (c .before .before .before .before .before .fields-fit .ensures) ∙ not-false _ (c .before .before .before .before .if2 .left)) (c .before .loop .inv .0) (c .loop-test .left) (c .before .loop .inv .1)
+
+pub +tree-fits-spec : {M : Type 1} → statement M
++tree-fits-spec = close μ-tree-fits λ t. tree-fits-lts.spec (tree-fits-callees t)
     (tree-fits-at t)
     tree-fits.Post
     tree-fits-Inv-loop

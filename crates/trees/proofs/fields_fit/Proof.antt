@@ -2,12 +2,12 @@ use native.Mathlib.Omega.{arith}
 use mathlib.Core.Path.{_≡_, refl, sym, ap, _∙_}
 use mathlib.Core.Bool.{Bool, true, false}
 use mathlib.Core.List.{List}
-use Prim.Native.Nat.{ℕ, suc, _+_, _-_, _*_, _≤_, _<_}
+use Prim.Native.Nat.{ℕ, _+_, _-_, _*_, _≤_, _<_}
 use borrow.Author.Tests.{lt-ltb, le-ltb, le-leb, lt-leb, eq-eqb, ne-eqb, not-true, not-false}
 use lib.Dec.{ltb}
 use native.Mathlib.Decide.{decLt}
 use borrow.Author.Needs.{needs}
-use Rattle.sheet.proofs.All.{first-fails, rest-fails, first-holds, from-next}
+use Rattle.sheet.proofs.All.{first-fails, rest-fails, first-holds, from-next, below-is}
 use Rattle.sheet.specs.declared.Record.{Record}
 use Rattle.laris.specs.Fields.{zeroFrom}
 use Rattle.laris.specs.Forms.{Form, literal, read, unary, binary, clock, skip, assign, externalSend, internalSend, arm, clockAct, call, choice, unknown, formIn, formOf}
@@ -15,9 +15,6 @@ use Rattle.laris.proofs.Forms.{form-literal, form-binary, form-clock, form-arm,
 use Rattle.laris.specs.Shape.{fieldsShape}
 use Rattle.trees.proofs.fields_fit.Statement.{statement}
 use Rattle.trees.proofs.fields_fit.Tie as tie
-
-below-is : (n k : ℕ) → n < suc k → n ≤ k
-below-is n k h = omega arith
 
 module _ (op : ℕ) where
   unknown-low : op < 1 → formOf op ≡ unknown

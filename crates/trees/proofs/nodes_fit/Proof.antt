@@ -1,14 +1,14 @@
 use native.Mathlib.Omega.{arith}
 use mathlib.Core.Path.{_≡_, refl, sym, ap, _∙_}
-use mathlib.Core.Bool.{Bool, true, false}
+use mathlib.Core.Bool.{Bool, true}
 use mathlib.Core.List.{List}
-use Prim.Native.Nat.{ℕ, suc, _+_, _-_, _*_, _≤_, _<_}
+use Prim.Native.Nat.{ℕ, suc, _+_, _-_, _*_, _≤_}
 use borrow.Author.Tests.{lt-ltb, le-ltb, le-leb, lt-leb, eq-eqb, ne-eqb, not-true, not-false}
 use borrow.Author.Needs.{needs}
 use Rattle.sheet.specs.All.{_and_, allBelow}
-use Rattle.sheet.proofs.All.{all-more, all-fails}
+use Rattle.sheet.proofs.All.{all-more, loop-fails, loop-ends}
 use Rattle.sheet.specs.declared.Record.{Record}
-use Rattle.sheet.specs.Sheet.{recordOf, countOf}
+use Rattle.sheet.specs.Sheet.{recordOf}
 use Rattle.laris.specs.Fields.{holds}
 use Rattle.laris.proofs.Fields.{holds-present, holds-absent}
 use Rattle.laris.specs.Check.{nodesShape}
@@ -18,15 +18,6 @@ use Rattle.trees.proofs.nodes_fit.Tie as tie
 
 abbrev chartFits : List ℕ → ℕ → Bool
 chartFits s k = holds (recordOf s 4 k) (treesShape s)
-
-module _ (s : List ℕ) (n i : ℕ) (e : n ≡ countOf s 4) where
-  one-fails : i < n → chartFits s i ≡ false → false ≡ nodesShape s
-  unfolding nodesShape
-  one-fails l f = sym (all-fails (countOf s 4) (chartFits s) i (omega arith) f)
-
-  all-fit : i ≤ n → n ≤ i → allBelow i (chartFits s) ≡ true → true ≡ nodesShape s
-  unfolding nodesShape
-  all-fit a b h = let same : countOf s 4 ≡ i = omega arith in sym (rw same h)
 
 abbrev Inv-loop : tie.InvT-loop
 Inv-loop sheet directory count k₀ k = (k ≤ count) × (allBelow k (chartFits sheet) ≡ true)
@@ -51,13 +42,15 @@ enum-told : tie.Need-enum-told Inv-loop μ-loop
 enum-told c = search needs
 
 returns : tie.Need-returns Inv-loop μ-loop
-returns c = one-fails _ _ _ (c .before .before .before .before .before .count-in .ensures _ (c .before .before .before .before .before .before .before .pre)) (c .before .before .before .loop-test .taken) (holds-absent _ _ (sym (c .before .before .read .ensures) ∙ c .enum-told .given .1))
+unfolding nodesShape
+returns c = loop-fails _ _ _ _ (c .before .before .before .before .before .count-in .ensures _ (c .before .before .before .before .before .before .before .pre)) (c .before .before .before .loop-test .taken) (holds-absent _ _ (sym (c .before .before .read .ensures) ∙ c .enum-told .given .1))
 
 trees-fit-requires : tie.Need-trees-fit-requires Inv-loop μ-loop
 trees-fit-requires c κs = search needs
 
 returns-2 : tie.Need-returns-2 Inv-loop μ-loop
-returns-2 c = one-fails _ _ _ (c .before .before .before .before .before .before .before .before .count-in .ensures _ (c .before .before .before .before .before .before .before .before .before .before .pre)) (c .before .before .before .before .before .before .loop-test .taken) (holds-present _ _ _ (sym (c .before .before .before .before .before .read .ensures) ∙ c .before .before .before .c .given .1) ∙ sym (c .before .trees-fit .ensures) ∙ not-true _ (c .if1 .taken))
+unfolding nodesShape
+returns-2 c = loop-fails _ _ _ _ (c .before .before .before .before .before .before .before .before .count-in .ensures _ (c .before .before .before .before .before .before .before .before .before .before .pre)) (c .before .before .before .before .before .before .loop-test .taken) (holds-present _ _ _ (sym (c .before .before .before .before .before .read .ensures) ∙ c .before .before .before .c .given .1) ∙ sym (c .before .trees-fit .ensures) ∙ not-true _ (c .if1 .taken))
 
 add-k : tie.Need-add-k Inv-loop μ-loop
 add-k c = search needs
@@ -69,7 +62,8 @@ loop-again : tie.Need-loop-again Inv-loop μ-loop
 loop-again c = (omega arith, all-more (c .before .before .before .before .before .before .before .loop .k) _ (c .before .before .before .before .before .before .before .loop .inv .1) (holds-present _ _ _ (sym (c .before .before .before .before .before .read .ensures) ∙ c .before .before .before .c .given .1) ∙ sym (c .before .trees-fit .ensures) ∙ not-false _ (c .if1 .left)))
 
 returns-3 : tie.Need-returns-3 Inv-loop μ-loop
-returns-3 c = all-fit _ _ _ (c .before .before .count-in .ensures _ (c .before .before .before .before .pre)) (c .before .loop .inv .0) (c .loop-test .left) (c .before .loop .inv .1)
+unfolding nodesShape
+returns-3 c = loop-ends _ _ _ _ (c .before .before .count-in .ensures _ (c .before .before .before .before .pre)) (c .before .loop .inv .0) (c .loop-test .left) (c .before .loop .inv .1)
 
 pub nodes-fit-spec : {M : Type 1} → statement M
 nodes-fit-spec =

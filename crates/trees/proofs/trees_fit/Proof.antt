@@ -1,12 +1,12 @@
 use native.Mathlib.Omega.{arith}
-use mathlib.Core.Path.{_≡_, refl, sym, ap, _∙_}
+use mathlib.Core.Path.{_≡_, refl, sym, _∙_}
 use mathlib.Core.Bool.{Bool, true, false}
 use mathlib.Core.List.{List}
 use Prim.Native.Nat.{ℕ, suc, _+_, _-_, _*_, _≤_, _<_}
 use borrow.Author.Tests.{lt-ltb, le-ltb, le-leb, lt-leb, eq-eqb, ne-eqb, not-true, not-false}
 use borrow.Author.Needs.{needs}
 use Rattle.sheet.specs.All.{_and_, allBelow}
-use Rattle.sheet.proofs.All.{all-more, all-fails}
+use Rattle.sheet.proofs.All.{all-more, loop-fails, loop-ends}
 use Rattle.sheet.specs.declared.Record.{Record}
 use Rattle.sheet.specs.Sheet.{recordOf}
 use Rattle.laris.specs.Fields.{holds}
@@ -17,10 +17,6 @@ use Rattle.trees.proofs.trees_fit.Tie as tie
 
 abbrev bodyFits : List ℕ → Record → ℕ → Bool
 bodyFits s c j = holds (recordOf s 5 (c .f4 + j)) (λ b. treeShape s c b 64 (b .f7))
-
-all-fit : (s : List ℕ) (c : Record) (j : ℕ) → j ≤ c .f5 → c .f5 ≤ j → allBelow j (bodyFits s c) ≡ true → true ≡ treesShape s c
-unfolding treesShape
-all-fit s c j a b h = let same : c .f5 ≡ j = omega arith in sym (ap (λ n. allBelow n (bodyFits s c)) same ∙ h)
 
 abbrev Inv-loop : tie.InvT-loop
 Inv-loop sheet directory c first count j₀ j = (j ≤ count) × (count < 65536) × (allBelow j (bodyFits sheet c) ≡ true)
@@ -52,7 +48,7 @@ enum-told c = search needs
 
 returns : tie.Need-returns Inv-loop μ-loop
 unfolding treesShape
-returns c = sym (all-fails (c .before .before .before .before .before .before .before .before .args .c .f5) (bodyFits (c .before .before .before .before .before .before .before .before .args .sheet .now) (c .before .before .before .before .before .before .before .before .args .c)) (c .before .before .before .before .loop .j) (c .before .before .before .loop-test .taken) (holds-absent _ _ (sym (c .before .before .read .ensures) ∙ c .enum-told .given .1)))
+returns c = loop-fails _ _ _ _ refl (c .before .before .before .loop-test .taken) (holds-absent _ _ (sym (c .before .before .read .ensures) ∙ c .enum-told .given .1))
 
 cast-tree-fits : tie.Need-cast-tree-fits Inv-loop μ-loop
 cast-tree-fits c = search needs
@@ -62,7 +58,7 @@ tree-fits-requires c κs = search needs
 
 returns-2 : tie.Need-returns-2 Inv-loop μ-loop
 unfolding treesShape
-returns-2 c = sym (all-fails (c .before .before .before .before .before .before .before .before .before .before .before .before .args .c .f5) (bodyFits (c .before .before .before .before .before .before .before .before .before .before .before .before .args .sheet .now) (c .before .before .before .before .before .before .before .before .before .before .before .before .args .c)) (c .before .before .before .before .before .before .before .before .loop .j) (c .before .before .before .before .before .before .before .loop-test .taken) (holds-present _ _ _ (sym (c .before .before .before .before .before .before .read .ensures) ∙ c .before .before .before .before .b .given .1) ∙ sym (c .before .tree-fits .ensures) ∙ not-true _ (c .if1 .taken)))
+returns-2 c = loop-fails _ _ _ _ refl (c .before .before .before .before .before .before .before .loop-test .taken) (holds-present _ _ _ (sym (c .before .before .before .before .before .before .read .ensures) ∙ c .before .before .before .before .b .given .1) ∙ sym (c .before .tree-fits .ensures) ∙ not-true _ (c .if1 .taken))
 
 add-j : tie.Need-add-j Inv-loop μ-loop
 add-j c = search needs
@@ -74,7 +70,8 @@ loop-again : tie.Need-loop-again Inv-loop μ-loop
 loop-again c = (omega arith, c .before .before .before .before .before .before .before .before .loop .inv .1, all-more (c .before .before .before .before .before .before .before .before .loop .j) _ (c .before .before .before .before .before .before .before .before .loop .inv .2) (holds-present _ _ _ (sym (c .before .before .before .before .before .before .read .ensures) ∙ c .before .before .before .before .b .given .1) ∙ sym (c .before .tree-fits .ensures) ∙ not-false _ (c .if1 .left)))
 
 returns-3 : tie.Need-returns-3 Inv-loop μ-loop
-returns-3 c = all-fit _ _ _ (c .before .loop .inv .0) (c .loop-test .left) (c .before .loop .inv .2)
+unfolding treesShape
+returns-3 c = loop-ends _ _ _ _ refl (c .before .loop .inv .0) (c .loop-test .left) (c .before .loop .inv .2)
 
 pub trees-fit-spec : {M : Type 1} → statement M
 trees-fit-spec =

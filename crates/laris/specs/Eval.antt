@@ -1,0 +1,197 @@
+-- What an expression gives. "Visiting a node adds one step, then its operands go in field order, then its own act."
+use Prim.Native.Nat.{ℕ, zero, suc, _+_, _*_, _-_}
+use mathlib.Core.List.{List}
+use mathlib.Core.Bool.{Bool, true, false, not}
+use lib.Dec.{ltb, leb, eqb}
+use lib.IntN.{ℤ, pos, negsuc, _+ℤ_, _-ℤ_, _*ℤ_}
+use lib.Signed.{quotZ, leZ, ltZ}
+use mir.Syntax.{w32}
+use mir.Val.{toZ}
+use Rattle.sheet.specs.declared.Record.{Record}
+use Rattle.sheet.specs.declared.Found.{Found}
+use Rattle.sheet.specs.declared.Found.the-variants.{Present, Absent}
+use Rattle.sheet.specs.All.{_and_}
+use Rattle.sheet.specs.Names
+use Rattle.sheet.specs.Names.{nodes, chartVariables, operator, Bool-type, Int-type, Component-type, Port-type, enumerated, isClock, isLiteral}
+use Rattle.sheet.specs.Sheet.{recordOf}
+use Rattle.laris.specs.declared.Value.{Value}
+use Rattle.laris.specs.declared.Out.{Out}
+use Rattle.laris.specs.declared.Out.the-variants.{Val, Refused, Stuck}
+use Rattle.laris.specs.Fields.{typeAt}
+use Rattle.laris.specs.Forms.{Form, literal, read, unary, binary, clock, skip, assign, externalSend, internalSend, arm, clockAct, call, choice, loop, sequence, unknown, formOf}
+use Rattle.laris.specs.Shape.{variablesAt, constantOf}
+use Rattle.laris.specs.Types.{variableAt}
+use Rattle.laris.specs.Values.{fits32, isZero, inType, firstCell}
+use Rattle.laris.specs.State.{cellAt, wordOf}
+
+-- ---- how parts follow each other
+
+-- a value goes on; a refusal and stuck are the answer
+unfoldable pub andThen : Out → (Value → ℕ → Out) → Out
+andThen (Val x l) K = K x l
+andThen (Refused n l) K = Refused n l
+andThen Stuck K = Stuck
+
+-- a test without which the machine is stuck
+unfoldable pub needs : Bool → Out → Out
+needs true o = o
+needs false o = Stuck
+
+unfoldable pub onRecord : Found → (Record → Out) → Out
+onRecord (Present r) K = K r
+onRecord Absent K = Stuck
+
+abbrev pub val : ℕ → ℤ → Value
+val k z = record { kind = k; word = z }
+
+abbrev pub boolWord : Bool → ℤ
+boolWord true = pos 1
+boolWord false = pos 0
+
+-- ---- Int: "Int is 32-bit signed; div rounds toward zero, and a mod b = a − b × (a div b), of which only the result must fit."
+
+unfoldable pub intOut : ℤ → ℕ → Out
+intOut z l = elim (fits32 z) [ true ↦ Val (val Int-type z) l | false ↦ Refused 6 l ]
+
+unfoldable pub quotient : ℤ → ℤ → ℤ
+quotient a b = quotZ a b
+
+unfoldable pub remainder : ℤ → ℤ → ℤ
+remainder a b = a -ℤ b *ℤ quotient a b
+
+-- "Int outside 32 bits, or divisor 0" is 6
+unfoldable pub dividing : ℤ → ℤ → ℕ → Out
+dividing b z l = elim (isZero b) [ true ↦ Refused 6 l | false ↦ intOut z l ]
+
+-- ---- operators on values
+
+abbrev pub isOne : ℤ → Bool
+isOne z = not (isZero z)
+
+abbrev pub sameWord : ℤ → ℤ → Bool
+sameWord a b = leZ a b and leZ b a
+
+unfoldable pub notVal : Value → ℕ → Out
+notVal x l = needs (eqb (x .kind) Bool-type) (Val (val Bool-type (boolWord (isZero (x .word)))) l)
+
+-- 12 plus; 13 minus; 14 times; 15 div; 16 mod
+unfoldable pub intVal : ℕ → ℤ → ℤ → ℕ → Out
+intVal op a b l =
+    elim (eqb op 12) [
+      | true ↦ intOut (a +ℤ b) l
+      | false ↦ elim (eqb op 13) [
+        | true ↦ intOut (a -ℤ b) l
+        | false ↦ elim (eqb op 14) [ true ↦ intOut (a *ℤ b) l | false ↦ elim (eqb op 15) [ true ↦ dividing b (quotient a b) l | false ↦ dividing b (remainder a b) l ] ]
+      ]
+    ]
+
+-- 9 and; 10 equal; 11 less; the others on two Ints
+unfoldable pub binaryVal : ℕ → Value → Value → ℕ → Out
+binaryVal op x y l =
+    elim (eqb op 9) [
+      | true ↦ needs (eqb (x .kind) Bool-type and eqb (y .kind) Bool-type) (Val (val Bool-type (boolWord (isOne (x .word) and isOne (y .word)))) l)
+      | false ↦ elim (eqb op 10) [
+        | true ↦ needs (eqb (x .kind) (y .kind)) (Val (val Bool-type (boolWord (sameWord (x .word) (y .word)))) l)
+        | false ↦ needs (eqb (x .kind) Int-type and eqb (y .kind) Int-type) (elim (eqb op 11) [ true ↦ Val (val Bool-type (boolWord (ltZ (x .word) (y .word)))) l | false ↦ intVal op (x .word) (y .word) l ])
+      ]
+    ]
+
+-- ---- leaves
+
+-- the value that a literal writes down: 1 Bool; 2 Int, two's complement; 3 member; 4 component; 5 port; 6 self
+unfoldable pub literalValue : ℕ → Record → Value
+literalValue e r =
+    elim (eqb (operator r) 1) [
+      | true ↦ val Bool-type (pos (r .f1))
+      | false ↦ elim (eqb (operator r) 2) [
+        | true ↦ val Int-type (toZ w32 (r .f1 + 65536 * r .f2))
+        | false ↦ elim (eqb (operator r) 3) [
+          | true ↦ val (enumerated (r .f1)) (pos (r .f2))
+          | false ↦ elim (eqb (operator r) 4) [
+            | true ↦ val Component-type (pos (r .f1))
+            | false ↦ elim (eqb (operator r) 5) [ true ↦ val Port-type (pos (r .f1)) | false ↦ val Component-type (pos e) ]
+          ]
+        ]
+      ]
+    ]
+
+-- "a value .. lies outside its type": stuck
+unfoldable pub within : List ℕ → Value → ℕ → Out
+within s x l = needs (inType s (x .kind) (x .word)) (Val x l)
+
+-- Where a body runs: the element, its chart and binding, the body.
+pub record Context : Type 0 where
+  pub element : ℕ
+  pub chart : Record
+  pub binding : Record
+  pub body : Record
+
+-- a value of a type, where a type is needed
+unfoldable pub ofType : ℕ → Value → Out → Out
+ofType t x o = needs (eqb (x .kind) t) o
+
+-- "Reading a chart parameter doesn't visit its binding's node": the constant in the element's binding
+unfoldable pub parameterVal : List ℕ → Context → ℕ → ℕ → ℕ → Out
+parameterVal s x n t l = onRecord (recordOf s nodes (constantOf (x .binding) n)) (λ r. needs (isLiteral (operator r)) (ofType t (literalValue (x .element) r) (within s (literalValue (x .element) r) l)))
+
+module _ (s : List ℕ) (x : Context) (st lo : List ℤ) where
+  -- the word of the element's variable n
+  unfoldable pub variableAtCell : ℕ → ℕ
+  variableAtCell n = cellAt (firstCell s (x .element) + n)
+
+  -- f1: 0 chart parameter, 1 chart variable, 2 body parameter or local; f2 its number; t its declared type
+  unfoldable pub readAs : ℕ → ℕ → ℕ → ℕ → Out
+  readAs place n t l =
+      elim (eqb place Names.chartParameter) [
+        | true ↦ parameterVal s x n t l
+        | false ↦ elim (eqb place Names.chartVariable) [ true ↦ within s (val t (wordOf st (variableAtCell n))) l | false ↦ within s (val t (wordOf lo n)) l ]
+      ]
+
+  unfoldable pub readVal : ℕ → ℕ → ℕ → Out
+  readVal place n l = needs (ltb n (variablesAt (x .chart) (x .body) place)) (readAs place n (typeAt s (variableAt (x .chart) (x .body) place n)) l)
+
+  -- "17 gives the clock's running word, 18 its value, 0 when stopped"
+  unfoldable pub clockVal : ℕ → ℕ → ℕ → Out
+  clockVal op n l =
+      needs (ltb n (chartVariables (x .chart) .count) and isClock (typeAt s (chartVariables (x .chart) .first + n)))
+      (elim (eqb op 17) [ true ↦ within s (val Bool-type (wordOf st (variableAtCell n))) l | false ↦ within s (val Int-type (wordOf st (variableAtCell n + 1))) l ])
+
+  -- ---- a node
+
+  -- the act of a node, where f works out the operands
+  unfoldable pub evalIn : (ℕ → ℕ → Out) → Record → ℕ → Form → Out
+  evalIn f r l literal = within s (literalValue (x .element) r) l
+  evalIn f r l read = readVal (r .f1) (r .f2) l
+  evalIn f r l unary = andThen (f (r .f1) l) notVal
+  evalIn f r l binary = andThen (f (r .f1) l) (λ a l. andThen (f (r .f2) l) (λ b l. binaryVal (operator r) a b l))
+  evalIn f r l clock = clockVal (operator r) (r .f1) l
+  evalIn f r l skip = Stuck
+  evalIn f r l assign = Stuck
+  evalIn f r l externalSend = Stuck
+  evalIn f r l internalSend = Stuck
+  evalIn f r l arm = Stuck
+  evalIn f r l clockAct = Stuck
+  evalIn f r l call = Stuck
+  evalIn f r l choice = Stuck
+  evalIn f r l loop = Stuck
+  evalIn f r l sequence = Stuck
+  evalIn f r l unknown = Stuck
+
+  -- "a visit that would pass [the limit] is refused"
+  unfoldable pub evalStep : (ℕ → ℕ → Out) → ℕ → ℕ → Out
+  evalStep f n zero = Refused 10 0
+  evalStep f n (suc l) = onRecord (recordOf s nodes n) (λ r. evalIn f r l (formOf (operator r)))
+
+-- An operand that isn't lower is none: the machine, which reads any sheet, is stuck there. On a passed sheet it never happens.
+unfoldable pub lowerEval : ℕ → (ℕ → ℕ → Out) → ℕ → ℕ → Out
+lowerEval n f m l = elim (ltb m n) [ true ↦ f m l | false ↦ Stuck ]
+
+module _ (s : List ℕ) (x : Context) (st lo : List ℤ) where
+  -- fuel is not the paper's: the node number falls, so enough of it makes no difference
+  unfoldable pub evalF : ℕ → ℕ → ℕ → Out
+  evalF zero n l = Stuck
+  evalF (suc k) n l = evalStep s x st lo (lowerEval n (evalF k)) n l
+
+  -- what node n gives, with l steps left
+  unfoldable pub evalOf : ℕ → ℕ → Out
+  evalOf n l = evalF (suc n) n l
