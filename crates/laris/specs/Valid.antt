@@ -17,7 +17,7 @@ use Rattle.sheet.specs.Sheet.{countOf}
 use Rattle.laris.specs.declared.Telegram.{Telegram}
 use Rattle.laris.specs.Fields.{holds, typeAt, componentsOf, externalsOf, portsOf}
 use Rattle.laris.specs.Types.{hasClass, hasReaction, nameRange}
-use Rattle.laris.specs.Values.{isBelow, isZero, inType, isBound, chartOf, firstCell}
+use Rattle.laris.specs.Values.{fits32, isBelow, isZero, inType, isBound, chartOf, firstCell}
 use Rattle.laris.specs.State.{places, cellAt, placeAt, stateLength, wordOf, waiting, telegramIn, telegramOf}
 
 -- ---- data: "Surplus data are zero." "Data, also a clock's, fit their name's types"
@@ -39,10 +39,12 @@ zeroWords st at from = allBelow (8 - from) (λ k. isZero (wordOf st (at + from +
 
 -- ---- cells: "A data variable: its value, zeros. A clock: running 0 or 1, value, period, name, four data; all zero if stopped."
 
--- "A running Timer has value at least 0 and zeros after; a Timeout 1 ≤ value ≤ period; a Cycler 0 ≤ value < period."
+-- "A running Timer has value at least 0 and zeros after; a Timeout 1 ≤ value ≤ period; a Cycler 0 ≤ value < period." Value and period are Ints
 unfoldable pub runningClock : List ℕ → ℕ → ℕ → List ℤ → ℕ → Bool
 runningClock s e t st at =
-    elim (eqb t Timer-type) [
+    fits32 (wordOf st (at + 1))
+    and fits32 (wordOf st (at + 2))
+    and elim (eqb t Timer-type) [
       | true ↦ leZ (pos 0) (wordOf st (at + 1)) and zeroWords st at 2
       | false ↦
           elim (eqb t Timeout-type) [ true ↦ leZ (pos 1) (wordOf st (at + 1)) and leZ (wordOf st (at + 1)) (wordOf st (at + 2)) | false ↦ leZ (pos 0) (wordOf st (at + 1)) and ltZ (wordOf st (at + 1)) (wordOf st (at + 2)) ]

@@ -23,19 +23,8 @@ use Rattle.laris.specs.Values.{isBound, bindingOf, chartOf}
 use Rattle.laris.specs.Play.{bodyFrom, bodyWhere, isInitial, hasPanic}
 use Rattle.laris.specs.Check.{checkOf}
 use Rattle.laris.proofs.Fields.{holds-present, holds-absent}
+use Rattle.passed.specs.Places.{InChart, Element}
 use Rattle.passed.proofs.Records.{held, one-record, present-below, elements-bound, binding-shape, binding-static, body-shape, chart-static, trees-shape}
-
--- body b stands in chart c
-pub record InChart (s : List ℕ) (c b : Record) : Type 0 where
-  pub number : ℕ
-  pub below : number < chartBodies c .count
-  pub there : bodyOf s c number ≡ Present b
-
--- element e with its binding and its chart
-pub record Element (s : List ℕ) (e : ℕ) (b c : Record) : Type 0 where
-  pub bound : isBound s e ≡ true
-  pub binding : recordOf s bindings (e - externalsOf s) ≡ Present b
-  pub chart : recordOf s charts (boundChart b) ≡ Present c
 
 -- ---- elements
 
