@@ -1,0 +1,202 @@
+-- The state that start begins with is of the sheet.
+use Prim.Native.Nat.{ℕ, zero, suc, _+_, _*_, _-_, _<_, _≤_}
+use mathlib.Core.Path.{_≡_, refl, sym, ap, _∙_}
+use mathlib.Core.List.{List, [], _∷_, _++_}
+use mathlib.Core.Bool.{Bool, true, false}
+use native.Mathlib.Omega.{arith}
+use native.Mathlib.Decide.{decLt}
+use lib.ListN.{length, getD, replicate, length-append, length-replicate, getD-replicate}
+use lib.Dec.{leb}
+use lib.IntN.{ℤ, pos, natAbs}
+use borrow.Author.Tests.{leb-true, lt-leb}
+use Rattle.sheet.specs.declared.Record.{Record}
+use Rattle.sheet.specs.declared.Range.{Range}
+use Rattle.sheet.specs.declared.Found.{Found}
+use Rattle.sheet.specs.declared.Found.the-variants.{Present, Absent}
+use Rattle.sheet.specs.All.{_and_, allBelow}
+use Rattle.sheet.specs.Names.{bindings, chartVariables, isClock}
+use Rattle.sheet.specs.Sheet.{countOf}
+use Rattle.sheet.proofs.All.{and-first, and-second, and-true}
+use Rattle.laris.specs.declared.Checked.{Checked}
+use Rattle.laris.specs.declared.Checked.the-variants.{Passed}
+use Rattle.laris.specs.Fields.{typeAt, sumBelow, externalsOf}
+use Rattle.laris.specs.Shape.{typeExists, variablesBound, variablesOf}
+use Rattle.laris.specs.Check.{shape, checkOf}
+use Rattle.laris.specs.Values.{isBelow, isZero, inType, defaultOf, chartOf, firstCell}
+use Rattle.laris.specs.State.{places, cellAt, placeAt, stateLength, wordOf, waiting, telegramOf}
+use Rattle.laris.specs.Valid.{zeroWords, clockCell, cellFits, headFits, cellsFit, OfSheet}
+use Rattle.laris.specs.Play.{defaultCell, defaultCells, elementCells, cellsFrom, defaultState}
+use Rattle.laris.proofs.Fields.{sum-more}
+use Rattle.states.proofs.Frame.{Same, cell-same}
+use Rattle.states.proofs.Words.{word-front, word-rest}
+use Rattle.states.proofs.Elements.{element-number, element-count, element-from, element-cells, sum-rises}
+use Rattle.states.proofs.Parts.{zeros, cells-fit, telegrams-fit, rest-unused}
+use Rattle.states.proofs.Passed.{passed-shape, all-bound, default-in, bound-chart, variable-exists}
+
+-- ---- a cell
+
+cell-length : (s : List ℕ) (t : ℕ) → length (defaultCell s t) ≡ 8
+unfolding defaultCell
+cell-length s t = refl
+
+cell-rest : (s : List ℕ) (t k : ℕ) → 1 ≤ k → k < 8 → wordOf (defaultCell s t) (0 + k) ≡ pos 0
+unfolding defaultCell wordOf
+cell-rest s t zero l m = absurd (omega arith)
+cell-rest s t (suc k) l m = let e : 0 + suc k ≡ suc k = omega arith in rw e (getD-replicate 7 k (pos 0) (pos 0) (omega arith))
+
+clock-zero : (s : List ℕ) (t : ℕ) → isClock t ≡ true → defaultOf s t ≡ pos 0
+unfolding isClock defaultOf
+clock-zero s t h = let l : t ≤ 6 = leb-true _ _ (and-second _ _ h) in rw (defaultOf, lt-leb 8 t (omega arith)) refl
+
+cell-fits : (s : List ℕ) (e t : ℕ) → shape s ≡ true → typeExists s t ≡ true → cellFits s e t (defaultCell s t) 0 ≡ true
+unfolding cellFits clockCell wordOf defaultCell isZero
+cell-fits s e t passed h = go (isClock t) refl
+  where
+    rest : zeroWords (defaultCell s t) 0 1 ≡ true
+    rest = zeros (defaultCell s t) 0 1 (cell-rest s t)
+
+    go : (b : Bool) → isClock t ≡ b → cellFits s e t (defaultCell s t) 0 ≡ true
+    go true q = rw (cellFits, q, clockCell, clock-zero s t q) rest
+    go false q = rw (cellFits, q) (and-true _ _ (default-in s passed t q h) rest)
+
+-- ---- the cells of an element
+
+cells-length : (s : List ℕ) (n d : ℕ) → length (defaultCells s n d) ≡ 8 * n
+unfolding defaultCells
+cells-length s zero d = refl
+cells-length s (suc n) d = omega (arith, length-append (defaultCell s (typeAt s d)) (defaultCells s n (suc d)), cell-length s (typeAt s d), cells-length s n (suc d))
+
+cells-word : (s : List ℕ) (n d j k : ℕ) → j < n → k < 8 → wordOf (defaultCells s n d) (8 * j + k) ≡ wordOf (defaultCell s (typeAt s (d + j))) k
+unfolding defaultCells
+cells-word s zero d j k l m = absurd (omega arith)
+cells-word s (suc n) d zero k l m =
+    let e : 8 * 0 + k ≡ k = omega arith in
+    let f : d + 0 ≡ d = omega arith in
+    rw (e, f) (word-front (defaultCell s (typeAt s d)) (defaultCells s n (suc d)) k (omega (arith, cell-length s (typeAt s d))))
+cells-word s (suc n) d (suc j) k l m =
+    let e : 8 * suc j + k ≡ 8 + (8 * j + k) = omega arith in
+    let f : d + suc j ≡ suc d + j = omega arith in
+    rw (e, f) (word-rest (defaultCell s (typeAt s d)) (defaultCells s n (suc d)) 8 (8 * j + k) (cell-length s (typeAt s d)) ∙ cells-word s n (suc d) j k (omega arith) m)
+
+module _ (s : List ℕ) (e : ℕ) (c : Record) (p : chartOf s e ≡ Present c) where
+  element-cells-are : elementCells s e ≡ defaultCells s (chartVariables c .count) (chartVariables c .first)
+  unfolding elementCells
+  element-cells-are = rw (elementCells, p) refl
+
+-- ---- all cells
+
+module _ (s : List ℕ) (passed : shape s ≡ true) where
+  element-length : (i : ℕ) → i < countOf s bindings → length (elementCells s (externalsOf s + i)) ≡ 8 * variablesBound s i
+  element-length i l = go (chartOf s (externalsOf s + i)) refl
+    where
+      go : (f : Found) → chartOf s (externalsOf s + i) ≡ f → length (elementCells s (externalsOf s + i)) ≡ 8 * variablesBound s i
+      go (Present c) p =
+          let e : externalsOf s + i - externalsOf s ≡ i = omega arith in
+          let count : variablesBound s i ≡ chartVariables c .count = (rw e at (element-count s (externalsOf s + i) c p)) in
+          omega (arith, ap length (element-cells-are s (externalsOf s + i) c p), cells-length s (chartVariables c .count) (chartVariables c .first))
+      go Absent p = absurd (bound-chart s passed i l p)
+
+  next : (i : ℕ) → suc (externalsOf s + i) ≡ externalsOf s + (i + 1)
+  next i = omega arith
+
+  all-length : (n i : ℕ) → i + n ≤ countOf s bindings → length (cellsFrom s n (externalsOf s + i)) + 8 * sumBelow i (variablesBound s) ≡ 8 * sumBelow (i + n) (variablesBound s)
+  unfolding cellsFrom
+  all-length zero i l = let e : i + 0 ≡ i = omega arith in rw e (omega arith)
+  all-length (suc n) i l =
+      let e : i + suc n ≡ i + 1 + n = omega arith in
+      rw (e, next i) (omega (arith, length-append (elementCells s (externalsOf s + i)) (cellsFrom s n (externalsOf s + (i + 1))), element-length i (omega arith), all-length n (i + 1) (omega arith), sum-more i (variablesBound s)))
+
+  -- word x of element m's cells, among the cells of n elements from number i on
+  all-word : (n i m x y : ℕ) → i + n ≤ countOf s bindings → i ≤ m → m < i + n → x < 8 * variablesBound s m → y + 8 * sumBelow i (variablesBound s) ≡ 8 * sumBelow m (variablesBound s) + x → wordOf (cellsFrom s n (externalsOf s + i)) y ≡ wordOf (elementCells s (externalsOf s + m)) x
+  unfolding cellsFrom
+  all-word zero i m x y l a b q h = absurd (omega arith)
+  all-word (suc n) i m x y l a b q h = elim (decLt i m) [
+    | no here ↦
+      (let e : m ≡ i = omega arith in
+      let q′ : x < 8 * variablesBound s i = (rw e at q) in
+      let h′ : y + 8 * sumBelow i (variablesBound s) ≡ 8 * sumBelow i (variablesBound s) + x = (rw e at h) in
+      let f : y ≡ x = omega arith in
+      rw (e, f) (word-front (elementCells s (externalsOf s + i)) (cellsFrom s n (suc (externalsOf s + i))) x (omega (arith, element-length i (omega arith)))))
+    | yes later ↦
+      (let len = element-length i (omega arith) in
+      let rise = sum-rises (variablesBound s) i m later in
+      let f : y ≡ 8 * variablesBound s i + (y - 8 * variablesBound s i) = omega arith in
+      rw (next i, f) (word-rest (elementCells s (externalsOf s + i)) (cellsFrom s n (externalsOf s + (i + 1))) (8 * variablesBound s i) (y - 8 * variablesBound s i) len
+        ∙ all-word n (i + 1) m x (y - 8 * variablesBound s i) (omega arith) (omega arith) (omega arith) q (omega (arith, sum-more i (variablesBound s)))))
+  ]
+
+  -- ---- the state
+
+  abbrev allCells : List ℤ
+  allCells = cellsFrom s (countOf s bindings) (externalsOf s)
+
+  from-first : externalsOf s + 0 ≡ externalsOf s
+  from-first = omega arith
+
+  cells-whole : length allCells ≡ 8 * variablesOf s
+  unfolding variablesOf sumBelow
+  cells-whole = let e : 0 + countOf s bindings ≡ countOf s bindings = omega arith in let h = (rw (from-first, e) at (all-length (countOf s bindings) 0 (omega arith))) in omega arith
+
+  front-whole : length (replicate 8 (pos 0) ++ allCells) ≡ placeAt s 0
+  unfolding placeAt
+  front-whole = omega (arith, length-append (replicate 8 (pos 0)) allCells, cells-whole)
+
+  default-length : length (defaultState s) ≡ stateLength s
+  unfolding defaultState stateLength placeAt
+  default-length = omega (arith, length-append (replicate 8 (pos 0) ++ allCells) (replicate (8 * places) (pos 0)), front-whole, length-replicate (8 * places) (pos 0))
+
+  head-word : (i : ℕ) → i < 8 → wordOf (defaultState s) i ≡ pos 0
+  unfolding defaultState wordOf placeAt
+  head-word i l = word-front (replicate 8 (pos 0) ++ allCells) (replicate (8 * places) (pos 0)) i (omega (arith, front-whole)) ∙ word-front (replicate 8 (pos 0)) allCells i l ∙ getD-replicate 8 i (pos 0) (pos 0) l
+
+  place-word : (k : ℕ) → k < 8 * places → wordOf (defaultState s) (placeAt s 0 + k) ≡ pos 0
+  unfolding defaultState wordOf
+  place-word k l = word-rest (replicate 8 (pos 0) ++ allCells) (replicate (8 * places) (pos 0)) (placeAt s 0) k front-whole ∙ getD-replicate (8 * places) k (pos 0) (pos 0) l
+
+  module _ (e : ℕ) (c : Record) (p : chartOf s e ≡ Present c) (j : ℕ) (l : j < chartVariables c .count) where
+    abbrev kind : ℕ
+    kind = typeAt s (chartVariables c .first + j)
+
+    element-word : (k : ℕ) → k < 8 → wordOf allCells (8 * (firstCell s e + j) + k) ≡ wordOf (defaultCell s kind) k
+    unfolding firstCell sumBelow
+    element-word k m =
+        let here : externalsOf s + (e - externalsOf s) ≡ e = omega (arith, element-from s e c p) in
+        let inside : 8 * j + k < 8 * variablesBound s (e - externalsOf s) = omega (arith, element-count s e c p) in
+        (rw (from-first, here) at (all-word (countOf s bindings) 0 (e - externalsOf s) (8 * j + k) (8 * (firstCell s e + j) + k) (omega arith) (omega arith) (omega (arith, element-number s e c p)) inside (omega arith)))
+        ∙ ap (λ (ws : List ℤ). wordOf ws (8 * j + k)) (element-cells-are s e c p)
+        ∙ cells-word s (chartVariables c .count) (chartVariables c .first) j k l m
+
+    default-cell : Same (defaultState s) (cellAt (firstCell s e + j)) (defaultCell s kind) 0
+    unfolding defaultState cellAt placeAt
+    default-cell k m =
+        let inside : 8 * (firstCell s e + j) + k < 8 * variablesOf s = omega (arith, element-cells s e c p) in
+        let f : 8 + 8 * (firstCell s e + j) + k ≡ 8 + (8 * (firstCell s e + j) + k) = omega arith in
+        let z : 0 + k ≡ k = omega arith in
+        rw (f, z) (word-front (replicate 8 (pos 0) ++ allCells) (replicate (8 * places) (pos 0)) (8 + (8 * (firstCell s e + j) + k)) (omega (arith, front-whole)) ∙ word-rest (replicate 8 (pos 0)) allCells 8 (8 * (firstCell s e + j) + k) refl ∙ element-word k m)
+
+    default-fits : cellFits s e kind (defaultState s) (cellAt (firstCell s e + j)) ≡ true
+    default-fits = cell-same (defaultState s) (cellAt (firstCell s e + j)) (defaultCell s kind) 0 default-cell s e kind ∙ cell-fits s e kind passed (variable-exists s passed e c p j l)
+
+  nothing-waits : waiting (defaultState s) ≡ 0
+  unfolding waiting
+  nothing-waits = ap natAbs (head-word 0 (omega arith))
+
+  default-head : headFits (defaultState s) ≡ true
+  unfolding headFits isBelow
+  default-head = and-true _ _ (ap (λ (z : ℤ). isBelow z 129) (head-word 0 (omega arith))) (zeros (defaultState s) 0 1 (λ k a b. head-word (0 + k) (omega arith)))
+
+  place-zero : (n : ℕ) → n < places → zeroWords (defaultState s) (placeAt s n) 0 ≡ true
+  unfolding placeAt
+  place-zero n l = zeros (defaultState s) (placeAt s n) 0 (λ k a b. let e : placeAt s n + k ≡ placeAt s 0 + (8 * n + k) = omega arith in rw e (place-word (8 * n + k) (omega arith)))
+
+  pub shape-default : OfSheet s (defaultState s)
+  shape-default = record {
+      whole = default-length;
+      head = default-head;
+      cells = cells-fit s (defaultState s) (bound-chart s passed) default-fits;
+      telegrams = telegrams-fit s (defaultState s) 0 nothing-waits (λ j l. absurd (omega arith));
+      unused = rest-unused s (defaultState s) 0 nothing-waits (λ n a l. place-zero n l)
+    }
+
+pub default-of-sheet : (s : List ℕ) → checkOf s ≡ Passed → OfSheet s (defaultState s)
+default-of-sheet s h = shape-default s (passed-shape s h)

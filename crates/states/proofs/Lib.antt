@@ -1,0 +1,7 @@
+pub mod Frame
+pub mod Words
+pub mod Elements
+pub mod Parts
+pub mod Kept
+pub mod Passed
+pub mod Default

@@ -1,0 +1,1 @@
+// Theorems about the state's words. There is no code here.
