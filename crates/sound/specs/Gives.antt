@@ -1,14 +1,40 @@
--- What typed expressions and statements come to.
-use Prim.Native.Nat.{ℕ, _≤_}
+-- What typed expressions, data and statements come to.
+use Prim.Native.Nat.{ℕ, _+_, _<_, _≤_}
 use mathlib.Core.Path.{_≡_}
 use mathlib.Core.List.{List}
 use mathlib.Core.Bool.{true}
+use lib.ListN.{length}
+use lib.IntN.{ℤ}
+use Rattle.sheet.specs.declared.Range.{Range}
 use Rattle.laris.specs.declared.Out.{Out}
-use Rattle.laris.specs.declared.Out.the-variants.{Val, Refused, Stuck}
+use Rattle.laris.specs.declared.Out.the-variants as out
+use Rattle.laris.specs.declared.Ran.{Ran}
+use Rattle.laris.specs.declared.Ran.the-variants.{Done, Refused, Stuck}
+use Rattle.laris.specs.Fields.{typeAt}
 use Rattle.laris.specs.Values.{inType}
+use Rattle.laris.specs.Valid.{OfSheet}
+use Rattle.laris.specs.Eval.{Context}
+use Rattle.laris.specs.Run.{Data, given, refused, stuck, datum}
+use Rattle.passed.specs.Places.{Locals}
 
--- an expression of type t gives a value of the type, or a refusal from 6 to 10; it is not stuck
+-- "6 to 10, the first met"
+abbrev pub Refusal : ℕ → Type 0
+Refusal k = (6 ≤ k) × (k ≤ 10)
+
+-- an expression of type t gives a value of the type, or is refused; it is not stuck
 abbrev pub Gives : List ℕ → ℕ → Out → Type 0
-Gives s t (Val v m) = (v .kind ≡ t) × (inType s t (v .word) ≡ true)
-Gives s t (Refused k m) = (6 ≤ k) × (k ≤ 10)
-Gives s t Stuck = ⊥
+Gives s t (out.Val v m) = (v .kind ≡ t) × (inType s t (v .word) ≡ true)
+Gives s t (out.Refused k m) = Refusal k
+Gives s t out.Stuck = ⊥
+
+-- n data for the declarations of a range from number j on are of their types
+abbrev pub DataGive : List ℕ → Range → ℕ → ℕ → Data → Type 0
+DataGive s g n j (given zs m) = (length zs ≡ n) × ((i : ℕ) → i < n → inType s (typeAt s (g .first + (j + i))) (datum zs i) ≡ true)
+DataGive s g n j (refused k m) = Refusal k
+DataGive s g n j stuck = ⊥
+
+-- a statement leaves a state of the sheet and variables of their types, or is refused; it is not stuck
+abbrev pub Ends : List ℕ → Context → Ran → List ℤ → List ℤ → Type 0
+Ends s x (Done m) st lo = OfSheet s st × Locals s x lo
+Ends s x (Refused k m) st lo = Refusal k
+Ends s x Stuck st lo = ⊥

@@ -1,37 +1,36 @@
 -- The state that start begins with is of the sheet.
 use Prim.Native.Nat.{ℕ, zero, suc, _+_, _*_, _-_, _<_, _≤_}
-use mathlib.Core.Path.{_≡_, refl, sym, ap, _∙_}
-use mathlib.Core.List.{List, [], _∷_, _++_}
+use mathlib.Core.Path.{_≡_, refl, ap, _∙_}
+use mathlib.Core.List.{List, _++_}
 use mathlib.Core.Bool.{Bool, true, false}
 use native.Mathlib.Omega.{arith}
 use native.Mathlib.Decide.{decLt}
-use lib.ListN.{length, getD, replicate, length-append, length-replicate, getD-replicate}
-use lib.Dec.{leb}
+use lib.ListN.{length, replicate, length-append, length-replicate, getD-replicate}
 use lib.IntN.{ℤ, pos, natAbs}
-use borrow.Author.Tests.{leb-true, lt-leb}
+use borrow.Author.Tests.{leb-true, lt-ltb, le-leb, lt-leb}
 use Rattle.sheet.specs.declared.Record.{Record}
-use Rattle.sheet.specs.declared.Range.{Range}
 use Rattle.sheet.specs.declared.Found.{Found}
 use Rattle.sheet.specs.declared.Found.the-variants.{Present, Absent}
-use Rattle.sheet.specs.All.{_and_, allBelow}
 use Rattle.sheet.specs.Names.{bindings, chartVariables, isClock}
 use Rattle.sheet.specs.Sheet.{countOf}
-use Rattle.sheet.proofs.All.{and-first, and-second, and-true}
-use Rattle.laris.specs.declared.Checked.{Checked}
+use Rattle.sheet.proofs.All.{true-false, and-second, and-true}
 use Rattle.laris.specs.declared.Checked.the-variants.{Passed}
-use Rattle.laris.specs.Fields.{typeAt, sumBelow, externalsOf}
+use Rattle.laris.specs.Fields.{typeAt, sumBelow, componentsOf, externalsOf}
 use Rattle.laris.specs.Shape.{typeExists, variablesBound, variablesOf}
-use Rattle.laris.specs.Check.{shape, checkOf}
-use Rattle.laris.specs.Values.{isBelow, isZero, inType, defaultOf, chartOf, firstCell}
-use Rattle.laris.specs.State.{places, cellAt, placeAt, stateLength, wordOf, waiting, telegramOf}
-use Rattle.laris.specs.Valid.{zeroWords, clockCell, cellFits, headFits, cellsFit, OfSheet}
+use Rattle.laris.specs.Check.{checkOf}
+use Rattle.laris.specs.Values.{isBelow, isZero, defaultOf, isBound, chartOf, firstCell}
+use Rattle.laris.specs.State.{places, cellAt, placeAt, stateLength, wordOf, waiting}
+use Rattle.laris.specs.Valid.{zeroWords, clockCell, cellFits, headFits, OfSheet}
 use Rattle.laris.specs.Play.{defaultCell, defaultCells, elementCells, cellsFrom, defaultState}
-use Rattle.laris.proofs.Fields.{sum-more}
+use Rattle.laris.proofs.Fields.{holds-present, holds-absent, sum-more}
+use Rattle.passed.specs.Places.{Element}
+use Rattle.passed.proofs.Records.{elements-bound}
+use Rattle.passed.proofs.Charts.{element-chart, bound-element}
 use Rattle.states.proofs.Frame.{Same, cell-same}
 use Rattle.states.proofs.Words.{word-front, word-rest}
 use Rattle.states.proofs.Elements.{element-number, element-count, element-from, element-cells, sum-rises}
 use Rattle.states.proofs.Parts.{zeros, cells-fit, telegrams-fit, rest-unused}
-use Rattle.states.proofs.Passed.{passed-shape, all-bound, default-in, bound-chart, variable-exists}
+use Rattle.states.proofs.Passed.{default-in, variable-exists}
 
 -- ---- a cell
 
@@ -48,16 +47,16 @@ clock-zero : (s : List ℕ) (t : ℕ) → isClock t ≡ true → defaultOf s t �
 unfolding isClock defaultOf
 clock-zero s t h = let l : t ≤ 6 = leb-true _ _ (and-second _ _ h) in rw (defaultOf, lt-leb 8 t (omega arith)) refl
 
-cell-fits : (s : List ℕ) (e t : ℕ) → shape s ≡ true → typeExists s t ≡ true → cellFits s e t (defaultCell s t) 0 ≡ true
+cell-fits : (s : List ℕ) (e t : ℕ) → checkOf s ≡ Passed → typeExists s t ≡ true → cellFits s e t (defaultCell s t) 0 ≡ true
 unfolding cellFits clockCell wordOf defaultCell isZero
-cell-fits s e t passed h = go (isClock t) refl
+cell-fits s e t ok h = go (isClock t) refl
   where
     rest : zeroWords (defaultCell s t) 0 1 ≡ true
     rest = zeros (defaultCell s t) 0 1 (cell-rest s t)
 
     go : (b : Bool) → isClock t ≡ b → cellFits s e t (defaultCell s t) 0 ≡ true
     go true q = rw (cellFits, q, clockCell, clock-zero s t q) rest
-    go false q = rw (cellFits, q) (and-true _ _ (default-in s passed t q h) rest)
+    go false q = rw (cellFits, q) (and-true _ _ (default-in s ok t q h) rest)
 
 -- ---- the cells of an element
 
@@ -85,7 +84,13 @@ module _ (s : List ℕ) (e : ℕ) (c : Record) (p : chartOf s e ≡ Present c) w
 
 -- ---- all cells
 
-module _ (s : List ℕ) (passed : shape s ≡ true) where
+module _ (s : List ℕ) (ok : checkOf s ≡ Passed) where
+  bound-chart : (i : ℕ) → i < countOf s bindings → chartOf s (externalsOf s + i) ≡ Absent → ⊥
+  unfolding isBound
+  bound-chart i l q =
+      let x = bound-element s ok (externalsOf s + i) (and-true _ _ (le-leb (externalsOf s) (externalsOf s + i) (omega arith)) (lt-ltb (externalsOf s + i) (componentsOf s) (omega (arith, elements-bound s ok)))) in
+      true-false (holds-present (chartOf s (externalsOf s + i)) (x .1) (λ c. true) (element-chart s (externalsOf s + i) (x .0) (x .1) (x .2))) (holds-absent (chartOf s (externalsOf s + i)) (λ c. true) q)
+
   element-length : (i : ℕ) → i < countOf s bindings → length (elementCells s (externalsOf s + i)) ≡ 8 * variablesBound s i
   element-length i l = go (chartOf s (externalsOf s + i)) refl
     where
@@ -94,7 +99,7 @@ module _ (s : List ℕ) (passed : shape s ≡ true) where
           let e : externalsOf s + i - externalsOf s ≡ i = omega arith in
           let count : variablesBound s i ≡ chartVariables c .count = (rw e at (element-count s (externalsOf s + i) c p)) in
           omega (arith, ap length (element-cells-are s (externalsOf s + i) c p), cells-length s (chartVariables c .count) (chartVariables c .first))
-      go Absent p = absurd (bound-chart s passed i l p)
+      go Absent p = absurd (bound-chart i l p)
 
   next : (i : ℕ) → suc (externalsOf s + i) ≡ externalsOf s + (i + 1)
   next i = omega arith
@@ -175,7 +180,7 @@ module _ (s : List ℕ) (passed : shape s ≡ true) where
         rw (f, z) (word-front (replicate 8 (pos 0) ++ allCells) (replicate (8 * places) (pos 0)) (8 + (8 * (firstCell s e + j) + k)) (omega (arith, front-whole)) ∙ word-rest (replicate 8 (pos 0)) allCells 8 (8 * (firstCell s e + j) + k) refl ∙ element-word k m)
 
     default-fits : cellFits s e kind (defaultState s) (cellAt (firstCell s e + j)) ≡ true
-    default-fits = cell-same (defaultState s) (cellAt (firstCell s e + j)) (defaultCell s kind) 0 default-cell s e kind ∙ cell-fits s e kind passed (variable-exists s passed e c p j l)
+    default-fits = cell-same (defaultState s) (cellAt (firstCell s e + j)) (defaultCell s kind) 0 default-cell s e kind ∙ cell-fits s e kind ok (variable-exists s ok e c p j l)
 
   nothing-waits : waiting (defaultState s) ≡ 0
   unfolding waiting
@@ -189,14 +194,11 @@ module _ (s : List ℕ) (passed : shape s ≡ true) where
   unfolding placeAt
   place-zero n l = zeros (defaultState s) (placeAt s n) 0 (λ k a b. let e : placeAt s n + k ≡ placeAt s 0 + (8 * n + k) = omega arith in rw e (place-word (8 * n + k) (omega arith)))
 
-  pub shape-default : OfSheet s (defaultState s)
-  shape-default = record {
+  pub default-of-sheet : OfSheet s (defaultState s)
+  default-of-sheet = record {
       whole = default-length;
       head = default-head;
-      cells = cells-fit s (defaultState s) (bound-chart s passed) default-fits;
+      cells = cells-fit s (defaultState s) bound-chart default-fits;
       telegrams = telegrams-fit s (defaultState s) 0 nothing-waits (λ j l. absurd (omega arith));
       unused = rest-unused s (defaultState s) 0 nothing-waits (λ n a l. place-zero n l)
     }
-
-pub default-of-sheet : (s : List ℕ) → checkOf s ≡ Passed → OfSheet s (defaultState s)
-default-of-sheet s h = shape-default s (passed-shape s h)

@@ -5,13 +5,10 @@ use mathlib.Core.List.{List}
 use mathlib.Core.Bool.{Bool, true, false, true≢false}
 use native.Mathlib.Omega.{arith}
 use native.Mathlib.Decide.{decLt}
-use lib.Dec.{ltb, leb}
 use borrow.Author.Tests.{leb-true, ltb-true}
 use Rattle.sheet.specs.declared.Record.{Record}
-use Rattle.sheet.specs.declared.Range.{Range}
 use Rattle.sheet.specs.declared.Found.{Found}
 use Rattle.sheet.specs.declared.Found.the-variants.{Present, Absent}
-use Rattle.sheet.specs.All.{_and_}
 use Rattle.sheet.specs.Names.{charts, bindings, chartVariables, boundChart}
 use Rattle.sheet.specs.Sheet.{countOf, recordOf}
 use Rattle.sheet.proofs.All.{and-first, and-second}
@@ -19,14 +16,10 @@ use Rattle.sheet.proofs.Sheet.{record-absent}
 use Rattle.laris.specs.Fields.{holds, numberOr0, sumBelow, componentsOf, externalsOf}
 use Rattle.laris.specs.Shape.{variablesBound, variablesOf}
 use Rattle.laris.specs.Values.{isBound, bindingOf, chartOf, firstCell}
-use Rattle.laris.proofs.Fields.{holds-present, number-present}
-
-pub no-record : (r : Record) → Absent ≡ Present r → ⊥
-unfolding holds
-no-record r e = true≢false (sym (holds-present Absent r (λ x. true) e))
-
-pub record-below : (s : List ℕ) (k n : ℕ) (r : Record) → recordOf s k n ≡ Present r → n < countOf s k
-record-below s k n r e = elim (decLt n (countOf s k)) [ yes l ↦ l | no l ↦ absurd (no-record r (sym (record-absent s k n (omega arith)) ∙ e)) ]
+use Rattle.laris.proofs.Fields.{number-present}
+use Rattle.passed.specs.Places.{Element}
+use Rattle.passed.proofs.Records.{present-below}
+use Rattle.passed.proofs.Charts.{chart-element}
 
 pub sum-rises : (f : ℕ → ℕ) (n m : ℕ) → n < m → sumBelow n f + f n ≤ sumBelow m f
 unfolding sumBelow
@@ -35,39 +28,16 @@ sum-rises f n (suc m) l = elim (decLt n m) [ yes q ↦ omega (arith, sum-rises f
 
 module _ (s : List ℕ) (e : ℕ) (c : Record) (p : chartOf s e ≡ Present c) where
   pub element-bound : isBound s e ≡ true
-  unfolding chartOf bindingOf
-  element-bound = go (isBound s e) refl
-    where
-      go : (b : Bool) → isBound s e ≡ b → isBound s e ≡ true
-      go true q = q
-      go false q = absurd (no-record c (sym (rw (chartOf, bindingOf, q) refl) ∙ p))
-
-  is-binding : bindingOf s e ≡ recordOf s bindings (e - externalsOf s)
-  unfolding bindingOf
-  is-binding = rw (bindingOf, element-bound) refl
-
-  chart-from : (f : Found) → bindingOf s e ≡ f → (e - externalsOf s < countOf s bindings) × (variablesBound s (e - externalsOf s) ≡ chartVariables c .count)
-  unfolding chartOf variablesBound
-  chart-from (Present b) q =
-      let r : recordOf s bindings (e - externalsOf s) ≡ Present b = sym is-binding ∙ q in
-      let h : recordOf s charts (boundChart b) ≡ Present c = sym (rw (chartOf, q) refl) ∙ p in
-      (record-below s bindings (e - externalsOf s) b r, number-present (recordOf s bindings (e - externalsOf s)) b _ r ∙ number-present (recordOf s charts (boundChart b)) c _ h)
-  chart-from Absent q = absurd (no-record c (sym (rw (chartOf, q) refl) ∙ p))
-
-  -- the chart is a record of its section
-  pub element-chart : recordOf s charts (numberOr0 (bindingOf s e) boundChart) ≡ Present c
-  unfolding chartOf numberOr0
-  element-chart = go (bindingOf s e) refl
-    where
-      go : (f : Found) → bindingOf s e ≡ f → recordOf s charts (numberOr0 (bindingOf s e) boundChart) ≡ Present c
-      go (Present b) q = rw q (sym (rw (chartOf, q) refl) ∙ p)
-      go Absent q = absurd (no-record c (sym (rw (chartOf, q) refl) ∙ p))
+  element-bound = chart-element s e c p .1 .bound
 
   pub element-number : e - externalsOf s < countOf s bindings
-  element-number = chart-from (bindingOf s e) refl .0
+  element-number = let x = chart-element s e c p in present-below s bindings (e - externalsOf s) (x .0) (x .1 .binding)
 
   pub element-count : variablesBound s (e - externalsOf s) ≡ chartVariables c .count
-  element-count = chart-from (bindingOf s e) refl .1
+  unfolding variablesBound
+  element-count =
+      let x = chart-element s e c p in
+      number-present (recordOf s bindings (e - externalsOf s)) (x .0) _ (x .1 .binding) ∙ number-present (recordOf s charts (boundChart (x .0))) c _ (x .1 .chart)
 
   pub element-from : externalsOf s ≤ e
   unfolding isBound

@@ -1,6 +1,6 @@
 -- What is said of a cell or of a telegram's place depends on its eight words only.
 use Prim.Native.Nat.{ℕ, zero, suc, _+_, _-_, _<_, _≤_}
-use mathlib.Core.Path.{_≡_, refl, sym, ap, _∙_}
+use mathlib.Core.Path.{_≡_, refl, ap, _∙_}
 use mathlib.Core.List.{List}
 use mathlib.Core.Bool.{Bool, true, false}
 use native.Mathlib.Omega.{arith}
@@ -11,7 +11,6 @@ use Rattle.sheet.specs.declared.Range.{Range}
 use Rattle.sheet.specs.All.{_and_, allBelow}
 use Rattle.sheet.specs.Names.{internal, Timer-type, Timeout-type, isClock}
 use Rattle.sheet.proofs.All.{and-true}
-use Rattle.laris.specs.declared.Telegram.{Telegram}
 use Rattle.laris.specs.Fields.{typeAt}
 use Rattle.laris.specs.Types.{nameRange}
 use Rattle.laris.specs.Values.{fits32, isBelow, isZero, inType}

@@ -1,26 +1,22 @@
 -- Each change of a state of the sheet leaves a state of the sheet.
-use Prim.Native.Nat.{ℕ, zero, suc, _+_, _*_, _-_, _<_, _≤_}
-use mathlib.Core.Path.{_≡_, refl, sym, ap, _∙_}
+use Prim.Native.Nat.{ℕ, _+_, _-_, _<_, _≤_}
+use mathlib.Core.Path.{_≡_, sym, ap, _∙_}
 use mathlib.Core.List.{List}
-use mathlib.Core.Bool.{Bool, true, false}
+use mathlib.Core.Bool.{true, false}
 use native.Mathlib.Omega.{arith}
 use native.Mathlib.Decide.{decLt, ℕ-discrete}
 use lib.ListN.{length, set, length-set}
 use lib.IntN.{ℤ, pos, natAbs}
 use borrow.Author.Tests.{lt-ltb}
 use Rattle.sheet.specs.declared.Record.{Record}
-use Rattle.sheet.specs.declared.Range.{Range}
-use Rattle.sheet.specs.declared.Found.{Found}
-use Rattle.sheet.specs.declared.Found.the-variants.{Present, Absent}
-use Rattle.sheet.specs.All.{_and_, allBelow}
+use Rattle.sheet.specs.declared.Found.the-variants.{Present}
 use Rattle.sheet.specs.Names.{chartVariables, isClock}
 use Rattle.sheet.proofs.All.{and-first, and-second, and-true}
 use Rattle.laris.specs.declared.Telegram.{Telegram}
 use Rattle.laris.specs.Fields.{typeAt, numberOr0}
-use Rattle.laris.specs.Shape.{variablesOf}
-use Rattle.laris.specs.Values.{isBelow, isZero, inType, chartOf, firstCell}
+use Rattle.laris.specs.Values.{isBelow, inType, chartOf, firstCell}
 use Rattle.laris.specs.State.{places, cellAt, placeAt, stateLength, wordOf, waiting, telegramOf, putWords, withTelegram, withoutTelegram}
-use Rattle.laris.specs.Valid.{zeroWords, cellFits, telegramFits, headFits, cellsFit, OfSheet}
+use Rattle.laris.specs.Valid.{cellFits, telegramFits, headFits, cellsFit, OfSheet}
 use Rattle.laris.proofs.Fields.{number-present}
 use Rattle.states.proofs.Frame.{Same, zero-from, zero-same, telegram-same, cell-same}
 use Rattle.states.proofs.Words.{length-put, word-put-in, word-put-before, word-put-behind, word-set, word-set-other, with-length, with-head, with-waiting, with-before, with-behind, with-last, with-earlier, without-length, without-head, without-waiting, without-before, without-last, without-closed, without-earlier, without-later}

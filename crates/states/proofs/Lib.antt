@@ -5,3 +5,8 @@ pub mod Parts
 pub mod Kept
 pub mod Passed
 pub mod Default
+pub mod Telegrams
+pub mod Clocks
+pub mod Running
+pub mod Ticks
+pub mod Acts

@@ -1,27 +1,24 @@
 -- What a state of the sheet says of each of its parts, and what is enough for a part.
-use Prim.Native.Nat.{ℕ, zero, suc, _+_, _*_, _-_, _<_, _≤_}
-use mathlib.Core.Path.{_≡_, refl, sym, ap, _∙_}
+use Prim.Native.Nat.{ℕ, _+_, _-_, _<_, _≤_}
+use mathlib.Core.Path.{_≡_, refl, sym, _∙_}
 use mathlib.Core.List.{List}
-use mathlib.Core.Bool.{Bool, true, false, true≢false}
+use mathlib.Core.Bool.{true, true≢false}
 use native.Mathlib.Omega.{arith}
 use lib.ListN.{length}
-use lib.Dec.{ltb}
 use lib.IntN.{ℤ, pos, negsuc, natAbs}
 use borrow.Author.Tests.{ltb-true}
 use Rattle.sheet.specs.declared.Record.{Record}
-use Rattle.sheet.specs.declared.Range.{Range}
 use Rattle.sheet.specs.declared.Found.{Found}
 use Rattle.sheet.specs.declared.Found.the-variants.{Present, Absent}
-use Rattle.sheet.specs.All.{_and_, allBelow}
 use Rattle.sheet.specs.Names.{bindings, chartVariables}
 use Rattle.sheet.specs.Sheet.{countOf}
 use Rattle.sheet.proofs.All.{and-first, and-second, and-true, all-at}
-use Rattle.laris.specs.Fields.{holds, typeAt, externalsOf}
+use Rattle.laris.specs.Fields.{typeAt, externalsOf}
 use Rattle.laris.specs.Values.{isBelow, isZero, chartOf, firstCell}
 use Rattle.laris.specs.State.{places, cellAt, placeAt, stateLength, wordOf, waiting, telegramOf}
 use Rattle.laris.specs.Valid.{zeroWords, cellFits, elementFits, telegramFits, headFits, cellsFit, waitingFit, unusedZero, contentFits, OfSheet}
 use Rattle.laris.proofs.Fields.{holds-present, holds-absent}
-use Rattle.states.proofs.Frame.{Same, all-true}
+use Rattle.states.proofs.Frame.{all-true}
 use Rattle.states.proofs.Elements.{element-number, element-from}
 
 -- ---- words

@@ -1,14 +1,13 @@
 -- The words of a state after a change: one word, some words in a row, a telegram appended, a telegram removed.
-use Prim.Native.Nat.{ℕ, zero, suc, _+_, _*_, _-_, _<_, _≤_}
-use mathlib.Core.Path.{_≡_, refl, sym, ap, _∙_}
+use Prim.Native.Nat.{ℕ, _+_, _-_, _<_, _≤_}
+use mathlib.Core.Path.{_≡_, sym, ap, _∙_}
 use mathlib.Core.Logic.{_≢_}
-use mathlib.Core.List.{List, [], _∷_, _++_}
+use mathlib.Core.List.{List, _++_}
 use native.Mathlib.Omega.{arith}
-use lib.ListN.{length, getD, take, drop, set, replicate, length-append, length-drop, length-set, length-replicate, getD-replicate, List·getD-append}
+use lib.ListN.{length, take, drop, set, replicate, length-append, length-drop, length-set, getD-replicate, List·getD-append}
 use lib.Seq.{length-take-le, getD-take, getD-drop, getD-append-add, getD-set-same, getD-set-other}
 use lib.IntN.{ℤ, pos, natAbs}
 use Rattle.laris.specs.declared.Telegram.{Telegram}
-use Rattle.laris.specs.Shape.{variablesOf}
 use Rattle.laris.specs.State.{places, placeAt, stateLength, wordOf, waiting, setWaiting, telegramIn, telegramOf, wordsOf, putWords, withTelegram, withoutTelegram}
 use Rattle.states.proofs.Frame.{Same, telegram-same}
 

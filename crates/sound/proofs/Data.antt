@@ -1,0 +1,95 @@
+-- Data of a send, an arming or a call are of their declared types, and what is sent fits.
+use Prim.Native.Nat.{ℕ, zero, suc, _+_, _*_, _-_, _<_, _≤_}
+use mathlib.Core.Path.{_≡_, refl, sym, ap, subst, _∙_}
+use mathlib.Core.List.{List, [], _∷_}
+use mathlib.Core.Bool.{Bool, true, false, not}
+use native.Mathlib.Omega.{arith}
+use native.Mathlib.Decide.{decLt}
+use lib.ListN.{length, getD, List·getD-eq-default}
+use lib.Dec.{ltb, leb, eqb}
+use lib.IntN.{ℤ, pos, negsuc, natAbs}
+use lib.Signed.{leZ, ltZ}
+use borrow.Author.Tests.{ltb-true, leb-true, lt-ltb, le-ltb, le-leb, eq-eqb}
+use Rattle.sheet.specs.declared.Record.{Record}
+use Rattle.sheet.specs.declared.Range.{Range}
+use Rattle.sheet.specs.declared.Found.the-variants.{Present, Absent}
+use Rattle.sheet.specs.All.{_and_, allBelow}
+use Rattle.sheet.specs.Names.{names, dataOf, class, external, internal, Component-type, Port-type}
+use Rattle.sheet.specs.Sheet.{countOf, recordOf}
+use Rattle.sheet.proofs.All.{true-false, not-so, and-first, and-second, and-true, and-false, all-at}
+use Rattle.laris.specs.declared.Out.{Out}
+use Rattle.laris.specs.declared.Out.the-variants as out
+use Rattle.laris.specs.declared.Checked.the-variants.{Passed}
+use Rattle.laris.specs.declared.Telegram.{Telegram}
+use Rattle.laris.specs.Fields.{fieldOf, holds, typeAt, componentsOf, externalsOf, portsOf}
+use Rattle.laris.specs.Types.{hasClass, hasReaction, nameRange}
+use Rattle.laris.specs.Shape.{nameShape}
+use Rattle.laris.specs.Values.{isBelow, isZero, inType, isBound, chartOf}
+use Rattle.laris.specs.Valid.{dataFit, nameFits, reactionAwaits, datumOf, internalFits, externalFits, isInternal, telegramFits}
+use Rattle.laris.specs.Eval.{Context}
+use Rattle.laris.specs.Run.{Data, given, refused, stuck, before, nextDatum, dataFrom, datum, telegram}
+use Rattle.laris.specs.Check.{checkOf}
+use Rattle.laris.proofs.Fields.{holds-present}
+use Rattle.passed.specs.Places.{Element}
+use Rattle.passed.proofs.Records.{present-below, name-shape}
+use Rattle.passed.proofs.Charts.{element-chart}
+use Rattle.states.proofs.Frame.{all-true, data-same, name-same}
+use Rattle.states.proofs.Parts.{below-abs, below-pos}
+use Rattle.sound.specs.Gives.{Gives, DataGive}
+
+module _ (s : List ℕ) (g : Range) where
+  one-more : (z : ℤ) (n j : ℕ) (d : Data) → inType s (typeAt s (g .first + j)) z ≡ true → DataGive s g n (suc j) d → DataGive s g (suc n) j (before z d)
+  unfolding before
+  one-more z n j (given zs m) h k = (ap suc (k .0), each)
+    where
+      each : (i : ℕ) → i < suc n → inType s (typeAt s (g .first + (j + i))) (datum (z ∷ zs) i) ≡ true
+      each zero l = let e : g .first + (j + 0) ≡ g .first + j = omega arith in rw e h
+      each (suc i) l = let e : g .first + (j + suc i) ≡ g .first + (suc j + i) = omega arith in rw e (k .1 i (omega arith))
+  one-more z n j (refused q m) h k = k
+  one-more z n j stuck h k = k
+
+  next-gives : (o : Out) (n j : ℕ) (K : ℕ → Data) → Gives s (typeAt s (g .first + j)) o → ((m : ℕ) → DataGive s g n (suc j) (K m)) → DataGive s g (suc n) j (nextDatum o (typeAt s (g .first + j)) K)
+  unfolding nextDatum
+  next-gives (out.Val v m) n j K h k = subst (λ b. DataGive s g (suc n) j (elim b [ true ↦ before (v .word) (K m) | false ↦ stuck ])) (sym (eq-eqb _ _ (h .0))) (one-more (v .word) n j (K m) (h .1) (k m))
+  next-gives (out.Refused q m) n j K h k = h
+  next-gives out.Stuck n j K h k = h
+
+  pub data-gives : (f : ℕ → ℕ → Out) (r : Record) (n j l : ℕ) → ((i m : ℕ) → i < n → Gives s (typeAt s (g .first + (j + i))) (f (fieldOf r (4 + (j + i))) m)) → DataGive s g n j (dataFrom s f g r n j l)
+  unfolding dataFrom
+  data-gives f r zero j l h = (refl, λ i q. absurd (omega arith))
+  data-gives f r (suc n) j l h =
+      let z : j + 0 ≡ j = omega arith in
+      next-gives (f (fieldOf r (4 + j)) l) n j (λ m. dataFrom s f g r n (suc j) m) (rw z at (h 0 l (omega arith)))
+      (λ m. data-gives f r n (suc j) m (λ i k q. let e : j + suc i ≡ suc j + i = omega arith in rw e at (h (suc i) k (omega arith))))
+
+  -- all of a name's or a body's data: "Surplus data are zero"
+  pub data-fit : (zs : List ℤ) (l : ℕ) → g .count ≤ 4 → DataGive s g (g .count) 0 (given zs l) → dataFit s g (datum zs) ≡ true
+  unfolding dataFit isZero
+  data-fit zs l small h = all-true 4 _ (λ j q. elim (decLt j (g .count)) [
+    | yes k ↦ rw (lt-ltb j (g .count) k) (let z : 0 + j ≡ j = omega arith in rw z at (h .1 j k))
+    | no k ↦ rw (le-ltb j (g .count) (omega arith)) (let e : getD zs j (pos 0) ≡ pos 0 = List·getD-eq-default zs (pos 0) (omega (arith, h .0)) in rw e refl)
+  ])
+
+below-in : (k n : ℕ) → k < n → isBelow (pos k) n ≡ true
+unfolding isBelow
+below-in k n h = lt-ltb k n h
+
+module _ (s : List ℕ) (ok : checkOf s ≡ Passed) where
+  -- a name of a class, with data of its types
+  module _ (n k : ℕ) (r : Record) (there : recordOf s names n ≡ Present r) (classed : hasClass s n k ≡ true) (zs : List ℤ) (l : ℕ) (typed : DataGive s (dataOf r) (dataOf r .count) 0 (given zs l)) where
+    range-of : nameRange s n ≡ dataOf r
+    unfolding nameRange
+    range-of = rw (nameRange, there) refl
+
+    few : dataOf r .count ≤ 4
+    unfolding nameShape
+    few = leb-true _ _ (and-first _ _ (and-second _ _ (name-shape s ok n r there)))
+
+    pub name-fits : nameFits s k (pos n) (datum zs) ≡ true
+    unfolding nameFits
+    name-fits = and-true _ _ (below-in n _ (present-below s names n r there)) (and-true _ _ classed (rw range-of (data-fit s (dataOf r) zs l few typed)))
+
+    -- it waits or is armed in an element of a chart that reacts to it
+    pub awaited : (e : ℕ) (b c : Record) → Element s e b c → hasReaction s c n ≡ true → reactionAwaits s e (pos n) ≡ true
+    unfolding reactionAwaits
+    awaited e b c x h = holds-present (chartOf s e) c _ (element-chart s e b c x) ∙ h

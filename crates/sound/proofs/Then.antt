@@ -1,0 +1,78 @@
+-- How parts of a statement follow each other: each keeps what `Ends` says.
+use Prim.Native.Nat.{ℕ, zero, suc, _+_, _<_, _≤_}
+use mathlib.Core.Path.{_≡_, refl, sym, ap, subst, _∙_}
+use mathlib.Core.List.{List, []}
+use mathlib.Core.Bool.{Bool, true, false}
+use native.Mathlib.Omega.{arith}
+use lib.Dec.{ltb, eqb}
+use lib.IntN.{ℤ, pos}
+use lib.Signed.{leZ}
+use borrow.Author.Tests.{ltb-true, eqb-true, eq-eqb}
+use Rattle.sheet.specs.declared.Record.{Record}
+use Rattle.sheet.specs.declared.Range.{Range}
+use Rattle.sheet.specs.declared.Found.{Found}
+use Rattle.sheet.specs.declared.Found.the-variants.{Present, Absent}
+use Rattle.sheet.proofs.All.{true-false}
+use Rattle.laris.specs.declared.Out.{Out}
+use Rattle.laris.specs.declared.Out.the-variants as out
+use Rattle.laris.specs.declared.Ran.{Ran}
+use Rattle.laris.specs.declared.Ran.the-variants.{Done, Refused, Stuck}
+use Rattle.laris.specs.declared.Telegram.{Telegram}
+use Rattle.laris.specs.Values.{inType}
+use Rattle.laris.specs.State.{places, waiting}
+use Rattle.laris.specs.Valid.{telegramFits, OfSheet}
+use Rattle.laris.specs.Eval.{Context}
+use Rattle.laris.specs.Run.{World, world, goOn, thenRun, thenValue, withRecord, provided, Data, given, refused, stuck, thenData, append}
+use Rattle.equations.proofs.Left.{Within, DataWithin, RanWithin}
+use Rattle.passed.specs.Places.{Locals}
+use Rattle.states.proofs.Kept.{telegram-kept}
+use Rattle.sound.specs.Gives.{Gives, DataGive, Ends, Refusal}
+
+module _ (s : List ℕ) (x : Context) where
+  abbrev pub Good : World → Type 0
+  Good w = Ends s x (w .ran) (w .st) (w .lo)
+
+  pub value-ends : (o : Out) (t l : ℕ) (st lo : List ℤ) (K : ℤ → ℕ → World) → Gives s t o → Within l o → ((z : ℤ) (m : ℕ) → inType s t z ≡ true → m < l → Good (K z m)) → Good (thenValue o t st lo K)
+  unfolding thenValue
+  value-ends (out.Val v m) t l st lo K h w k = subst (λ b. Good (elim b [ true ↦ K (v .word) m | false ↦ world Stuck st lo ])) (sym (eq-eqb _ _ (h .0))) (k (v .word) m (h .1) w)
+  value-ends (out.Refused n m) t l st lo K h w k = h
+  value-ends out.Stuck t l st lo K h w k = absurd h
+
+  pub data-ends : (g : Range) (n l : ℕ) (d : Data) (st lo : List ℤ) (K : List ℤ → ℕ → World) → DataGive s g n 0 d → DataWithin l d → ((zs : List ℤ) (m : ℕ) → DataGive s g n 0 (given zs m) → m ≤ l → Good (K zs m)) → Good (thenData d st lo K)
+  unfolding thenData
+  data-ends g n l (given zs m) st lo K h w k = k zs m h w
+  data-ends g n l (refused q m) st lo K h w k = h
+  data-ends g n l stuck st lo K h w k = absurd h
+
+  pub run-ends : (l : ℕ) (o : Ran) (st lo : List ℤ) (K : ℕ → List ℤ → List ℤ → World) → Ends s x o st lo → RanWithin l o → ((m : ℕ) → OfSheet s st → Locals s x lo → m < l → Good (K m st lo)) → Good (goOn o st lo K)
+  unfolding goOn
+  run-ends l (Done m) st lo K h w k = k m (h .0) (h .1) w
+  run-ends l (Refused q m) st lo K h w k = h
+  run-ends l Stuck st lo K h w k = absurd h
+
+  pub record-ends : (f : Found) (r : Record) (st lo : List ℤ) (K : Record → World) → f ≡ Present r → Good (K r) → Good (withRecord f st lo K)
+  unfolding withRecord
+  record-ends (Present q) r st lo K e h = subst (λ r. Good (K r)) (sym (ap (get r) e)) h
+    where
+      get : Record → Found → Record
+      get d (Present a) = a
+      get d Absent = d
+  record-ends Absent r st lo K e h = absurd (true-false {b = false} (ap there e) refl)
+    where
+      there : Found → Bool
+      there (Present a) = true
+      there Absent = false
+
+  pub provided-ends : (b : Bool) (st lo : List ℤ) (w : World) → b ≡ true → Good w → Good (provided b st lo w)
+  unfolding provided
+  provided-ends true st lo w e h = h
+  provided-ends false st lo w e h = absurd (true-false e refl)
+
+  pub either-ends : (b : Bool) (w w′ : World) → (b ≡ true → Good w) → (b ≡ false → Good w′) → Good (elim b [ true ↦ w | false ↦ w′ ])
+  either-ends true w w′ h k = h refl
+  either-ends false w w′ h k = k refl
+
+  -- "128 telegrams wait and one more is appended": 8
+  pub append-ends : (t : Telegram) (l : ℕ) (st lo : List ℤ) → OfSheet s st → Locals s x lo → telegramFits s t ≡ true → Good (append s t l st lo)
+  unfolding append
+  append-ends t l st lo o k h = either-ends (ltb (waiting st) places) _ _ (λ q. (telegram-kept s st o t (ltb-true _ _ q) h, k)) (λ q. (omega arith, omega arith))

@@ -1,0 +1,64 @@
+-- Each act of a statement leaves a state of the sheet.
+use Prim.Native.Nat.{ℕ, _+_, _<_}
+use mathlib.Core.Path.{_≡_, refl}
+use mathlib.Core.List.{List, _∷_}
+use mathlib.Core.Bool.{Bool, true, false}
+use lib.ListN.{getD, replicate}
+use lib.Dec.{ltb, eqb}
+use lib.IntN.{ℤ, pos}
+use lib.Signed.{leZ}
+use borrow.Author.Tests.{ltb-true, eqb-true}
+use Rattle.sheet.specs.declared.Record.{Record}
+use Rattle.sheet.specs.declared.Found.the-variants.{Present}
+use Rattle.sheet.specs.Names.{internal, chartVariables, chartVariable, bodyVariable, Timer-type, isClock}
+use Rattle.laris.specs.declared.Telegram.{Telegram}
+use Rattle.laris.specs.Fields.{typeAt}
+use Rattle.laris.specs.Values.{fits32, inType, chartOf, firstCell}
+use Rattle.laris.specs.State.{places, cellAt, waiting}
+use Rattle.laris.specs.Valid.{nameFits, reactionAwaits, telegramFits, OfSheet}
+use Rattle.laris.specs.Eval.{Context, variableAtCell}
+use Rattle.laris.specs.Run.{append, armed, clockSet, assigned}
+use Rattle.states.proofs.Kept.{cell-put, data-set, telegram-kept}
+use Rattle.states.proofs.Clocks.{stopped-fits, started-fits, armed-fits, armed-value}
+
+pub append-kept : (s : List ℕ) (st : List ℤ) → OfSheet s st → (t : Telegram) → telegramFits s t ≡ true → (l : ℕ) (lo : List ℤ) → OfSheet s (append s t l st lo .st)
+unfolding append
+append-kept s st o t h l lo = go (ltb (waiting st) places) refl
+  where
+    go : (b : Bool) → ltb (waiting st) places ≡ b → OfSheet s (append s t l st lo .st)
+    go true q = rw (append, q) (telegram-kept s st o t (ltb-true (waiting st) places q) h)
+    go false q = rw (append, q) o
+
+-- the variable j of element e
+module _ (s : List ℕ) (st : List ℤ) (o : OfSheet s st) (e : ℕ) (c : Record) (p : chartOf s e ≡ Present c) (j : ℕ) (m : j < chartVariables c .count) where
+  abbrev cell : ℕ
+  cell = cellAt (firstCell s e + j)
+
+  abbrev kind : ℕ
+  kind = typeAt s (chartVariables c .first + j)
+
+  pub armed-kept : isClock kind ≡ true → eqb kind Timer-type ≡ false → (period : ℤ) → fits32 period ≡ true → (n : ℕ) (zs : List ℤ) → nameFits s internal (pos n) (λ j. getD zs j (pos 0)) ≡ true → reactionAwaits s e (pos n) ≡ true → (l : ℕ) (lo : List ℤ) → OfSheet s (armed cell kind period n zs l st lo .st)
+  unfolding armed
+  armed-kept k t period f n zs h a l lo = go (leZ (pos 1) period) refl
+    where
+      go : (b : Bool) → leZ (pos 1) period ≡ b → OfSheet s (armed cell kind period n zs l st lo .st)
+      go true q = rw (armed, q) (cell-put s st o e c p j m _ refl (armed-fits s e kind k t _ period n zs (armed-value kind period f t q) h a))
+      go false q = rw (armed, q) o
+
+  pub stopped-kept : isClock kind ≡ true → (l : ℕ) (lo : List ℤ) → OfSheet s (clockSet cell (pos 0) l st lo .st)
+  unfolding clockSet
+  stopped-kept k l lo = cell-put s st o e c p j m (pos 0 ∷ replicate 7 (pos 0)) refl (stopped-fits s e kind k)
+
+  pub started-kept : kind ≡ Timer-type → (l : ℕ) (lo : List ℤ) → OfSheet s (clockSet cell (pos 1) l st lo .st)
+  unfolding clockSet
+  started-kept k l lo = cell-put s st o e c p j m (pos 1 ∷ replicate 7 (pos 0)) refl (started-fits s e kind k)
+
+-- an assignment changes the state only where the place is a variable of the chart
+pub assigned-kept : (s : List ℕ) (x : Context) (st : List ℤ) → OfSheet s st → chartOf s (x .element) ≡ Present (x .chart) → (place n : ℕ) (z : ℤ) → (place ≡ chartVariable → n < chartVariables (x .chart) .count) → (place ≡ chartVariable → isClock (typeAt s (chartVariables (x .chart) .first + n)) ≡ false) → (place ≡ chartVariable → inType s (typeAt s (chartVariables (x .chart) .first + n)) z ≡ true) → (l : ℕ) (lo : List ℤ) → OfSheet s (assigned s x place n z l st lo .st)
+unfolding assigned variableAtCell
+assigned-kept s x st o p place n z h k t l lo = go (eqb place chartVariable) (eqb place bodyVariable) refl refl
+  where
+    go : (a b : Bool) → eqb place chartVariable ≡ a → eqb place bodyVariable ≡ b → OfSheet s (assigned s x place n z l st lo .st)
+    go true b q r = let e : place ≡ chartVariable = eqb-true place chartVariable q in rw (assigned, q) (data-set s st o (x .element) (x .chart) p n (h e) z (k e) (t e))
+    go false true q r = rw (assigned, q, r) o
+    go false false q r = rw (assigned, q, r) o
