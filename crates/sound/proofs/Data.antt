@@ -74,20 +74,21 @@ below-in : (k n : ℕ) → k < n → isBelow (pos k) n ≡ true
 unfolding isBelow
 below-in k n h = lt-ltb k n h
 
+-- the data of a name that is there
+pub range-of : (s : List ℕ) (n : ℕ) (r : Record) → recordOf s names n ≡ Present r → nameRange s n ≡ dataOf r
+unfolding nameRange
+range-of s n r e = rw (nameRange, e) refl
+
 module _ (s : List ℕ) (ok : checkOf s ≡ Passed) where
   -- a name of a class, with data of its types
   module _ (n k : ℕ) (r : Record) (there : recordOf s names n ≡ Present r) (classed : hasClass s n k ≡ true) (zs : List ℤ) (l : ℕ) (typed : DataGive s (dataOf r) (dataOf r .count) 0 (given zs l)) where
-    range-of : nameRange s n ≡ dataOf r
-    unfolding nameRange
-    range-of = rw (nameRange, there) refl
-
     few : dataOf r .count ≤ 4
     unfolding nameShape
     few = leb-true _ _ (and-first _ _ (and-second _ _ (name-shape s ok n r there)))
 
     pub name-fits : nameFits s k (pos n) (datum zs) ≡ true
     unfolding nameFits
-    name-fits = and-true _ _ (below-in n _ (present-below s names n r there)) (and-true _ _ classed (rw range-of (data-fit s (dataOf r) zs l few typed)))
+    name-fits = and-true _ _ (below-in n _ (present-below s names n r there)) (and-true _ _ classed (rw (range-of s n r there) (data-fit s (dataOf r) zs l few typed)))
 
     -- it waits or is armed in an element of a chart that reacts to it
     pub awaited : (e : ℕ) (b c : Record) → Element s e b c → hasReaction s c n ≡ true → reactionAwaits s e (pos n) ≡ true

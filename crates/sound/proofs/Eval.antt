@@ -80,7 +80,7 @@ module _ (s : List ℕ) (ok : checkOf s ≡ Passed) (x : Context) (placed : Plac
     local-gives : n < bodyParameters (x .body) .count + bodyLocals (x .body) .count → typeAt s (variableAt (x .chart) (x .body) Names.bodyVariable n) ≡ t → Gives s t (within s (val t (wordOf lo n)) l)
     local-gives h e = value-within s t _ l refl (rw e at (locals .holds n h))
 
-  no-place : (k : ℕ) → variablesAt (x .chart) (x .body) (suc (suc (suc k))) ≡ 0
+  pub no-place : (k : ℕ) → variablesAt (x .chart) (x .body) (suc (suc (suc k))) ≡ 0
   unfolding variablesAt
   no-place k = rw (variablesAt, ne-eqb (suc (suc (suc k))) 0 (λ q. absurd (omega arith)), ne-eqb (suc (suc (suc k))) 1 (λ q. absurd (omega arith)), ne-eqb (suc (suc (suc k))) 2 (λ q. absurd (omega arith))) refl
 
@@ -179,7 +179,7 @@ module _ (s : List ℕ) (ok : checkOf s ≡ Passed) (x : Context) (placed : Plac
     act-gives sequence t l h o e = no-statement (asked _ _ e .1)
     act-gives unknown t l h o e = not-wrong e
 
-  type-at : (n : ℕ) (r : Record) → recordOf s nodes n ≡ Present r → typeOf s (x .chart) (x .body) n ≡ typeIn s (x .chart) (x .body) (lowerType n (typeOf s (x .chart) (x .body))) r (formOf (operator r))
+  pub type-at : (n : ℕ) (r : Record) → recordOf s nodes n ≡ Present r → typeOf s (x .chart) (x .body) n ≡ typeIn s (x .chart) (x .body) (lowerType n (typeOf s (x .chart) (x .body))) r (formOf (operator r))
   unfolding typeStep
   type-at n r e = type-step s (x .chart) (x .body) n ∙ rw (typeStep, e) refl
 

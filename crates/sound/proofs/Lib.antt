@@ -4,3 +4,4 @@ pub mod Data
 pub mod Locals
 pub mod Then
 pub mod Armed
+pub mod Run

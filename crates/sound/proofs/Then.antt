@@ -76,3 +76,8 @@ module _ (s : List ℕ) (x : Context) where
   pub append-ends : (t : Telegram) (l : ℕ) (st lo : List ℤ) → OfSheet s st → Locals s x lo → telegramFits s t ≡ true → Good (append s t l st lo)
   unfolding append
   append-ends t l st lo o k h = either-ends (ltb (waiting st) places) _ _ (λ q. (telegram-kept s st o t (ltb-true _ _ q) h, k)) (λ q. (omega arith, omega arith))
+
+  -- done with a state that is kept, or refused
+  pub kept-ends : (b : Bool) (l k : ℕ) (st st′ lo : List ℤ) → OfSheet s ((elim b as (λ b. World) [ true ↦ world (Done l) st′ lo | false ↦ world (Refused k l) st lo ]) .st) → Locals s x lo → Refusal k → Good (elim b [ true ↦ world (Done l) st′ lo | false ↦ world (Refused k l) st lo ])
+  kept-ends true l k st st′ lo o h r = (o, h)
+  kept-ends false l k st st′ lo o h r = r
