@@ -11,3 +11,4 @@ pub mod Valid
 pub mod Eval
 pub mod Run
 pub mod Play
+pub mod Lists

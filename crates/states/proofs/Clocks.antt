@@ -138,7 +138,7 @@ module _ (s : List ℕ) (e t : ℕ) (st : List ℤ) (at : ℕ) where
     unfolding runningClock
     timer-runs q = and-first _ _ (and-second _ _ (and-second _ _ (rw (runningClock, q) at h)))
 
-    pub timer-zeros : eqb t Timer-type ≡ true → zeroWords st at 2 ≡ true
+    timer-zeros : eqb t Timer-type ≡ true → zeroWords st at 2 ≡ true
     unfolding runningClock
     timer-zeros q = and-second _ _ (and-second _ _ (and-second _ _ (rw (runningClock, q) at h)))
 
@@ -150,11 +150,11 @@ module _ (s : List ℕ) (e t : ℕ) (st : List ℤ) (at : ℕ) where
     unfolding runningClock
     cycler-runs n q = and-first _ _ (and-second _ _ (and-second _ _ (rw (runningClock, n, q) at h)))
 
-    pub clock-name : eqb t Timer-type ≡ false → nameFits s internal (wordOf st (at + 3)) (λ j. wordOf st (at + 4 + j)) ≡ true
+    clock-name : eqb t Timer-type ≡ false → nameFits s internal (wordOf st (at + 3)) (λ j. wordOf st (at + 4 + j)) ≡ true
     unfolding runningClock
     clock-name n = and-first _ _ (and-second _ _ (and-second _ _ (and-second _ _ (rw (runningClock, n) at h))))
 
-    pub clock-awaits : eqb t Timer-type ≡ false → reactionAwaits s e (wordOf st (at + 3)) ≡ true
+    clock-awaits : eqb t Timer-type ≡ false → reactionAwaits s e (wordOf st (at + 3)) ≡ true
     unfolding runningClock
     clock-awaits n = and-second _ _ (and-second _ _ (and-second _ _ (and-second _ _ (rw (runningClock, n) at h))))
 
@@ -166,7 +166,7 @@ named-runs s e t st at n v h a = go (eqb t Timeout-type) refl
     go true q = let w = rw (valueFits, n, q) at v in rw (runningClock, n, q) (and-true _ _ (and-first _ _ w) (and-true _ _ (and-first _ _ (and-second _ _ w)) (and-true _ _ (and-second _ _ (and-second _ _ w)) (and-true _ _ h a))))
     go false q = let w = rw (valueFits, n, q) at v in rw (runningClock, n, q) (and-true _ _ (and-first _ _ w) (and-true _ _ (and-first _ _ (and-second _ _ w)) (and-true _ _ (and-second _ _ (and-second _ _ w)) (and-true _ _ h a))))
 
-pub clock-fits : (s : List ℕ) (e t : ℕ) (st : List ℤ) (at : ℕ) → isClock t ≡ true → isZero (wordOf st at) ≡ false → isBelow (wordOf st at) 2 ≡ true → runningClock s e t st at ≡ true → cellFits s e t st at ≡ true
+clock-fits : (s : List ℕ) (e t : ℕ) (st : List ℤ) (at : ℕ) → isClock t ≡ true → isZero (wordOf st at) ≡ false → isBelow (wordOf st at) 2 ≡ true → runningClock s e t st at ≡ true → cellFits s e t st at ≡ true
 unfolding cellFits clockCell
 clock-fits s e t st at c z b h = rw (cellFits, c, clockCell, z) (and-true _ _ b h)
 

@@ -23,7 +23,6 @@ use Rattle.laris.specs.State.{places, cellAt, placeAt, stateLength, wordOf, wai
 use Rattle.laris.specs.Valid.{zeroWords, clockCell, cellFits, headFits, OfSheet}
 use Rattle.laris.specs.Play.{defaultCell, defaultCells, elementCells, cellsFrom, defaultState}
 use Rattle.laris.proofs.Fields.{holds-present, holds-absent, sum-more}
-use Rattle.passed.specs.Places.{Element}
 use Rattle.passed.proofs.Records.{elements-bound}
 use Rattle.passed.proofs.Charts.{element-chart, bound-element}
 use Rattle.states.proofs.Frame.{Same, cell-same}

@@ -1,23 +1,20 @@
 -- Where the cells of an element lie: in the state, and apart from the cells of others.
 use Prim.Native.Nat.{ℕ, zero, suc, _+_, _-_, _<_, _≤_}
-use mathlib.Core.Path.{_≡_, refl, sym, ap, _∙_}
+use mathlib.Core.Path.{_≡_, ap, _∙_}
 use mathlib.Core.List.{List}
-use mathlib.Core.Bool.{Bool, true, false, true≢false}
+use mathlib.Core.Bool.{true}
 use native.Mathlib.Omega.{arith}
 use native.Mathlib.Decide.{decLt}
 use borrow.Author.Tests.{leb-true, ltb-true}
 use Rattle.sheet.specs.declared.Record.{Record}
-use Rattle.sheet.specs.declared.Found.{Found}
-use Rattle.sheet.specs.declared.Found.the-variants.{Present, Absent}
+use Rattle.sheet.specs.declared.Found.the-variants.{Present}
 use Rattle.sheet.specs.Names.{charts, bindings, chartVariables, boundChart}
 use Rattle.sheet.specs.Sheet.{countOf, recordOf}
 use Rattle.sheet.proofs.All.{and-first, and-second}
-use Rattle.sheet.proofs.Sheet.{record-absent}
-use Rattle.laris.specs.Fields.{holds, numberOr0, sumBelow, componentsOf, externalsOf}
+use Rattle.laris.specs.Fields.{sumBelow, componentsOf, externalsOf}
 use Rattle.laris.specs.Shape.{variablesBound, variablesOf}
-use Rattle.laris.specs.Values.{isBound, bindingOf, chartOf, firstCell}
+use Rattle.laris.specs.Values.{isBound, chartOf, firstCell}
 use Rattle.laris.proofs.Fields.{number-present}
-use Rattle.passed.specs.Places.{Element}
 use Rattle.passed.proofs.Records.{present-below}
 use Rattle.passed.proofs.Charts.{chart-element}
 

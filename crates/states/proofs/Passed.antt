@@ -1,27 +1,25 @@
 -- Defaults are of their types, on a passed sheet; the variables of an element are declared.
 use Prim.Native.Nat.{ℕ, zero, suc, _+_, _*_, _-_, _<_, _≤_}
-use mathlib.Core.Path.{_≡_, refl, sym, ap, _∙_}
+use mathlib.Core.Path.{_≡_, refl}
 use mathlib.Core.List.{List}
 use mathlib.Core.Bool.{Bool, true, false}
 use native.Mathlib.Omega.{arith}
 use lib.Dec.{ltb, leb}
 use lib.IntN.{ℤ, pos}
-use borrow.Author.Tests.{ltb-true, leb-true, eqb-true, lt-ltb, le-leb, ne-eqb}
+use borrow.Author.Tests.{ltb-true, leb-true, lt-ltb, le-leb, ne-eqb}
 use Rattle.sheet.specs.declared.Record.{Record}
-use Rattle.sheet.specs.declared.Found.the-variants.{Present, Absent}
+use Rattle.sheet.specs.declared.Found.the-variants.{Present}
 use Rattle.sheet.specs.All.{_and_}
-use Rattle.sheet.specs.Names.{head, enumeratedTypes, declarations, charts, bindings, components, externals, ports, size, defaultMember, declaredType, chartVariables, boundChart, isClock}
+use Rattle.sheet.specs.Names.{enumeratedTypes, declarations, size, defaultMember, chartVariables, boundChart, isClock}
 use Rattle.sheet.specs.Sheet.{countOf, recordOf, recordAt, offsetOf}
-use Rattle.sheet.proofs.All.{true-false, and-first, and-second, and-true, all-at}
+use Rattle.sheet.proofs.All.{true-false, and-first, and-second, and-true}
 use Rattle.sheet.proofs.Sheet.{record-present}
-use Rattle.laris.specs.declared.Checked.the-variants.{Passed, Shape, Static}
-use Rattle.laris.specs.Fields.{holds, numberOr0, typeAt, componentsOf, externalsOf, portsOf, inSection}
-use Rattle.laris.specs.Shape.{headShape, enumeratedShape, typeExists, declarationShape, chartShape, bindingShape, elementsBound, variablesOf, recordShape, sectionShape}
-use Rattle.laris.specs.Static.{static}
-use Rattle.laris.specs.Check.{shape, sectionsShape, checkOf, checkNumber}
-use Rattle.laris.specs.Values.{isBelow, fits32, inType, defaultOf, membersOf, isBound, bindingOf, chartOf}
-use Rattle.laris.proofs.Fields.{holds-present, holds-absent, number-present}
-use Rattle.passed.specs.Places.{Element}
+use Rattle.laris.specs.declared.Checked.the-variants.{Passed}
+use Rattle.laris.specs.Fields.{numberOr0, typeAt, componentsOf, portsOf, inSection}
+use Rattle.laris.specs.Shape.{enumeratedShape, typeExists, chartShape}
+use Rattle.laris.specs.Check.{checkOf}
+use Rattle.laris.specs.Values.{isBelow, fits32, inType, defaultOf, membersOf, chartOf}
+use Rattle.laris.proofs.Fields.{number-present}
 use Rattle.passed.proofs.Records.{type-shape, chart-shape, two-externals, externals-components, two-ports, declared-exists}
 use Rattle.passed.proofs.Charts.{chart-element}
 

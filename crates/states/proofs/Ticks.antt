@@ -113,7 +113,7 @@ module _ (s : List ℕ) (st : List ℤ) (o : OfSheet s st) (e : ℕ) (c : Record
             let f : ticks s e kind cell st ≡ on (set st (cell + 1) (wordOf st (cell + 1) -ℤ pos 1)) = rw (ticks, a, b, q) refl in
             rw f (value-set s st o e c p j l clock runs _ (cycler-fits kind _ _ (period-int s e kind st cell (is-running s st o e c p j l clock runs)) a b (cycler-value (wordOf st (cell + 1)) (wordOf st (cell + 2)) (cycler-runs s e kind st cell (is-running s st o e c p j l clock runs) a b) q)))
 
-    pub tick-kept : SliceKept s (ticks s e kind cell st)
+    tick-kept : SliceKept s (ticks s e kind cell st)
     tick-kept = go (eqb kind Timer-type) (eqb kind Timeout-type) refl refl
       where
         go : (a b : Bool) → eqb kind Timer-type ≡ a → eqb kind Timeout-type ≡ b → SliceKept s (ticks s e kind cell st)
@@ -122,7 +122,7 @@ module _ (s : List ℕ) (st : List ℤ) (o : OfSheet s st) (e : ℕ) (c : Record
         go false false p q = tick-cycler p q
 
   -- "stopped ones passed over"
-  pub cell-sliced : SliceKept s (slicedCell s e kind cell st)
+  cell-sliced : SliceKept s (slicedCell s e kind cell st)
   unfolding slicedCell
   cell-sliced = go (isClock kind and not (isZero (wordOf st cell))) refl
     where
@@ -154,7 +154,7 @@ module _ (s : List ℕ) where
           rw f (rw (d, i) at (cells-sliced e c p (chartVariables c .count) 0 (omega arith) st o))
       go Absent p = let f : slicedElement s e st ≡ on st = rw (slicedElement, p) refl in rw f o
 
-  pub elements-sliced : (n e : ℕ) (st : List ℤ) → OfSheet s st → SliceKept s (slicedFrom s n e st)
+  elements-sliced : (n e : ℕ) (st : List ℤ) → OfSheet s st → SliceKept s (slicedFrom s n e st)
   unfolding slicedFrom
   elements-sliced zero e st o = o
   elements-sliced (suc n) e st o = then-kept s _ _ (element-sliced e st o) (elements-sliced n (suc e))

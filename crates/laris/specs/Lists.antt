@@ -1,0 +1,30 @@
+-- A whole list of events.
+use mathlib.Core.List.{List, [], _∷_}
+use mathlib.Core.Bool.{Bool, true, false}
+use lib.Dec.{eqb}
+use lib.IntN.{ℤ}
+use Prim.Native.Nat.{ℕ}
+use Rattle.laris.specs.declared.Answer.{Answer}
+use Rattle.laris.specs.Play.{Outcome, ended, stuck, eventCall}
+
+-- What a list comes to: the answers in order and the state that the last accepted event left; or the machine is stuck.
+pub data Played : Type 0 where
+  played : List Answer → List ℤ → Played
+  nowhere : Played
+
+unfoldable pub thenPlayed : Outcome → (Answer → List ℤ → Played) → Played
+thenPlayed (ended a st) K = K a st
+thenPlayed stuck K = nowhere
+
+unfoldable pub afterAnswer : Answer → Played → Played
+afterAnswer a (played answers st) = played (a ∷ answers) st
+afterAnswer a nowhere = nowhere
+
+-- "A list goes on from the last accepted state": "Accepted is answer 0"
+unfoldable pub goesOn : Answer → List ℤ → List ℤ → List ℤ
+goesOn a old new = elim (eqb (a .number) 0) [ true ↦ new | false ↦ old ]
+
+-- "Each event gets the same sheet .. and the state that the last accepted one (or start) left": here it lends that state's words as the result too
+unfoldable pub eventsOf : List ℕ → List ℤ → List (List ℤ) → Played
+eventsOf s st [] = played [] st
+eventsOf s st (ev ∷ evs) = thenPlayed (eventCall s st st ev) (λ a new. afterAnswer a (eventsOf s (goesOn a st new) evs))

@@ -1,0 +1,172 @@
+-- Every event on a state of the sheet keeps it so, and is not stuck.
+use Prim.Native.Nat.{ℕ, zero, suc, _+_, _-_, _<_, _≤_}
+use mathlib.Core.Path.{_≡_, refl, sym, ap, subst, _∙_}
+use mathlib.Core.List.{List, [], _∷_}
+use mathlib.Core.Logic.{_⊎_, inl, inr}
+use mathlib.Core.Bool.{Bool, true, false, not}
+use native.Mathlib.Omega.{arith}
+use lib.ListN.{length}
+use lib.Dec.{ltb, leb, eqb}
+use lib.IntN.{ℤ, pos, negsuc, natAbs}
+use lib.Signed.{leZ, ltZ}
+use borrow.Author.Tests.{ltb-true, ltb-false, leb-true, eqb-true, lt-ltb, le-leb, eq-eqb, not-true}
+use Rattle.sheet.specs.declared.Record.{Record}
+use Rattle.sheet.specs.declared.Found.{Found}
+use Rattle.sheet.specs.declared.Found.the-variants.{Present, Absent}
+use Rattle.sheet.specs.All.{_and_}
+use Rattle.sheet.specs.Names.{bindings, external, internal, role, externalReaction, internalReaction, reactionName}
+use Rattle.sheet.specs.Sheet.{countOf}
+use Rattle.sheet.proofs.All.{true-false, not-so, and-first, and-second, and-true, false-and}
+use Rattle.laris.specs.declared.Checked.the-variants.{Passed}
+use Rattle.laris.specs.declared.Telegram.{Telegram}
+use Rattle.laris.specs.declared.Handed.the-variants.{Nothing, Outside}
+use Rattle.laris.specs.Fields.{holds, componentsOf, externalsOf, portsOf}
+use Rattle.laris.specs.Shape.{isReaction}
+use Rattle.laris.specs.Types.{nameRange, reactsTo, hasReaction}
+use Rattle.laris.specs.Values.{isBelow, isBound, chartOf}
+use Rattle.laris.specs.State.{places, stateLength, wordOf, waiting, telegramOf, withTelegram, withoutTelegram}
+use Rattle.laris.specs.Valid.{dataFit, nameFits, reactionAwaits, datumOf, isInternal, internalFits, externalFits, telegramFits, contentFits, OfSheet}
+use Rattle.laris.specs.Eval.{sameWord}
+use Rattle.laris.specs.Play.{Outcome, ended, stuck, answer, bodyWhere, reactsOn, elementBody, oldestFrom, oldest, goesFrom, innerOf, taking, reacting, panicking, outside, delivered, deliver, corrupt, inner, Sliced, on, off, slicedFrom, sliceEnd, slice, boundWord, wellFormed, isEvent, telegramOfEvent, happens, turnedDown, ifPassed, eventCall}
+use Rattle.laris.specs.Check.{checkOf}
+use Rattle.laris.proofs.Fields.{holds-present}
+use Rattle.passed.specs.Places.{InChart, Element}
+use Rattle.passed.proofs.Records.{held, externals-components}
+use Rattle.passed.proofs.Charts.{bound-element, element-chart, where-found, reaction-there}
+use Rattle.states.proofs.Parts.{below-abs, below-pos, content-of, of-content, telegram-of}
+use Rattle.states.proofs.Kept.{telegram-kept, removed-kept}
+use Rattle.states.proofs.Telegrams.{external-fits}
+use Rattle.states.proofs.Ticks.{SliceKept, slice-kept}
+use Rattle.promise.specs.Promise.{OneOf, EventKept}
+use Rattle.promise.proofs.Bodies.{body-of, reacting-kept, panicking-kept}
+
+-- ---- words
+
+pub same-word : (a b : ℤ) → sameWord a b ≡ true → a ≡ b
+same-word (pos a) (pos b) e = ap pos (let h = leb-true a b (and-first _ _ e) in let k = leb-true b a (and-second _ _ e) in omega arith)
+same-word (pos a) (negsuc b) e = absurd (true-false (and-first _ _ e) refl)
+same-word (negsuc a) (pos b) e = absurd (true-false (and-second _ _ e) refl)
+same-word (negsuc a) (negsuc b) e = ap negsuc (let h = leb-true b a (and-first _ _ e) in let k = leb-true a b (and-second _ _ e) in omega arith)
+
+-- a component that is not external is bound
+pub bound-word : (s : List ℕ) (z : ℤ) → isBelow z (componentsOf s) ≡ true → isBelow z (externalsOf s) ≡ false → isBound s (natAbs z) ≡ true
+unfolding isBound isBelow
+bound-word s (pos k) h n = and-true _ _ (le-leb (externalsOf s) k (ltb-false k (externalsOf s) n)) h
+bound-word s (negsuc k) h n = absurd (true-false h refl)
+
+-- ---- the oldest telegram
+
+module _ (s : List ℕ) (st : List ℤ) (p : Telegram → Bool) where
+  meets-from : (n j : ℕ) → oldestFrom s st p n j < j + n → p (telegramOf s st (oldestFrom s st p n j)) ≡ true
+  unfolding oldestFrom
+  meets-from zero j h = absurd (omega arith)
+  meets-from (suc n) j h = go (meets-from n (suc j)) (p (telegramOf s st j)) refl h
+    where
+      go : (oldestFrom s st p n (suc j) < suc j + n → p (telegramOf s st (oldestFrom s st p n (suc j))) ≡ true) → (t : Bool) → p (telegramOf s st j) ≡ t → elim t [ true ↦ j | false ↦ oldestFrom s st p n (suc j) ] < j + suc n → p (telegramOf s st (elim t [ true ↦ j | false ↦ oldestFrom s st p n (suc j) ])) ≡ true
+      go later true q h = q
+      go later false q h = later (omega arith)
+
+  pub oldest-meets : oldest s st p < waiting st → p (telegramOf s st (oldest s st p)) ≡ true
+  unfolding oldest
+  oldest-meets h = meets-from (waiting st) 0 (omega arith)
+
+-- "no such telegram waits": 5
+pub taking-kept : (s : List ℕ) (st : List ℤ) → OfSheet s st → (p : Telegram → Bool) (K : Telegram → List ℤ → Outcome) → ((t : Telegram) (st′ : List ℤ) → telegramFits s t ≡ true → p t ≡ true → OfSheet s st′ → EventKept s st (K t st′)) → EventKept s st (taking s st p K)
+unfolding taking
+taking-kept s st o p K h = go (ltb (oldest s st p) (waiting st)) refl
+  where
+    go : (b : Bool) → ltb (oldest s st p) (waiting st) ≡ b → EventKept s st (elim b [ true ↦ K (telegramOf s st (oldest s st p)) (withoutTelegram s st (oldest s st p)) | false ↦ ended (answer 5 0 Nothing) st ])
+    go true q = let l = ltb-true _ _ q in h _ _ (telegram-of s st o _ l) (oldest-meets s st p l) (removed-kept s st o _ l)
+    go false q = (inr (omega arith, omega arith), λ z. absurd (omega arith), λ n. refl)
+
+module _ (s : List ℕ) (ok : checkOf s ≡ Passed) where
+  -- ---- the parts of a telegram that fits
+
+  receiver-below : (t : Telegram) → telegramFits s t ≡ true → isBelow (t .receiver) (componentsOf s) ≡ true
+  unfolding telegramFits
+  receiver-below t h = and-first _ _ (and-second _ _ h)
+
+  external-part : (t : Telegram) → telegramFits s t ≡ true → isInternal t ≡ false → externalFits s t ≡ true
+  unfolding telegramFits
+  external-part t h n = rw n at (and-second _ _ (and-second _ _ h))
+
+  internal-part : (t : Telegram) → telegramFits s t ≡ true → isInternal t ≡ true → internalFits s t ≡ true
+  unfolding telegramFits
+  internal-part t h i = rw i at (and-second _ _ (and-second _ _ h))
+
+  -- ---- 1 Outside
+
+  outside-kept : (st : List ℤ) → OfSheet s st → (t : Telegram) → telegramFits s t ≡ true → EventKept s st (outside s st t)
+  unfolding outside
+  outside-kept st o t h = go (ltb (waiting st) places) refl
+    where
+      go : (b : Bool) → ltb (waiting st) places ≡ b → EventKept s st (elim b [ true ↦ ended (answer 0 0 Nothing) (withTelegram s st t) | false ↦ ended (answer 8 0 Nothing) st ])
+      go true q = (inl refl, λ z. telegram-kept s st o t (ltb-true _ _ q) h, λ n. absurd (n refl))
+      go false q = (inr (omega arith, omega arith), λ z. absurd (omega arith), λ n. refl)
+
+  -- ---- 2 Deliver
+
+  -- the reaction for its port and name, or without one the panic body
+  delivered-bound : (old st : List ℤ) → OfSheet s st → (t : Telegram) → dataFit s (nameRange s (natAbs (t .name))) (datumOf t) ≡ true → (e : ℕ) → isBound s e ≡ true → (f : Found) → elementBody s e (reactsOn (natAbs (t .port)) (natAbs (t .name))) ≡ f → EventKept s old (elim f [ Present b ↦ reacting s old e (Present b) t st | Absent ↦ panicking s old e st ])
+  unfolding isReaction
+  delivered-bound old st o t h e bound (Present d) q =
+      let x = bound-element s ok e bound in
+      let f = where-found s _ (x .1) d (sym (body-of s ok e (x .0) (x .1) (x .2) _) ∙ q) in
+      let two : role d ≡ externalReaction = eqb-true _ _ (and-first _ _ (f .1)) in
+      reacting-kept s ok e (x .0) (x .1) (x .2) d (f .0) t (eqb-true _ _ (and-second _ _ (and-second _ _ (f .1)))) h (rw two (and-true _ _ refl refl)) old st o
+  delivered-bound old st o t h e bound Absent q = let x = bound-element s ok e bound in panicking-kept s ok e (x .0) (x .1) (x .2) old st o
+
+  delivered-kept : (old : List ℤ) (t : Telegram) (st : List ℤ) → telegramFits s t ≡ true → isInternal t ≡ false → OfSheet s st → EventKept s old (delivered s old t st)
+  unfolding delivered externalFits nameFits
+  delivered-kept old t st h n o = go (isBelow (t .receiver) (externalsOf s)) refl
+    where
+      fits : dataFit s (nameRange s (natAbs (t .name))) (datumOf t) ≡ true
+      fits = and-second _ _ (and-second _ _ (and-second _ _ (and-second _ _ (external-part t h n))))
+
+      go : (b : Bool) → isBelow (t .receiver) (externalsOf s) ≡ b → EventKept s old (elim b [ true ↦ ended (answer 0 0 (Outside t)) st | false ↦ elim (elementBody s (natAbs (t .receiver)) (reactsOn (natAbs (t .port)) (natAbs (t .name)))) [ Present b ↦ reacting s old (natAbs (t .receiver)) (Present b) t st | Absent ↦ panicking s old (natAbs (t .receiver)) st ] ])
+      go true q = (inl refl, λ z. o, λ k. absurd (k refl))
+      go false q = delivered-bound old st o t fits (natAbs (t .receiver)) (bound-word s (t .receiver) (receiver-below t h) q) _ refl
+
+  outer : (a r : ℤ) (t : Telegram) → goesFrom a r t ≡ true → isInternal t ≡ false
+  outer a r t h = not-true _ (and-first _ _ h)
+
+  deliver-kept : (st : List ℤ) → OfSheet s st → (a r : ℤ) → EventKept s st (deliver s st a r)
+  unfolding deliver
+  deliver-kept st o a r = taking-kept s st o (goesFrom a r) (delivered s st) (λ t st′ h p o′. delivered-kept st t st′ h (outer a r t p) o′)
+
+  -- ---- 3 Corrupt
+
+  corrupt-kept : (st : List ℤ) → OfSheet s st → (a r : ℤ) → isBound s (natAbs r) ≡ true → EventKept s st (corrupt s st a r)
+  unfolding corrupt
+  corrupt-kept st o a r bound = let x = bound-element s ok (natAbs r) bound in taking-kept s st o (goesFrom a r) _ (λ t st′ h p o′. panicking-kept s ok (natAbs r) (x .0) (x .1) (x .2) st st′ o′)
+
+  -- ---- 4 Inner
+
+  inner-kept : (st : List ℤ) → OfSheet s st → (r : ℤ) → EventKept s st (inner s st r)
+  unfolding inner internalFits nameFits reactionAwaits isReaction
+  inner-kept st o r = taking-kept s st o (innerOf r) _ (λ t st′ h p o′.
+    let same : t .receiver ≡ r = same-word _ _ (and-second _ _ p) in
+    let i = internal-part t h (and-first _ _ p) in
+    let bound : isBound s (natAbs r) ≡ true = subst (λ z. isBound s (natAbs z) ≡ true) same (and-first _ _ (and-second _ _ (and-second _ _ i))) in
+    let named = and-second _ _ (and-second _ _ (and-second _ _ i)) in
+    let fits : dataFit s (nameRange s (natAbs (t .name))) (datumOf t) ≡ true = and-second _ _ (and-second _ _ (and-first _ _ named)) in
+    let x = bound-element s ok (natAbs r) bound in
+    let c : chartOf s (natAbs r) ≡ Present (x .1) = element-chart s (natAbs r) (x .0) (x .1) (x .2) in
+    let awaits = subst (λ z. holds (chartOf s (natAbs z)) (λ c. hasReaction s c (natAbs (t .name))) ≡ true) same (and-second _ _ named) in
+    let d = reaction-there s (x .1) (natAbs (t .name)) (sym (holds-present _ (x .1) _ c) ∙ awaits) in
+    let f = where-found s _ (x .1) (d .0) (d .1) in
+    let three : role (d .0) ≡ internalReaction = eqb-true _ _ (and-first _ _ (f .1)) in
+    subst (λ g. EventKept s st (reacting s st (natAbs r) g t st′)) (sym (body-of s ok (natAbs r) (x .0) (x .1) (x .2) _ ∙ d .1))
+    (reacting-kept s ok (natAbs r) (x .0) (x .1) (x .2) (d .0) (f .0) t (eqb-true _ _ (and-second _ _ (f .1))) fits (rw three (and-true _ _ refl refl)) st st′ o′))
+
+  -- ---- 5 Slice
+
+  slice-end : (old : List ℤ) (r : Sliced) → SliceKept s r → EventKept s old (sliceEnd old r)
+  unfolding sliceEnd
+  slice-end old (on st) h = (inl refl, λ z. h, λ n. absurd (n refl))
+  slice-end old (off n) (inl h) = (inr (omega arith, omega arith), λ z. absurd (omega arith), λ k. refl)
+  slice-end old (off n) (inr h) = (inr (omega arith, omega arith), λ z. absurd (omega arith), λ k. refl)
+
+  slice-ends : (st : List ℤ) → OfSheet s st → EventKept s st (slice s st)
+  unfolding slice
+  slice-ends st o = slice-end st _ (slice-kept s st o)
