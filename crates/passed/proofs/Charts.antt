@@ -99,7 +99,8 @@ module _ (s : List ℕ) (p : Record → Bool) where
   unfolding bodyWhere
   where-some c j l h = from-some (chartBodies c .count) (chartBodies c .first) j l h
 
-abbrev One : ℕ → (ℕ → Bool) → Type 0
+-- a number below n that meets a test
+abbrev pub One : ℕ → (ℕ → Bool) → Type 0
 One n p = (i : ℕ) × (i < n) × (p i ≡ true)
 
 -- the last number meets a test, or a lower one does
@@ -119,14 +120,17 @@ unfolding countBelow sumBelow
 counted zero p k e = absurd (omega arith)
 counted (suc n) p k e = last-or-lower n p (λ q. counted n p k (let z : oneIf (p n) ≡ 0 = ap oneIf q in omega arith)) (p n) refl
 
--- an internal name with a reaction is reacted to
-pub reaction-there : (s : List ℕ) (c : Record) (n : ℕ) → hasReaction s c n ≡ true → (b : Record) × (bodyWhere s c (reactsTo n) ≡ Present b)
+-- a chart with a reaction to an internal name has a body that reacts to it
+pub some-reacts : (s : List ℕ) (c : Record) (n : ℕ) → hasReaction s c n ≡ true → One (chartBodies c .count) (λ j. holds (bodyOf s c j) (reactsTo n))
 unfolding hasReaction
-reaction-there s c n e = let m = some-meets (chartBodies c .count) (λ j. holds (bodyOf s c j) (reactsTo n)) (flip _ e) in where-some s (reactsTo n) c (m .0) (m .1) (m .2)
+some-reacts s c n e = some-meets (chartBodies c .count) (λ j. holds (bodyOf s c j) (reactsTo n)) (flip _ e)
   where
     flip : (b : Bool) → not b ≡ true → b ≡ false
     flip true h = absurd (true-false h refl)
     flip false h = refl
+
+pub reaction-there : (s : List ℕ) (c : Record) (n : ℕ) → hasReaction s c n ≡ true → (b : Record) × (bodyWhere s c (reactsTo n) ≡ Present b)
+reaction-there s c n e = let m = some-reacts s c n e in where-some s (reactsTo n) c (m .0) (m .1) (m .2)
 
 -- ---- a passed sheet
 
@@ -145,7 +149,7 @@ module _ (s : List ℕ) (ok : checkOf s ≡ Passed) where
     unfolding chartStatic
     bodies-static = and-second _ _ (and-second _ _ (and-second _ _ (chart-static s ok k c chart)))
 
-    body-there : (j : ℕ) → j < chartBodies c .count → (b : Record) × (bodyOf s c j ≡ Present b) × (noTwin s c j b and bodyStatic s c b ≡ true)
+    pub body-there : (j : ℕ) → j < chartBodies c .count → (b : Record) × (bodyOf s c j ≡ Present b) × (noTwin s c j b and bodyStatic s c b ≡ true)
     unfolding bodiesStatic
     body-there j l = held _ _ (all-at (chartBodies c .count) _ bodies-static j l)
 

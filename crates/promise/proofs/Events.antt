@@ -16,23 +16,24 @@ use Rattle.sheet.specs.declared.Found.the-variants.{Present, Absent}
 use Rattle.sheet.specs.All.{_and_}
 use Rattle.sheet.specs.Names.{bindings, external, internal, role, externalReaction, internalReaction, reactionName}
 use Rattle.sheet.specs.Sheet.{countOf}
-use Rattle.sheet.proofs.All.{true-false, not-so, and-first, and-second, and-true, false-and}
+use Rattle.sheet.proofs.All.{true-false, not-so, and-first, and-second, and-true, and-false}
 use Rattle.laris.specs.declared.Checked.the-variants.{Passed}
 use Rattle.laris.specs.declared.Telegram.{Telegram}
 use Rattle.laris.specs.declared.Handed.the-variants.{Nothing, Outside}
 use Rattle.laris.specs.Fields.{holds, componentsOf, externalsOf, portsOf}
 use Rattle.laris.specs.Shape.{isReaction}
 use Rattle.laris.specs.Types.{nameRange, reactsTo, hasReaction}
-use Rattle.laris.specs.Values.{isBelow, isBound, chartOf}
+use Rattle.laris.specs.Values.{isBelow, isZero, isBound, chartOf}
 use Rattle.laris.specs.State.{places, stateLength, wordOf, waiting, telegramOf, withTelegram, withoutTelegram}
 use Rattle.laris.specs.Valid.{dataFit, nameFits, reactionAwaits, datumOf, isInternal, internalFits, externalFits, telegramFits, contentFits, OfSheet}
 use Rattle.laris.specs.Eval.{sameWord}
-use Rattle.laris.specs.Play.{Outcome, ended, stuck, answer, bodyWhere, reactsOn, elementBody, oldestFrom, oldest, goesFrom, innerOf, taking, reacting, panicking, outside, delivered, deliver, corrupt, inner, Sliced, on, off, slicedFrom, sliceEnd, slice, boundWord, wellFormed, isEvent, telegramOfEvent, happens, turnedDown, ifPassed, eventCall}
+use Rattle.laris.specs.Play.{Outcome, ended, stuck, answer, bodyWhere, reactsOn, elementBody, oldestFrom, oldest, goesFrom, innerOf, taking, reacting, panicking, outside, delivered, deliver, corrupt, inner, Sliced, on, off, slicedFrom, sliceEnd, slice, restZero, boundWord, wellFormed, isEvent, telegramOfEvent, happens, turnedDown, ifPassed, eventCall}
 use Rattle.laris.specs.Check.{checkOf}
 use Rattle.laris.proofs.Fields.{holds-present}
 use Rattle.passed.specs.Places.{InChart, Element}
 use Rattle.passed.proofs.Records.{held, externals-components}
 use Rattle.passed.proofs.Charts.{bound-element, element-chart, where-found, reaction-there}
+use Rattle.states.proofs.Frame.{name-same}
 use Rattle.states.proofs.Parts.{below-abs, below-pos, content-of, of-content, telegram-of}
 use Rattle.states.proofs.Kept.{telegram-kept, removed-kept}
 use Rattle.states.proofs.Telegrams.{external-fits}
@@ -90,7 +91,7 @@ module _ (s : List ℕ) (ok : checkOf s ≡ Passed) where
   unfolding telegramFits
   external-part t h n = rw n at (and-second _ _ (and-second _ _ h))
 
-  internal-part : (t : Telegram) → telegramFits s t ≡ true → isInternal t ≡ true → internalFits s t ≡ true
+  pub internal-part : (t : Telegram) → telegramFits s t ≡ true → isInternal t ≡ true → internalFits s t ≡ true
   unfolding telegramFits
   internal-part t h i = rw i at (and-second _ _ (and-second _ _ h))
 
@@ -170,3 +171,75 @@ module _ (s : List ℕ) (ok : checkOf s ≡ Passed) where
   slice-ends : (st : List ℤ) → OfSheet s st → EventKept s st (slice s st)
   unfolding slice
   slice-ends st o = slice-end st _ (slice-kept s st o)
+
+  -- ---- a well formed event
+
+  wider : (z : ℤ) → isBelow z (externalsOf s) ≡ true → isBelow z (componentsOf s) ≡ true
+  unfolding isBelow
+  wider (pos k) h = let l : k < externalsOf s = ltb-true k (externalsOf s) h in lt-ltb k (componentsOf s) (omega (arith, externals-components s ok))
+  wider (negsuc k) h = h
+
+  module _ (st ev : List ℤ) (o : OfSheet s st) where
+    sent-outside : isBelow (wordOf ev 1) (externalsOf s) and boundWord s (wordOf ev 2) and isBelow (wordOf ev 3) (portsOf s) and nameFits s external (wordOf ev 4) (λ j. wordOf ev (5 + j)) ≡ true → telegramFits s (telegramOfEvent ev) ≡ true
+    sent-outside h =
+        let sender = and-first _ _ h in
+        let receiver = and-first _ _ (and-second _ _ h) in
+        external-fits s (telegramOfEvent ev) (wider _ sender) (and-first _ _ receiver) (and-false _ _ (not-true _ (and-second _ _ receiver)))
+        (and-first _ _ (and-second _ _ (and-second _ _ h)))
+        (name-same s external _ _ (datumOf (telegramOfEvent ev)) (λ j. wordOf ev (5 + j)) refl same ∙ and-second _ _ (and-second _ _ (and-second _ _ h)))
+      where
+        same : (j : ℕ) → j < 4 → datumOf (telegramOfEvent ev) j ≡ wordOf ev (5 + j)
+        same zero l = refl
+        same (suc zero) l = refl
+        same (suc (suc zero)) l = refl
+        same (suc (suc (suc zero))) l = refl
+        same (suc (suc (suc (suc j)))) l = absurd (omega arith)
+
+    pub happens-kept : wellFormed s ev (wordOf ev 0) ≡ true → EventKept s st (happens s st ev)
+    unfolding wellFormed happens
+    happens-kept = go (sameWord (wordOf ev 0) (pos 1)) (sameWord (wordOf ev 0) (pos 2)) (sameWord (wordOf ev 0) (pos 3)) (sameWord (wordOf ev 0) (pos 4)) (sameWord (wordOf ev 0) (pos 5))
+      where
+        go : (a b c d f : Bool) →
+            elim a [
+              | true ↦ isBelow (wordOf ev 1) (externalsOf s) and boundWord s (wordOf ev 2) and isBelow (wordOf ev 3) (portsOf s) and nameFits s external (wordOf ev 4) (λ j. wordOf ev (5 + j))
+              | false ↦ elim b [
+                | true ↦ isBelow (wordOf ev 1) (componentsOf s) and isBelow (wordOf ev 2) (componentsOf s) and not (isBelow (wordOf ev 1) (externalsOf s) and isBelow (wordOf ev 2) (externalsOf s)) and restZero ev 3
+                | false ↦ elim c [
+                  | true ↦ isBelow (wordOf ev 1) (componentsOf s) and boundWord s (wordOf ev 2) and restZero ev 3
+                  | false ↦ elim d [ true ↦ isZero (wordOf ev 1) and isBelow (wordOf ev 2) (componentsOf s) and restZero ev 3 | false ↦ f and restZero ev 1 ]
+                ]
+              ]
+            ] ≡ true →
+            EventKept s st (elim a [
+              | true ↦ outside s st (telegramOfEvent ev)
+              | false ↦ elim b [
+                | true ↦ deliver s st (wordOf ev 1) (wordOf ev 2)
+                | false ↦ elim c [
+                  | true ↦ corrupt s st (wordOf ev 1) (wordOf ev 2)
+                  | false ↦ elim d [ true ↦ inner s st (wordOf ev 2) | false ↦ slice s st ]
+                ]
+              ]
+            ])
+        go true b c d f h = outside-kept st o (telegramOfEvent ev) (sent-outside h)
+        go false true c d f h = deliver-kept st o (wordOf ev 1) (wordOf ev 2)
+        go false false true d f h = let r = and-first _ _ (and-second _ _ h) in corrupt-kept st o (wordOf ev 1) (wordOf ev 2) (bound-word s (wordOf ev 2) (and-first _ _ r) (not-true _ (and-second _ _ r)))
+        go false false false true f h = inner-kept st o (wordOf ev 2)
+        go false false false false f h = slice-ends st o
+
+    -- what is left of an event's call on a passed sheet and a state of it
+    called : eventCall s st st ev ≡ elim (isEvent s ev) [ true ↦ happens s st ev | false ↦ turnedDown 4 st ]
+    unfolding eventCall ifPassed
+    called =
+        let whole : eqb (length st) (stateLength s) ≡ true = eq-eqb _ _ (o .whole) in
+        ap (λ c. ifPassed c st (λ result. elim (eqb (length st) (stateLength s) and eqb (length result) (stateLength s)) [ true ↦ elim (contentFits s st) [ true ↦ elim (isEvent s ev) [ true ↦ happens s st ev | false ↦ turnedDown 4 result ] | false ↦ turnedDown 3 result ] | false ↦ turnedDown 3 result ])) ok
+        ∙ ap (λ b. elim b as (λ b. Outcome) [ true ↦ elim (contentFits s st) as (λ b. Outcome) [ true ↦ elim (isEvent s ev) [ true ↦ happens s st ev | false ↦ turnedDown 4 st ] | false ↦ turnedDown 3 st ] | false ↦ turnedDown 3 st ]) (and-true _ _ whole whole)
+        ∙ ap (λ b. elim b as (λ b. Outcome) [ true ↦ elim (isEvent s ev) [ true ↦ happens s st ev | false ↦ turnedDown 4 st ] | false ↦ turnedDown 3 st ]) (of-content s st o)
+
+    -- malformed ones are 4, and the result state is untouched
+    pub event-kept : EventKept s st (eventCall s st st ev)
+    unfolding isEvent
+    event-kept = subst (EventKept s st) (sym called) (go (isEvent s ev) refl)
+      where
+        go : (b : Bool) → isEvent s ev ≡ b → EventKept s st (elim b [ true ↦ happens s st ev | false ↦ turnedDown 4 st ])
+        go true q = happens-kept (and-second _ _ q)
+        go false q = (inr (omega arith, omega arith), λ z. absurd (omega arith), λ n. refl)

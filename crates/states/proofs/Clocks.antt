@@ -154,7 +154,7 @@ module _ (s : List ℕ) (e t : ℕ) (st : List ℤ) (at : ℕ) where
     unfolding runningClock
     clock-name n = and-first _ _ (and-second _ _ (and-second _ _ (and-second _ _ (rw (runningClock, n) at h))))
 
-    clock-awaits : eqb t Timer-type ≡ false → reactionAwaits s e (wordOf st (at + 3)) ≡ true
+    pub clock-awaits : eqb t Timer-type ≡ false → reactionAwaits s e (wordOf st (at + 3)) ≡ true
     unfolding runningClock
     clock-awaits n = and-second _ _ (and-second _ _ (and-second _ _ (and-second _ _ (rw (runningClock, n) at h))))
 
