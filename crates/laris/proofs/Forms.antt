@@ -2,13 +2,13 @@
 use Prim.Native.Nat.{ℕ, zero, suc, _<_, _≤_}
 use mathlib.Core.Path.{_≡_, refl, sym, ap, _∙_}
 use mathlib.Core.List.{List, [], _∷_}
-use mathlib.Core.Bool.{Bool, true, false, _&&_}
+use mathlib.Core.Bool.{Bool, true, false, not, _&&_}
 use native.Mathlib.Omega.{arith}
 use native.Mathlib.Decide.{decLt}
 use lib.ListN.{getD, drop}
 use lib.Dec.{T, ltb, leb, leb→le}
 use borrow.Author.Tests.{lt-ltb, le-ltb}
-use Rattle.laris.specs.Forms.{Form, literal, binary, clock, arm, clockAct, unknown, Bound, formIn, formTable, formOf}
+use Rattle.laris.specs.Forms.{Form, literal, read, unary, binary, clock, skip, assign, externalSend, internalSend, arm, clockAct, call, choice, loop, sequence, unknown, Bound, formIn, formTable, formOf}
 
 line-past : (b : Bound) (bs : List Bound) (op : ℕ) → b .below ≤ op → formIn (b ∷ bs) op ≡ formIn bs op
 unfolding formIn
@@ -68,3 +68,50 @@ module _ (op : ℕ) where
       ]
     ]
   ]
+
+-- a test that every form of a table's lines meets, and that of what no line has
+formsMeet : (Form → Bool) → List Bound → Bool
+formsMeet p [] = p unknown
+formsMeet p (b ∷ bs) = p (b .form) && formsMeet p bs
+
+form-meets : (p : Form → Bool) (l : List Bound) (op : ℕ) → T (formsMeet p l) → T (p (formIn l op))
+unfolding formsMeet formIn
+form-meets p [] op q = q
+form-meets p (b ∷ bs) op q = go (form-meets p bs op) (ltb op (b .below)) (both (p (b .form)) (formsMeet p bs) q)
+  where
+    go : (T (formsMeet p bs) → T (p (formIn bs op))) → (t : Bool) → T (p (b .form)) × T (formsMeet p bs) → T (p (elim t [ true ↦ b .form | false ↦ formIn bs op ]))
+    go later true h = h .0
+    go later false h = later (h .1)
+
+abbrev pub isExpressionForm : Form → Bool
+isExpressionForm literal = true
+isExpressionForm read = true
+isExpressionForm unary = true
+isExpressionForm binary = true
+isExpressionForm clock = true
+isExpressionForm skip = false
+isExpressionForm assign = false
+isExpressionForm externalSend = false
+isExpressionForm internalSend = false
+isExpressionForm arm = false
+isExpressionForm clockAct = false
+isExpressionForm call = false
+isExpressionForm choice = false
+isExpressionForm loop = false
+isExpressionForm sequence = false
+isExpressionForm unknown = false
+
+-- only operators 1 to 18 are expressions
+pub form-expression : (op : ℕ) → (1 ≤ op → op ≤ 18 → ⊥) → isExpressionForm (formOf op) ≡ false
+unfolding formOf formIn formsMeet
+form-expression op n = elim (decLt op 1) [
+  | yes l ↦ ap isExpressionForm (form-at 0 0 op _ _ refl tt (omega arith) l)
+  | no g ↦ elim (decLt op 19) [
+    | yes l ↦ absurd (n (omega arith) (omega arith))
+    | no h ↦ ap isExpressionForm (lines-past 6 formTable 19 op tt (omega arith)) ∙ no-T _ (form-meets (λ f. not (isExpressionForm f)) (drop 6 formTable) op tt)
+  ]
+]
+  where
+    no-T : (b : Bool) → T (not b) → b ≡ false
+    no-T true q = absurd q
+    no-T false q = refl

@@ -1,0 +1,57 @@
+-- What an engine knows while a body runs.
+use Prim.Native.Nat.{ℕ, _+_, _<_}
+use mathlib.Core.Path.{_≡_}
+use mathlib.Core.List.{List}
+use mathlib.Core.Bool.{Bool, true, false}
+use lib.ListN.{length, getD}
+use lib.IntN.{ℤ}
+use Rattle.sheet.specs.declared.Record.{Record}
+use Rattle.sheet.specs.declared.Found.{Found}
+use Rattle.sheet.specs.declared.Found.the-variants.{Present, Absent}
+use Rattle.sheet.specs.Names.{charts, bodies, nodes, bindings, chartBodies}
+use Rattle.sheet.specs.Sheet.{recordOf}
+use Rattle.laris.specs.declared.Typed.the-variants.{Expression, Statement}
+use Rattle.laris.specs.declared.Checked.the-variants.{Passed}
+use Rattle.laris.specs.Shape.{treeShape}
+use Rattle.laris.specs.Types.{typeOf}
+use Rattle.laris.specs.Values.{firstCell}
+use Rattle.laris.specs.Valid.{OfSheet}
+use Rattle.laris.specs.Eval.{Context}
+use Rattle.laris.specs.Check.{checkOf}
+use Rattle.passed.specs.Places.{Placed, Locals}
+
+-- a record, all zero where there is none
+unfoldable pub recordOr0 : Found → Record
+recordOr0 (Present r) = r
+recordOr0 Absent = record { f0 = 0; f1 = 0; f2 = 0; f3 = 0; f4 = 0; f5 = 0; f6 = 0; f7 = 0 }
+
+-- Where a body runs, as six numbers: the element, its first cell, its binding's number, its chart's, its chart's first body, the body's number.
+unfoldable pub contextAt : List ℕ → List ℕ → Context
+contextAt s w = record { element = getD w 0 0; binding = recordOr0 (recordOf s bindings (getD w 2 0)); chart = recordOr0 (recordOf s charts (getD w 3 0)); body = recordOr0 (recordOf s bodies (getD w 5 0)) }
+
+-- the numbers are those of a body of an element on a passed sheet
+pub record Running (s w : List ℕ) : Type 0 where
+  pub passed : checkOf s ≡ Passed
+  pub placed : Placed s (contextAt s w)
+  pub cell : getD w 1 0 ≡ firstCell s (getD w 0 0)
+  pub binding : recordOf s bindings (getD w 2 0) ≡ Present (contextAt s w .binding)
+  pub first : getD w 4 0 ≡ chartBodies (contextAt s w .chart) .first
+
+-- a state of the sheet, and the body's variables of their types
+pub record Ready (s w : List ℕ) (st lo : List ℤ) : Type 0 where
+  pub running : Running s w
+  pub state : OfSheet s st
+  pub locals : Locals s (contextAt s w) lo
+
+-- node n is an expression of the body
+pub record IsExpression (s w : List ℕ) (n : ℕ) : Type 0 where
+  pub levels : ℕ
+  pub kind : ℕ
+  pub tree : treeShape s (contextAt s w .chart) (contextAt s w .body) levels n ≡ true
+  pub typed : typeOf s (contextAt s w .chart) (contextAt s w .body) n ≡ Expression kind
+
+-- node n is a statement of the body
+pub record IsStatement (s w : List ℕ) (n : ℕ) : Type 0 where
+  pub levels : ℕ
+  pub tree : treeShape s (contextAt s w .chart) (contextAt s w .body) levels n ≡ true
+  pub typed : typeOf s (contextAt s w .chart) (contextAt s w .body) n ≡ Statement
