@@ -14,7 +14,7 @@ use Rattle.sheet.specs.declared.Found.{Found}
 use Rattle.sheet.specs.declared.Found.the-variants.{Present, Absent}
 use Rattle.sheet.specs.All.{_and_}
 use Rattle.sheet.specs.Names
-use Rattle.sheet.specs.Names.{nodes, chartVariables, operator, isLiteral, Bool-type, Int-type}
+use Rattle.sheet.specs.Names.{nodes, chartVariables, bodyParameters, bodyLocals, operator, isLiteral, Bool-type, Int-type}
 use Rattle.sheet.specs.Sheet.{recordOf}
 use Rattle.sheet.proofs.All.{true-false, and-first, and-second, and-true, all-at}
 use Rattle.laris.specs.declared.Value.{Value}
@@ -37,6 +37,8 @@ use Rattle.passed.specs.Places.{Placed, Locals, Cells}
 use Rattle.passed.proofs.Records.{held}
 use Rattle.passed.proofs.Charts.{element-chart}
 use Rattle.states.proofs.Parts.{cell-of}
+use Rattle.states.proofs.Kept.{cell-in-state}
+use Rattle.sound.proofs.Locals.{few}
 use Rattle.sound.specs.Gives.{Gives}
 use Rattle.sound.proofs.Leaves.{Both, not-gives, binary-gives}
 use Rattle.sound.proofs.Eval.{type-at, eval-gives}
@@ -176,6 +178,18 @@ module _ (s w : List ℕ) (st lo : List ℤ) (ready : Ready s w st lo) where
       unfolding fieldsShape
       read-inside = ltb-true _ _ (and-first _ _ (fields read q))
 
+      pub variable-inside : r .f1 ≡ 1 → cellAt (firstCell s (x .element) + r .f2) + 8 ≤ length st
+      unfolding variablesAt
+      variable-inside one = cell-in-state s st (ready .state) (x .element) (x .chart) (element-chart s (x .element) (x .binding) (x .chart) (placed .element)) (r .f2) (subst (λ p. r .f2 < variablesAt (x .chart) (x .body) p) one read-inside)
+
+      pub local-inside : r .f1 ≡ 2 → r .f2 < 16
+      unfolding variablesAt
+      local-inside two = let h : r .f2 < bodyParameters (x .body) .count + bodyLocals (x .body) .count = subst (λ p. r .f2 < variablesAt (x .chart) (x .body) p) two read-inside in omega (arith, few s (ready .running .passed) x placed)
+
+      pub no-other-place : (r .f1 ≡ 0 → ⊥) → (r .f1 ≡ 1 → ⊥) → (r .f1 ≡ 2 → ⊥) → ⊥
+      unfolding variablesAt
+      no-other-place a b c = let z : variablesAt (x .chart) (x .body) (r .f1) ≡ 0 = rw (variablesAt, ne-eqb (r .f1) 0 a, ne-eqb (r .f1) 1 b, ne-eqb (r .f1) 2 c) refl in omega (arith, read-inside)
+
       abbrev declared : ℕ
       declared = typeAt s (variableAt (x .chart) (x .body) (r .f1) (r .f2))
 
@@ -209,6 +223,9 @@ module _ (s w : List ℕ) (st lo : List ℤ) (ready : Ready s w st lo) where
       pub clock-inside : r .f1 < chartVariables (x .chart) .count
       unfolding fieldsShape
       clock-inside = ltb-true _ _ (and-first _ _ (fields clock q))
+
+      pub clock-in-state : cellAt (firstCell s (x .element) + r .f1) + 8 ≤ length st
+      clock-in-state = cell-in-state s st (ready .state) (x .element) (x .chart) (element-chart s (x .element) (x .binding) (x .chart) (placed .element)) (r .f1) clock-inside
 
       -- 17 its running word, 18 its value
       clock-as : (l : ℕ) (v : Value) → elim (eqb (operator r) 17) [ true ↦ within s (val Bool-type (wordOf st (variableAtCell s x st lo (r .f1)))) l | false ↦ within s (val Int-type (wordOf st (variableAtCell s x st lo (r .f1) + 1))) l ] ≡ within s v l → workOf (evalOf s x st lo n (suc l)) ≡ Word (v .word) l

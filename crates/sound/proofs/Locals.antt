@@ -43,7 +43,7 @@ list-word (suc n) i f zero h = let e : i + 0 ≡ i = omega arith in rw e refl
 list-word (suc n) i f (suc k) h = let e : i + suc k ≡ suc i + k = omega arith in rw e (list-word n (suc i) f k (omega arith))
 
 module _ (s : List ℕ) (ok : checkOf s ≡ Passed) (x : Context) (placed : Placed s x) where
-  few : bodyParameters (x .body) .count + bodyLocals (x .body) .count ≤ 16
+  pub few : bodyParameters (x .body) .count + bodyLocals (x .body) .count ≤ 16
   unfolding bodyShape
   few = leb-true _ _ (and-first _ _ (and-second _ _ (and-second _ _ (and-second _ _ (and-second _ _ (and-second _ _ (body-shape s ok _ _ (placed .body .there))))))))
 
