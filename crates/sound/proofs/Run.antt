@@ -74,7 +74,7 @@ unfolding given
 no-value true t e = no-expression e
 no-value false t e = not-wrong e
 
-stated : (b : Bool) → given b Statement ≡ Statement → b ≡ true
+pub stated : (b : Bool) → given b Statement ≡ Statement → b ≡ true
 unfolding given
 stated true e = refl
 stated false e = not-wrong e
@@ -92,7 +92,7 @@ no-binary false false true p q r e = no-value r _ e
 no-binary false false false p q r e = no-value r _ e
 
 -- the body that a call names stands in the chart
-called-in : (s : List ℕ) (c r b : Record) → calledBody s c r ≡ Present b → InChart s c b
+pub called-in : (s : List ℕ) (c r b : Record) → calledBody s c r ≡ Present b → InChart s c b
 unfolding calledBody
 called-in s c r b e = go (ltb (r .f1) (chartBodies c .count)) refl e
   where
@@ -104,7 +104,7 @@ called-in s c r b e = go (ltb (r .f1) (chartBodies c .count)) refl e
         present (Present a) = true
         present Absent = false
 
-parameters-of : (f : Found) (b : Record) → f ≡ Present b → parametersOf f ≡ bodyParameters b
+pub parameters-of : (f : Found) (b : Record) → f ≡ Present b → parametersOf f ≡ bodyParameters b
 unfolding parametersOf
 parameters-of f b e = rw e refl
 

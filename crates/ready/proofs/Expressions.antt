@@ -45,7 +45,7 @@ use Rattle.sound.proofs.Eval.{type-at, eval-gives}
 use Rattle.ints.specs.declared.Work.{Work}
 use Rattle.ints.specs.declared.Work.the-variants.{Word, Refused, Stuck}
 use Rattle.ints.specs.Work.{workOf, thenWork, notWork, binaryWork}
-use Rattle.expressions.specs.Ready.{recordOr0, contextAt, Running, Ready, IsExpression}
+use Rattle.ready.specs.Ready.{recordOr0, contextAt, Running, Ready, IsExpression}
 
 -- a test that holds is passed
 needs-word : (b : Bool) (o : Out) (w : Work) → (b ≡ true → workOf o ≡ w) → (workOf (needs b o) ≡ Stuck → ⊥) → workOf (needs b o) ≡ w

@@ -6,19 +6,22 @@ use mathlib.Core.Bool.{Bool, true, false}
 use lib.ListN.{length, getD}
 use lib.IntN.{ℤ}
 use Rattle.sheet.specs.declared.Record.{Record}
+use Rattle.sheet.specs.declared.Range.{Range}
 use Rattle.sheet.specs.declared.Found.{Found}
 use Rattle.sheet.specs.declared.Found.the-variants.{Present, Absent}
 use Rattle.sheet.specs.Names.{charts, bodies, nodes, bindings, chartBodies}
 use Rattle.sheet.specs.Sheet.{recordOf}
 use Rattle.laris.specs.declared.Typed.the-variants.{Expression, Statement}
 use Rattle.laris.specs.declared.Checked.the-variants.{Passed}
+use Rattle.laris.specs.Fields.{fieldOf, typeAt}
 use Rattle.laris.specs.Shape.{treeShape}
 use Rattle.laris.specs.Types.{typeOf}
 use Rattle.laris.specs.Values.{firstCell}
 use Rattle.laris.specs.Valid.{OfSheet}
-use Rattle.laris.specs.Eval.{Context}
+use Rattle.laris.specs.Eval.{Context, evalOf}
 use Rattle.laris.specs.Check.{checkOf}
 use Rattle.passed.specs.Places.{Placed, Locals}
+use Rattle.sound.specs.Gives.{Gives}
 
 -- a record, all zero where there is none
 unfoldable pub recordOr0 : Found → Record
@@ -55,3 +58,8 @@ pub record IsStatement (s w : List ℕ) (n : ℕ) : Type 0 where
   pub levels : ℕ
   pub tree : treeShape s (contextAt s w .chart) (contextAt s w .body) levels n ≡ true
   pub typed : typeOf s (contextAt s w .chart) (contextAt s w .body) n ≡ Statement
+
+-- each datum of node record r, for the declarations of a range, is an expression and gives a value of its declared type
+pub record HasData (s w : List ℕ) (st lo : List ℤ) (r : Record) (g : Range) : Type 0 where
+  pub each : (j : ℕ) → j < g .count → IsExpression s w (fieldOf r (4 + j))
+  pub gives : (j m : ℕ) → j < g .count → Gives s (typeAt s (g .first + j)) (evalOf s (contextAt s w) st lo (fieldOf r (4 + j)) m)
