@@ -3,11 +3,17 @@ use sheet::Found;
 use sheet::Range;
 use sheet::Record;
 ghost use mathlib.Core.Path.{_≡_};
+ghost use mathlib.Core.Bool.{true};
 ghost use Prim.Native.Nat.{_+_, _<_, _≤_};
+ghost use lib.ListN.{length};
 ghost use Rattle.sheet.specs.Names.{chartParameters, bodyParameters, bodyLocals};
 ghost use Rattle.sheet.specs.Sheet.{directoryOf};
 ghost use Rattle.laris.specs.Fields.{oneIf};
+ghost use Rattle.laris.specs.Shape.{isReaction};
+ghost use Rattle.laris.specs.Types.{reactsTo};
 ghost use Rattle.laris.specs.Static.{noClocks, nameStatic, sameTypes, reactionStatic, roleStatic, bodyStatic, bodiesWith, sameReaction, hasRole, noTwin, bodiesStatic, chartStatic, constantStatic, constantsStatic, bindingStatic, recordStatic, sectionStatic, static};
+ghost use Rattle.types.specs.Table.{Table};
+ghost use Rattle.statics.specs.Entries.{Entries, Entered, upTo, Chains, Linked, Ready};
 
 // Whether a range of declarations has no clock.
 fn no_clocks(sheet: &[u8], directory: &[usize; 16], g: Range) -> bool
@@ -18,7 +24,7 @@ fn no_clocks(sheet: &[u8], directory: &[usize; 16], g: Range) -> bool
     let count = g.count;
     let mut j: usize = 0;
     while j < count {
-        if typing::is_clock(typing::type_at(sheet, directory, first + j)) {
+        if types::is_clock(types::type_at(sheet, directory, first + j)) {
             return false;
         }
         j += 1;
@@ -39,8 +45,8 @@ fn same_types(sheet: &[u8], directory: &[usize; 16], g: Range, h: Range) -> bool
     }
     let mut j: usize = 0;
     while j < count {
-        if typing::type_at(sheet, directory, from + j)
-            != typing::type_at(sheet, directory, with + j)
+        if types::type_at(sheet, directory, from + j)
+            != types::type_at(sheet, directory, with + j)
         {
             return false;
         }
@@ -73,24 +79,24 @@ fn reaction_static(sheet: &[u8], directory: &[usize; 16], b: Record) -> bool
 {
     let name = b.f2 as usize;
     if b.f0 == 2 {
-        if !typing::has_class(sheet, directory, name, 0) {
+        if !types::has_class(sheet, directory, name, 0) {
             return false;
         }
         return same_types(
             sheet,
             directory,
             parameters(b),
-            typing::name_range(sheet, directory, name),
+            types::name_range(sheet, directory, name),
         );
     }
-    if !typing::has_class(sheet, directory, name, 1) {
+    if !types::has_class(sheet, directory, name, 1) {
         return false;
     }
     same_types(
         sheet,
         directory,
         parameters(b),
-        typing::name_range(sheet, directory, name),
+        types::name_range(sheet, directory, name),
     )
 }
 
@@ -106,8 +112,15 @@ fn role_static(sheet: &[u8], directory: &[usize; 16], b: Record) -> bool
     }
 }
 
-fn body_static(sheet: &[u8], directory: &[usize; 16], c: Record, b: Record) -> bool
+fn body_static(
+    sheet: &[u8],
+    directory: &[usize; 16],
+    table: &[u16; 4096],
+    c: Record,
+    b: Record,
+) -> bool
     requires { ⌜ now directory ≡ directoryOf (now sheet) ⌝ }
+    requires { ⌜ Table (now sheet) c (now table) ⌝ }
     ensures { λ x. ⌜ x ≡ bodyStatic (now (sheet .entry)) c b ⌝ }
 {
     if !no_clocks(sheet, directory, parameters(b)) {
@@ -119,7 +132,7 @@ fn body_static(sheet: &[u8], directory: &[usize; 16], c: Record, b: Record) -> b
     if !role_static(sheet, directory, b) {
         return false;
     }
-    typing::is_statement(typing::type_of(sheet, directory, c, b, b.f7 as usize))
+    types::is_statement(typing::type_of(sheet, directory, table, c, b, b.f7 as usize))
 }
 
 // How many bodies of chart c have a role.
@@ -167,50 +180,155 @@ fn same_reaction(a: Record, b: Record) -> bool
     a.f2 == b.f2
 }
 
-// Whether no body of chart c before body j, which is b, reacts to the same.
-fn no_twin(sheet: &[u8], directory: &[usize; 16], c: Record, j: usize, b: Record) -> bool
-    requires { ⌜ (now directory ≡ directoryOf (now sheet)) × (j < 65536) ⌝ }
-    ensures { λ x. ⌜ x ≡ noTwin (now (sheet .entry)) c j b ⌝ }
+// ---- arrays by name, of bodies: a body's number plus 1, or 0
+
+// Enters body i in the table of internal reactions, if it is one.
+fn enter(sheet: &[u8], directory: &[usize; 16], table: &mut [u16; 4096], i: usize)
+    requires { ⌜ now directory ≡ directoryOf (now sheet) ⌝ }
+    requires { ⌜ length (now table) ≡ 4096 ⌝ }
+    ensures { λ x. ⌜ Entered (now (sheet .entry)) reactsTo i (now (table .entry)) (now (table .exit)) ⌝ }
 {
-    let first = c.f4 as usize;
-    let mut i: usize = 0;
-    while i < j {
-        let Found::Present(a) = reader::read(sheet, directory, 5, first + i) else {
-            return false;
-        };
-        if same_reaction(a, b) {
-            return false;
-        }
-        i += 1;
+    let Found::Present(b) = reader::read(sheet, directory, 5, i) else {
+        return;
+    };
+    if b.f0 != 3 {
+        return;
     }
-    true
+    let n = b.f2 as usize;
+    if 4096 <= n {
+        return;
+    }
+    table[n] = (i + 1) as u16;
 }
 
-fn bodies_static(sheet: &[u8], directory: &[usize; 16], c: Record) -> bool
+// Enters the internal reactions of chart c. What other charts left there is none of its bodies.
+fn fill(sheet: &[u8], directory: &[usize; 16], table: &mut [u16; 4096], c: Record)
     requires { ⌜ now directory ≡ directoryOf (now sheet) ⌝ }
-    ensures { λ x. ⌜ x ≡ bodiesStatic (now (sheet .entry)) c ⌝ }
+    requires { ⌜ Entries (now sheet) reactsTo (now table) ⌝ }
+    ensures { λ x. ⌜ Entries (now (sheet .entry)) reactsTo (now (table .exit)) × Table (now (sheet .entry)) c (now (table .exit)) ⌝ }
 {
     let first = c.f4 as usize;
     let count = c.f5 as usize;
     let mut j: usize = 0;
     while j < count {
-        let Found::Present(b) = reader::read(sheet, directory, 5, first + j) else {
+        enter(sheet, directory, table, first + j);
+        j += 1;
+    }
+}
+
+fn is_reaction(b: Record) -> bool
+    ensures { λ x. ⌜ x ≡ isReaction (b .f0) ⌝ }
+{
+    if b.f0 < 2 {
+        return false;
+    }
+    b.f0 <= 3
+}
+
+// An entry, if it is a body before body i.
+fn earlier(e: u16, i: usize) -> usize
+    ensures { λ x. ⌜ (x ≡ upTo i e) × (x ≤ i) ⌝ }
+{
+    if i < e as usize {
+        return 0;
+    }
+    e as usize
+}
+
+// Whether no body of chart c before body j, which is b, reacts to the same. Only those that react to its name are compared,
+// from the latest one back.
+fn no_twin(
+    sheet: &[u8],
+    directory: &[usize; 16],
+    last: &[u16; 4096],
+    previous: &[u16; 4096],
+    c: Record,
+    j: usize,
+    b: Record,
+) -> bool
+    requires { ⌜ now directory ≡ directoryOf (now sheet) ⌝ }
+    requires { ⌜ j < 65536 ⌝ }
+    requires { ⌜ c .f4 + j < 4096 ⌝ }
+    requires { ⌜ Chains (now sheet) (c .f4) (c .f4 + j) (now last) (now previous) ⌝ }
+    requires { ⌜ (isReaction (b .f0) ≡ true → b .f2 < 4096) ⌝ }
+    ensures { λ x. ⌜ x ≡ noTwin (now (sheet .entry)) c j b ⌝ }
+{
+    if !is_reaction(b) {
+        return true;
+    }
+    let first = c.f4 as usize;
+    let mut e = earlier(last[b.f2 as usize], first + j);
+    while first < e {
+        let i = e - 1;
+        let Found::Present(a) = reader::read(sheet, directory, 5, i) else {
             return false;
         };
-        if !no_twin(sheet, directory, c, j, b) {
+        if same_reaction(a, b) {
             return false;
         }
-        if !body_static(sheet, directory, c, b) {
+        e = earlier(previous[i], i);
+    }
+    true
+}
+
+// Enters body i, which is b, as the latest reaction to its name.
+fn link(last: &mut [u16; 4096], previous: &mut [u16; 4096], i: usize, b: Record)
+    requires { ⌜ (length (now last) ≡ 4096) × (length (now previous) ≡ 4096) × (i < 4096) ⌝ }
+    requires { ⌜ (isReaction (b .f0) ≡ true → b .f2 < 4096) ⌝ }
+    ensures { λ x. ⌜ Linked b i (now (last .entry)) (now (last .exit)) (now (previous .entry)) (now (previous .exit)) ⌝ }
+{
+    if !is_reaction(b) {
+        return;
+    }
+    let n = b.f2 as usize;
+    previous[i] = last[n];
+    last[n] = (i + 1) as u16;
+}
+
+fn bodies_static(
+    sheet: &[u8],
+    directory: &[usize; 16],
+    table: &mut [u16; 4096],
+    last: &mut [u16; 4096],
+    previous: &mut [u16; 4096],
+    c: Record,
+) -> bool
+    requires { ⌜ now directory ≡ directoryOf (now sheet) ⌝ }
+    requires { ⌜ Ready (now sheet) (now table) (now last) (now previous) ⌝ }
+    ensures { λ x. ⌜ (x ≡ bodiesStatic (now (sheet .entry)) c) × Ready (now (sheet .entry)) (now (table .exit)) (now (last .exit)) (now (previous .exit)) ⌝ }
+{
+    fill(sheet, directory, table, c);
+    let first = c.f4 as usize;
+    let count = c.f5 as usize;
+    let mut j: usize = 0;
+    while j < count {
+        let i = first + j;
+        let Found::Present(b) = reader::read(sheet, directory, 5, i) else {
+            return false;
+        };
+        if !body_static(sheet, directory, table, c, b) {
             return false;
         }
+        if !no_twin(sheet, directory, last, previous, c, j, b) {
+            return false;
+        }
+        link(last, previous, i, b);
         j += 1;
     }
     true
 }
 
-fn chart_static(sheet: &[u8], directory: &[usize; 16], c: Record) -> bool
+fn chart_static(
+    sheet: &[u8],
+    directory: &[usize; 16],
+    table: &mut [u16; 4096],
+    last: &mut [u16; 4096],
+    previous: &mut [u16; 4096],
+    c: Record,
+) -> bool
     requires { ⌜ now directory ≡ directoryOf (now sheet) ⌝ }
-    ensures { λ x. ⌜ x ≡ chartStatic (now (sheet .entry)) c ⌝ }
+    requires { ⌜ Ready (now sheet) (now table) (now last) (now previous) ⌝ }
+    ensures { λ x. ⌜ (x ≡ chartStatic (now (sheet .entry)) c) × Ready (now (sheet .entry)) (now (table .exit)) (now (last .exit)) (now (previous .exit)) ⌝ }
 {
     let g = Range {
         first: c.f0 as usize,
@@ -225,7 +343,7 @@ fn chart_static(sheet: &[u8], directory: &[usize; 16], c: Record) -> bool
     if bodies_with(sheet, directory, c, 1) != 1 {
         return false;
     }
-    bodies_static(sheet, directory, c)
+    bodies_static(sheet, directory, table, last, previous, c)
 }
 
 fn constant_static(sheet: &[u8], directory: &[usize; 16], n: usize, t: usize) -> bool
@@ -235,7 +353,7 @@ fn constant_static(sheet: &[u8], directory: &[usize; 16], n: usize, t: usize) ->
     let Found::Present(r) = reader::read(sheet, directory, 6, n) else {
         return false;
     };
-    typing::literal_type(r) == t
+    types::literal_type(r) == t
 }
 
 // The constants of a binding to chart c.
@@ -247,7 +365,7 @@ fn constants_static(sheet: &[u8], directory: &[usize; 16], r: Record, c: Record)
     let count = c.f1 as usize;
     let mut j: usize = 0;
     while j < count {
-        let t = typing::type_at(sheet, directory, first + j);
+        let t = types::type_at(sheet, directory, first + j);
         if !constant_static(sheet, directory, fields::field(r, 1 + j), t) {
             return false;
         }
@@ -277,21 +395,38 @@ fn name_static(sheet: &[u8], directory: &[usize; 16], r: Record) -> bool
     no_clocks(sheet, directory, g)
 }
 
-fn record_static(sheet: &[u8], directory: &[usize; 16], k: usize, r: Record) -> bool
+fn record_static(
+    sheet: &[u8],
+    directory: &[usize; 16],
+    table: &mut [u16; 4096],
+    last: &mut [u16; 4096],
+    previous: &mut [u16; 4096],
+    k: usize,
+    r: Record,
+) -> bool
     requires { ⌜ now directory ≡ directoryOf (now sheet) ⌝ }
-    ensures { λ x. ⌜ x ≡ recordStatic (now (sheet .entry)) k r ⌝ }
+    requires { ⌜ Ready (now sheet) (now table) (now last) (now previous) ⌝ }
+    ensures { λ x. ⌜ (x ≡ recordStatic (now (sheet .entry)) k r) × Ready (now (sheet .entry)) (now (table .exit)) (now (last .exit)) (now (previous .exit)) ⌝ }
 {
     match k {
         3 => name_static(sheet, directory, r),
-        4 => chart_static(sheet, directory, r),
+        4 => chart_static(sheet, directory, table, last, previous, r),
         7 => binding_static(sheet, directory, r),
         _ => true,
     }
 }
 
-fn section_static(sheet: &[u8], directory: &[usize; 16], k: usize) -> bool
+fn section_static(
+    sheet: &[u8],
+    directory: &[usize; 16],
+    table: &mut [u16; 4096],
+    last: &mut [u16; 4096],
+    previous: &mut [u16; 4096],
+    k: usize,
+) -> bool
     requires { ⌜ now directory ≡ directoryOf (now sheet) ⌝ }
-    ensures { λ x. ⌜ x ≡ sectionStatic (now (sheet .entry)) k ⌝ }
+    requires { ⌜ Ready (now sheet) (now table) (now last) (now previous) ⌝ }
+    ensures { λ x. ⌜ (x ≡ sectionStatic (now (sheet .entry)) k) × Ready (now (sheet .entry)) (now (table .exit)) (now (last .exit)) (now (previous .exit)) ⌝ }
 {
     let count = reader::count_in(directory, k);
     let mut i: usize = 0;
@@ -299,7 +434,7 @@ fn section_static(sheet: &[u8], directory: &[usize; 16], k: usize) -> bool
         let Found::Present(r) = reader::read(sheet, directory, k, i) else {
             return false;
         };
-        if !record_static(sheet, directory, k, r) {
+        if !record_static(sheet, directory, table, last, previous, k, r) {
             return false;
         }
         i += 1;
@@ -312,9 +447,12 @@ pub fn rules_hold(sheet: &[u8], directory: &[usize; 16]) -> bool
     requires { ⌜ now directory ≡ directoryOf (now sheet) ⌝ }
     ensures { λ x. ⌜ x ≡ static (now (sheet .entry)) ⌝ }
 {
+    let mut table = [0u16; 4096];
+    let mut last = [0u16; 4096];
+    let mut previous = [0u16; 4096];
     let mut k: usize = 0;
     while k < 8 {
-        if !section_static(sheet, directory, k) {
+        if !section_static(sheet, directory, &mut table, &mut last, &mut previous, k) {
             return false;
         }
         k += 1;
