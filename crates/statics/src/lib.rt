@@ -3,17 +3,13 @@ use sheet::Found;
 use sheet::Range;
 use sheet::Record;
 ghost use mathlib.Core.Path.{_≡_};
-ghost use mathlib.Core.Bool.{true};
-ghost use Prim.Native.Nat.{_+_, _<_, _≤_};
-ghost use lib.ListN.{length};
+ghost use Prim.Native.Nat.{_<_, _≤_};
 ghost use Rattle.sheet.specs.Names.{chartParameters, bodyParameters, bodyLocals};
 ghost use Rattle.sheet.specs.Sheet.{directoryOf};
 ghost use Rattle.laris.specs.Fields.{oneIf};
-ghost use Rattle.laris.specs.Shape.{isReaction};
-ghost use Rattle.laris.specs.Types.{reactsTo};
-ghost use Rattle.laris.specs.Static.{noClocks, nameStatic, sameTypes, reactionStatic, roleStatic, bodyStatic, bodiesWith, sameReaction, hasRole, noTwin, bodiesStatic, chartStatic, constantStatic, constantsStatic, bindingStatic, recordStatic, sectionStatic, static};
+ghost use Rattle.laris.specs.Static.{noClocks, nameStatic, sameTypes, reactionStatic, roleStatic, bodyStatic, bodiesWith, hasRole, bodiesStatic, chartStatic, constantStatic, constantsStatic, bindingStatic, recordStatic, sectionStatic, static};
 ghost use Rattle.types.specs.Table.{Table};
-ghost use Rattle.statics.specs.Entries.{Entries, Entered, upTo, Chains, Linked, Ready};
+ghost use Rattle.reactions.specs.Entries.{Ready};
 
 // Whether a range of declarations has no clock.
 fn no_clocks(sheet: &[u8], directory: &[usize; 16], g: Range) -> bool
@@ -162,129 +158,6 @@ fn role_count(sheet: &[u8], directory: &[usize; 16], i: usize, role: u16) -> usi
     if b.f0 == role { 1 } else { 0 }
 }
 
-fn same_reaction(a: Record, b: Record) -> bool
-    ensures { λ x. ⌜ x ≡ sameReaction a b ⌝ }
-{
-    if a.f0 < 2 {
-        return false;
-    }
-    if 3 < a.f0 {
-        return false;
-    }
-    if a.f0 != b.f0 {
-        return false;
-    }
-    if a.f1 != b.f1 {
-        return false;
-    }
-    a.f2 == b.f2
-}
-
-// ---- arrays by name, of bodies: a body's number plus 1, or 0
-
-// Enters body i in the table of internal reactions, if it is one.
-fn enter(sheet: &[u8], directory: &[usize; 16], table: &mut [u16; 4096], i: usize)
-    requires { ⌜ now directory ≡ directoryOf (now sheet) ⌝ }
-    requires { ⌜ length (now table) ≡ 4096 ⌝ }
-    ensures { λ x. ⌜ Entered (now (sheet .entry)) reactsTo i (now (table .entry)) (now (table .exit)) ⌝ }
-{
-    let Found::Present(b) = reader::read(sheet, directory, 5, i) else {
-        return;
-    };
-    if b.f0 != 3 {
-        return;
-    }
-    let n = b.f2 as usize;
-    if 4096 <= n {
-        return;
-    }
-    table[n] = (i + 1) as u16;
-}
-
-// Enters the internal reactions of chart c. What other charts left there is none of its bodies.
-fn fill(sheet: &[u8], directory: &[usize; 16], table: &mut [u16; 4096], c: Record)
-    requires { ⌜ now directory ≡ directoryOf (now sheet) ⌝ }
-    requires { ⌜ Entries (now sheet) reactsTo (now table) ⌝ }
-    ensures { λ x. ⌜ Entries (now (sheet .entry)) reactsTo (now (table .exit)) × Table (now (sheet .entry)) c (now (table .exit)) ⌝ }
-{
-    let first = c.f4 as usize;
-    let count = c.f5 as usize;
-    let mut j: usize = 0;
-    while j < count {
-        enter(sheet, directory, table, first + j);
-        j += 1;
-    }
-}
-
-fn is_reaction(b: Record) -> bool
-    ensures { λ x. ⌜ x ≡ isReaction (b .f0) ⌝ }
-{
-    if b.f0 < 2 {
-        return false;
-    }
-    b.f0 <= 3
-}
-
-// An entry, if it is a body before body i.
-fn earlier(e: u16, i: usize) -> usize
-    ensures { λ x. ⌜ (x ≡ upTo i e) × (x ≤ i) ⌝ }
-{
-    if i < e as usize {
-        return 0;
-    }
-    e as usize
-}
-
-// Whether no body of chart c before body j, which is b, reacts to the same. Only those that react to its name are compared,
-// from the latest one back.
-fn no_twin(
-    sheet: &[u8],
-    directory: &[usize; 16],
-    last: &[u16; 4096],
-    previous: &[u16; 4096],
-    c: Record,
-    j: usize,
-    b: Record,
-) -> bool
-    requires { ⌜ now directory ≡ directoryOf (now sheet) ⌝ }
-    requires { ⌜ j < 65536 ⌝ }
-    requires { ⌜ c .f4 + j < 4096 ⌝ }
-    requires { ⌜ Chains (now sheet) (c .f4) (c .f4 + j) (now last) (now previous) ⌝ }
-    requires { ⌜ (isReaction (b .f0) ≡ true → b .f2 < 4096) ⌝ }
-    ensures { λ x. ⌜ x ≡ noTwin (now (sheet .entry)) c j b ⌝ }
-{
-    if !is_reaction(b) {
-        return true;
-    }
-    let first = c.f4 as usize;
-    let mut e = earlier(last[b.f2 as usize], first + j);
-    while first < e {
-        let i = e - 1;
-        let Found::Present(a) = reader::read(sheet, directory, 5, i) else {
-            return false;
-        };
-        if same_reaction(a, b) {
-            return false;
-        }
-        e = earlier(previous[i], i);
-    }
-    true
-}
-
-// Enters body i, which is b, as the latest reaction to its name.
-fn link(last: &mut [u16; 4096], previous: &mut [u16; 4096], i: usize, b: Record)
-    requires { ⌜ (length (now last) ≡ 4096) × (length (now previous) ≡ 4096) × (i < 4096) ⌝ }
-    requires { ⌜ (isReaction (b .f0) ≡ true → b .f2 < 4096) ⌝ }
-    ensures { λ x. ⌜ Linked b i (now (last .entry)) (now (last .exit)) (now (previous .entry)) (now (previous .exit)) ⌝ }
-{
-    if !is_reaction(b) {
-        return;
-    }
-    let n = b.f2 as usize;
-    previous[i] = last[n];
-    last[n] = (i + 1) as u16;
-}
-
 fn bodies_static(
     sheet: &[u8],
     directory: &[usize; 16],
@@ -297,7 +170,7 @@ fn bodies_static(
     requires { ⌜ Ready (now sheet) (now table) (now last) (now previous) ⌝ }
     ensures { λ x. ⌜ (x ≡ bodiesStatic (now (sheet .entry)) c) × Ready (now (sheet .entry)) (now (table .exit)) (now (last .exit)) (now (previous .exit)) ⌝ }
 {
-    fill(sheet, directory, table, c);
+    reactions::fill(sheet, directory, table, c);
     let first = c.f4 as usize;
     let count = c.f5 as usize;
     let mut j: usize = 0;
@@ -309,10 +182,10 @@ fn bodies_static(
         if !body_static(sheet, directory, table, c, b) {
             return false;
         }
-        if !no_twin(sheet, directory, last, previous, c, j, b) {
+        if !reactions::no_twin(sheet, directory, last, previous, c, j, b) {
             return false;
         }
-        link(last, previous, i, b);
+        reactions::link(last, previous, i, b);
         j += 1;
     }
     true

@@ -14,7 +14,7 @@ use Rattle.laris.specs.Types.{hasReaction}
 unfoldable pub tabled : Record → ℕ → Bool
 tabled c e = ltb (chartBodies c .first) e and leb e (chartBodies c .first + chartBodies c .count)
 
--- A table may hold entries of other charts too, so long as they are none of this chart's bodies.
+-- An entry that is none of the chart's bodies counts for none, so a table need not be cleared between charts.
 pub record Table (s : List ℕ) (c : Record) (t : List ℕ) : Type 0 where
   pub size : length t ≡ 4096
   pub right : (n : ℕ) → n < 4096 → tabled c (getD t n 0) ≡ hasReaction s c n

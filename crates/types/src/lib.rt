@@ -179,7 +179,13 @@ fn has_reaction(table: &[u16; 4096], c: Record, n: u16) -> bool
     in_chart(c, table[n as usize])
 }
 
-fn internal_name(sheet: &[u8], directory: &[usize; 16], table: &[u16; 4096], c: Record, n: u16) -> bool
+fn internal_name(
+    sheet: &[u8],
+    directory: &[usize; 16],
+    table: &[u16; 4096],
+    c: Record,
+    n: u16,
+) -> bool
     requires { ⌜ now directory ≡ directoryOf (now sheet) ⌝ }
     requires { ⌜ Table (now sheet) c (now table) ⌝ }
     ensures { λ b. ⌜ b ≡ internalName (now (sheet .entry)) c n ⌝ }
@@ -277,7 +283,14 @@ pub fn external_type(
     Typed::Statement
 }
 
-pub fn internal_type(sheet: &[u8], directory: &[usize; 16], table: &[u16; 4096], c: Record, r: Record, d: bool) -> Typed
+pub fn internal_type(
+    sheet: &[u8],
+    directory: &[usize; 16],
+    table: &[u16; 4096],
+    c: Record,
+    r: Record,
+    d: bool,
+) -> Typed
     requires { ⌜ now directory ≡ directoryOf (now sheet) ⌝ }
     requires { ⌜ Table (now sheet) c (now table) ⌝ }
     ensures { λ t. ⌜ t ≡ internalType (now (sheet .entry)) c r d ⌝ }
@@ -301,7 +314,15 @@ fn clock_of(op: u16) -> usize
     }
 }
 
-pub fn arm_type(sheet: &[u8], directory: &[usize; 16], table: &[u16; 4096], c: Record, r: Record, x: Typed, d: bool) -> Typed
+pub fn arm_type(
+    sheet: &[u8],
+    directory: &[usize; 16],
+    table: &[u16; 4096],
+    c: Record,
+    r: Record,
+    x: Typed,
+    d: bool,
+) -> Typed
     requires { ⌜ now directory ≡ directoryOf (now sheet) ⌝ }
     requires { ⌜ Table (now sheet) c (now table) ⌝ }
     ensures { λ t. ⌜ t ≡ armType (now (sheet .entry)) c r x d ⌝ }

@@ -12,8 +12,8 @@ use Rattle.sheet.specs.Sheet.{recordOf}
 use Rattle.laris.specs.Fields.{holds}
 use Rattle.laris.proofs.Fields.{holds-present, holds-absent}
 use Rattle.laris.specs.Static.{noTwin, bodyStatic, bodiesStatic}
-use Rattle.statics.specs.Entries.{Chains}
-use Rattle.statics.proofs.Entries.{body-small, static-small, chained-next, chains-start, ready}
+use Rattle.reactions.specs.Entries.{Chains}
+use Rattle.reactions.proofs.Entries.{body-small, static-small, chained-next, chains-start, ready}
 use Rattle.statics.proofs.bodies_static.Statement.{statement}
 use Rattle.statics.proofs.bodies_static.Tie as tie
 

@@ -7,8 +7,8 @@ use borrow.Author.Needs.{needs}
 use Rattle.sheet.specs.All.{allBelow}
 use Rattle.sheet.proofs.All.{all-more, loop-fails, loop-ends}
 use Rattle.laris.specs.Static.{sectionStatic, static}
-use Rattle.statics.specs.Entries.{Ready}
-use Rattle.statics.proofs.Entries.{ready-zeros}
+use Rattle.reactions.specs.Entries.{Ready}
+use Rattle.reactions.proofs.Entries.{ready-zeros}
 use Rattle.statics.proofs.rules_hold.Statement.{statement}
 use Rattle.statics.proofs.rules_hold.Tie as tie
 

@@ -11,7 +11,7 @@ use Rattle.laris.proofs.Fields.{holds-present, holds-absent}
 use Rattle.sheet.specs.Sheet.{recordOf}
 use Rattle.laris.specs.Fields.{holds}
 use Rattle.laris.specs.Static.{recordStatic, sectionStatic}
-use Rattle.statics.specs.Entries.{Ready}
+use Rattle.reactions.specs.Entries.{Ready}
 use Rattle.statics.proofs.section_static.Statement.{statement}
 use Rattle.statics.proofs.section_static.Tie as tie
 

@@ -5,9 +5,9 @@ use borrow.Author.Tests.{not-true, not-false}
 use mathlib.Core.Bool.{true, not}
 use borrow.Author.Needs.{needs}
 use Rattle.laris.proofs.Fields.{holds-present, holds-absent}
-use Rattle.statics.proofs.Entries.{no-twins, a-twin, twin-less, Walked, walk-start, walk-more}
-use Rattle.statics.proofs.no_twin.Statement.{statement}
-use Rattle.statics.proofs.no_twin.Tie as tie
+use Rattle.reactions.proofs.Entries.{no-twins, a-twin, twin-less, Walked, walk-start, walk-more}
+use Rattle.reactions.proofs.no_twin.Statement.{statement}
+use Rattle.reactions.proofs.no_twin.Tie as tie
 
 abbrev Inv-loop : tie.InvT-loop
 Inv-loop sheet directory last previous j b first e₀ e = Walked sheet first (first + j) b e

@@ -2,9 +2,9 @@ use native.Mathlib.Omega.{arith}
 use mathlib.Core.Path.{_≡_, refl, sym, ap, _∙_}
 use borrow.Author.Tests.{not-true, not-false}
 use borrow.Author.Needs.{needs}
-use Rattle.statics.proofs.Entries.{not-linked, linked}
-use Rattle.statics.proofs.link.Statement.{statement}
-use Rattle.statics.proofs.link.Tie as tie
+use Rattle.reactions.proofs.Entries.{not-linked, linked}
+use Rattle.reactions.proofs.link.Statement.{statement}
+use Rattle.reactions.proofs.link.Tie as tie
 
 is-reaction-requires : tie.Need-is-reaction-requires
 is-reaction-requires c κs = search needs

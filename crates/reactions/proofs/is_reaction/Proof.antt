@@ -3,8 +3,8 @@ use borrow.Author.Tests.{le-leb, lt-leb}
 use borrow.Author.Needs.{needs}
 use Rattle.sheet.proofs.All.{true-and, false-and}
 use Rattle.laris.specs.Shape.{isReaction}
-use Rattle.statics.proofs.is_reaction.Statement.{statement}
-use Rattle.statics.proofs.is_reaction.Tie as tie
+use Rattle.reactions.proofs.is_reaction.Statement.{statement}
+use Rattle.reactions.proofs.is_reaction.Tie as tie
 
 returns : tie.Need-returns
 unfolding isReaction

@@ -9,8 +9,8 @@ use Rattle.sheet.proofs.All.{first-fails, rest-fails, first-holds, all-more, al
 use Rattle.sheet.proofs.All.{and-true}
 use Rattle.laris.specs.Static.{sameReaction}
 use Rattle.laris.specs.Shape.{isReaction}
-use Rattle.statics.proofs.same_reaction.Statement.{statement}
-use Rattle.statics.proofs.same_reaction.Tie as tie
+use Rattle.reactions.proofs.same_reaction.Statement.{statement}
+use Rattle.reactions.proofs.same_reaction.Tie as tie
 
 returns : tie.Need-returns
 unfolding sameReaction isReaction

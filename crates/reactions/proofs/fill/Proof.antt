@@ -3,10 +3,10 @@ use mathlib.Core.Path.{_≡_, refl, sym, ap, _∙_}
 use Prim.Native.Nat.{_-_, _≤_}
 use borrow.Author.Needs.{needs}
 use Rattle.laris.specs.Types.{reactsTo}
-use Rattle.statics.specs.Entries.{Entries}
-use Rattle.statics.proofs.Entries.{Filled, filled-none, filled-more, filled-table, entered-entries}
-use Rattle.statics.proofs.fill.Statement.{statement}
-use Rattle.statics.proofs.fill.Tie as tie
+use Rattle.reactions.specs.Entries.{Entries}
+use Rattle.reactions.proofs.Entries.{Filled, filled-none, filled-more, filled-table, entered-entries}
+use Rattle.reactions.proofs.fill.Statement.{statement}
+use Rattle.reactions.proofs.fill.Tie as tie
 
 abbrev Inv-loop : tie.InvT-loop
 Inv-loop sheet directory table₀ first count j₀ table j = (j ≤ count) × Entries sheet reactsTo table × Filled sheet first j table

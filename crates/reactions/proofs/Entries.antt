@@ -23,7 +23,7 @@ use Rattle.laris.specs.Types.{reactsTo, hasReaction}
 use Rattle.laris.specs.Static.{reactionStatic, roleStatic, bodyStatic, sameReaction, noTwin}
 use Rattle.types.specs.Table.{tabled, Table}
 use Rattle.types.proofs.Table.{noReaction, reaction-found, reaction-none, class-small}
-use Rattle.statics.specs.Entries.{isA, Entries, Entered, named, upTo, Latest, Chains, Linked, Ready}
+use Rattle.reactions.specs.Entries.{isA, Entries, Entered, named, upTo, Latest, Chains, Linked, Ready}
 
 pub all-each : (n : ℕ) (p : ℕ → Bool) → ((i : ℕ) → i < n → p i ≡ true) → allBelow n p ≡ true
 unfolding allBelow

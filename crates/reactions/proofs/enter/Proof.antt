@@ -1,9 +1,9 @@
 use native.Mathlib.Omega.{arith}
 use mathlib.Core.Path.{_≡_, refl, sym, ap, _∙_}
 use borrow.Author.Needs.{needs}
-use Rattle.statics.proofs.Entries.{body-small, enter-absent, enter-other, enter-past, enter-it}
-use Rattle.statics.proofs.enter.Statement.{statement}
-use Rattle.statics.proofs.enter.Tie as tie
+use Rattle.reactions.proofs.Entries.{body-small, enter-absent, enter-other, enter-past, enter-it}
+use Rattle.reactions.proofs.enter.Statement.{statement}
+use Rattle.reactions.proofs.enter.Tie as tie
 
 read-requires : tie.Need-read-requires
 read-requires c κs = search needs

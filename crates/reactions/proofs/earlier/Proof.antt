@@ -1,9 +1,9 @@
 use native.Mathlib.Omega.{arith}
 use mathlib.Core.Path.{_≡_, refl, sym, ap, _∙_}
 use borrow.Author.Needs.{needs}
-use Rattle.statics.proofs.Entries.{up-past, up-in}
-use Rattle.statics.proofs.earlier.Statement.{statement}
-use Rattle.statics.proofs.earlier.Tie as tie
+use Rattle.reactions.proofs.Entries.{up-past, up-in}
+use Rattle.reactions.proofs.earlier.Statement.{statement}
+use Rattle.reactions.proofs.earlier.Tie as tie
 
 returns : tie.Need-returns
 returns c = (sym (up-past _ _ (c .if1 .taken)), omega arith)
