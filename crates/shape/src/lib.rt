@@ -133,7 +133,8 @@ fn reaction_fits(sheet: &[u8], directory: &[usize; 16], r: Record) -> bool
     let role = r.f0;
     match role {
         2 => {
-            if fields::field_at(sheet, directory, 0, 0, 2) <= r.f1 as usize {
+            let ports = fields::field_at(sheet, directory, 0, 0, 2);
+            if ports <= r.f1 as usize {
                 return false;
             }
             (r.f2 as usize) < reader::count_in(directory, 3)

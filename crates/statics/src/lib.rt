@@ -3,11 +3,13 @@ use sheet::Found;
 use sheet::Range;
 use sheet::Record;
 ghost use mathlib.Core.Path.{_≡_};
-ghost use Prim.Native.Nat.{_+_, _<_, _≤_};
+ghost use Prim.Native.Nat.{_<_, _≤_};
 ghost use Rattle.sheet.specs.Names.{chartParameters, bodyParameters, bodyLocals};
 ghost use Rattle.sheet.specs.Sheet.{directoryOf};
 ghost use Rattle.laris.specs.Fields.{oneIf};
-ghost use Rattle.laris.specs.Static.{noClocks, nameStatic, sameTypes, reactionStatic, roleStatic, bodyStatic, bodiesWith, sameReaction, hasRole, noTwin, bodiesStatic, chartStatic, constantStatic, constantsStatic, bindingStatic, recordStatic, sectionStatic, static};
+ghost use Rattle.laris.specs.Static.{noClocks, nameStatic, sameTypes, reactionStatic, roleStatic, bodyStatic, bodiesWith, hasRole, bodiesStatic, chartStatic, constantStatic, constantsStatic, bindingStatic, recordStatic, sectionStatic, static};
+ghost use Rattle.types.specs.Table.{Table};
+ghost use Rattle.reactions.specs.Entries.{Ready};
 
 // Whether a range of declarations has no clock.
 fn no_clocks(sheet: &[u8], directory: &[usize; 16], g: Range) -> bool
@@ -18,7 +20,7 @@ fn no_clocks(sheet: &[u8], directory: &[usize; 16], g: Range) -> bool
     let count = g.count;
     let mut j: usize = 0;
     while j < count {
-        if typing::is_clock(typing::type_at(sheet, directory, first + j)) {
+        if types::is_clock(types::type_at(sheet, directory, first + j)) {
             return false;
         }
         j += 1;
@@ -39,8 +41,8 @@ fn same_types(sheet: &[u8], directory: &[usize; 16], g: Range, h: Range) -> bool
     }
     let mut j: usize = 0;
     while j < count {
-        if typing::type_at(sheet, directory, from + j)
-            != typing::type_at(sheet, directory, with + j)
+        if types::type_at(sheet, directory, from + j)
+            != types::type_at(sheet, directory, with + j)
         {
             return false;
         }
@@ -73,24 +75,24 @@ fn reaction_static(sheet: &[u8], directory: &[usize; 16], b: Record) -> bool
 {
     let name = b.f2 as usize;
     if b.f0 == 2 {
-        if !typing::has_class(sheet, directory, name, 0) {
+        if !types::has_class(sheet, directory, name, 0) {
             return false;
         }
         return same_types(
             sheet,
             directory,
             parameters(b),
-            typing::name_range(sheet, directory, name),
+            types::name_range(sheet, directory, name),
         );
     }
-    if !typing::has_class(sheet, directory, name, 1) {
+    if !types::has_class(sheet, directory, name, 1) {
         return false;
     }
     same_types(
         sheet,
         directory,
         parameters(b),
-        typing::name_range(sheet, directory, name),
+        types::name_range(sheet, directory, name),
     )
 }
 
@@ -106,8 +108,15 @@ fn role_static(sheet: &[u8], directory: &[usize; 16], b: Record) -> bool
     }
 }
 
-fn body_static(sheet: &[u8], directory: &[usize; 16], c: Record, b: Record) -> bool
+fn body_static(
+    sheet: &[u8],
+    directory: &[usize; 16],
+    table: &[u16; 4096],
+    c: Record,
+    b: Record,
+) -> bool
     requires { ⌜ now directory ≡ directoryOf (now sheet) ⌝ }
+    requires { ⌜ Table (now sheet) c (now table) ⌝ }
     ensures { λ x. ⌜ x ≡ bodyStatic (now (sheet .entry)) c b ⌝ }
 {
     if !no_clocks(sheet, directory, parameters(b)) {
@@ -119,7 +128,7 @@ fn body_static(sheet: &[u8], directory: &[usize; 16], c: Record, b: Record) -> b
     if !role_static(sheet, directory, b) {
         return false;
     }
-    typing::is_statement(typing::type_of(sheet, directory, c, b, b.f7 as usize))
+    types::is_statement(typing::type_of(sheet, directory, table, c, b, b.f7 as usize))
 }
 
 // How many bodies of chart c have a role.
@@ -149,68 +158,50 @@ fn role_count(sheet: &[u8], directory: &[usize; 16], i: usize, role: u16) -> usi
     if b.f0 == role { 1 } else { 0 }
 }
 
-fn same_reaction(a: Record, b: Record) -> bool
-    ensures { λ x. ⌜ x ≡ sameReaction a b ⌝ }
-{
-    if a.f0 < 2 {
-        return false;
-    }
-    if 3 < a.f0 {
-        return false;
-    }
-    if a.f0 != b.f0 {
-        return false;
-    }
-    if a.f1 != b.f1 {
-        return false;
-    }
-    a.f2 == b.f2
-}
-
-// Whether no body of chart c before body j, which is b, reacts to the same.
-fn no_twin(sheet: &[u8], directory: &[usize; 16], c: Record, j: usize, b: Record) -> bool
-    requires { ⌜ (now directory ≡ directoryOf (now sheet)) × (j < 65536) ⌝ }
-    ensures { λ x. ⌜ x ≡ noTwin (now (sheet .entry)) c j b ⌝ }
-{
-    let first = c.f4 as usize;
-    let mut i: usize = 0;
-    while i < j {
-        let Found::Present(a) = reader::read(sheet, directory, 5, first + i) else {
-            return false;
-        };
-        if same_reaction(a, b) {
-            return false;
-        }
-        i += 1;
-    }
-    true
-}
-
-fn bodies_static(sheet: &[u8], directory: &[usize; 16], c: Record) -> bool
+fn bodies_static(
+    sheet: &[u8],
+    directory: &[usize; 16],
+    table: &mut [u16; 4096],
+    last: &mut [u16; 4096],
+    previous: &mut [u16; 4096],
+    c: Record,
+) -> bool
     requires { ⌜ now directory ≡ directoryOf (now sheet) ⌝ }
-    ensures { λ x. ⌜ x ≡ bodiesStatic (now (sheet .entry)) c ⌝ }
+    requires { ⌜ Ready (now sheet) (now table) (now last) (now previous) ⌝ }
+    ensures { λ x. ⌜ (x ≡ bodiesStatic (now (sheet .entry)) c) × Ready (now (sheet .entry)) (now (table .exit)) (now (last .exit)) (now (previous .exit)) ⌝ }
 {
+    reactions::fill(sheet, directory, table, c);
     let first = c.f4 as usize;
     let count = c.f5 as usize;
     let mut j: usize = 0;
     while j < count {
-        let Found::Present(b) = reader::read(sheet, directory, 5, first + j) else {
+        let i = first + j;
+        let Found::Present(b) = reader::read(sheet, directory, 5, i) else {
             return false;
         };
-        if !no_twin(sheet, directory, c, j, b) {
+        if !body_static(sheet, directory, table, c, b) {
             return false;
         }
-        if !body_static(sheet, directory, c, b) {
+        if !reactions::no_twin(sheet, directory, last, previous, c, j, b) {
             return false;
         }
+        reactions::link(last, previous, i, b);
         j += 1;
     }
     true
 }
 
-fn chart_static(sheet: &[u8], directory: &[usize; 16], c: Record) -> bool
+fn chart_static(
+    sheet: &[u8],
+    directory: &[usize; 16],
+    table: &mut [u16; 4096],
+    last: &mut [u16; 4096],
+    previous: &mut [u16; 4096],
+    c: Record,
+) -> bool
     requires { ⌜ now directory ≡ directoryOf (now sheet) ⌝ }
-    ensures { λ x. ⌜ x ≡ chartStatic (now (sheet .entry)) c ⌝ }
+    requires { ⌜ Ready (now sheet) (now table) (now last) (now previous) ⌝ }
+    ensures { λ x. ⌜ (x ≡ chartStatic (now (sheet .entry)) c) × Ready (now (sheet .entry)) (now (table .exit)) (now (last .exit)) (now (previous .exit)) ⌝ }
 {
     let g = Range {
         first: c.f0 as usize,
@@ -225,7 +216,7 @@ fn chart_static(sheet: &[u8], directory: &[usize; 16], c: Record) -> bool
     if bodies_with(sheet, directory, c, 1) != 1 {
         return false;
     }
-    bodies_static(sheet, directory, c)
+    bodies_static(sheet, directory, table, last, previous, c)
 }
 
 fn constant_static(sheet: &[u8], directory: &[usize; 16], n: usize, t: usize) -> bool
@@ -235,7 +226,7 @@ fn constant_static(sheet: &[u8], directory: &[usize; 16], n: usize, t: usize) ->
     let Found::Present(r) = reader::read(sheet, directory, 6, n) else {
         return false;
     };
-    typing::literal_type(r) == t
+    types::literal_type(r) == t
 }
 
 // The constants of a binding to chart c.
@@ -247,7 +238,7 @@ fn constants_static(sheet: &[u8], directory: &[usize; 16], r: Record, c: Record)
     let count = c.f1 as usize;
     let mut j: usize = 0;
     while j < count {
-        let t = typing::type_at(sheet, directory, first + j);
+        let t = types::type_at(sheet, directory, first + j);
         if !constant_static(sheet, directory, fields::field(r, 1 + j), t) {
             return false;
         }
@@ -277,21 +268,38 @@ fn name_static(sheet: &[u8], directory: &[usize; 16], r: Record) -> bool
     no_clocks(sheet, directory, g)
 }
 
-fn record_static(sheet: &[u8], directory: &[usize; 16], k: usize, r: Record) -> bool
+fn record_static(
+    sheet: &[u8],
+    directory: &[usize; 16],
+    table: &mut [u16; 4096],
+    last: &mut [u16; 4096],
+    previous: &mut [u16; 4096],
+    k: usize,
+    r: Record,
+) -> bool
     requires { ⌜ now directory ≡ directoryOf (now sheet) ⌝ }
-    ensures { λ x. ⌜ x ≡ recordStatic (now (sheet .entry)) k r ⌝ }
+    requires { ⌜ Ready (now sheet) (now table) (now last) (now previous) ⌝ }
+    ensures { λ x. ⌜ (x ≡ recordStatic (now (sheet .entry)) k r) × Ready (now (sheet .entry)) (now (table .exit)) (now (last .exit)) (now (previous .exit)) ⌝ }
 {
     match k {
         3 => name_static(sheet, directory, r),
-        4 => chart_static(sheet, directory, r),
+        4 => chart_static(sheet, directory, table, last, previous, r),
         7 => binding_static(sheet, directory, r),
         _ => true,
     }
 }
 
-fn section_static(sheet: &[u8], directory: &[usize; 16], k: usize) -> bool
+fn section_static(
+    sheet: &[u8],
+    directory: &[usize; 16],
+    table: &mut [u16; 4096],
+    last: &mut [u16; 4096],
+    previous: &mut [u16; 4096],
+    k: usize,
+) -> bool
     requires { ⌜ now directory ≡ directoryOf (now sheet) ⌝ }
-    ensures { λ x. ⌜ x ≡ sectionStatic (now (sheet .entry)) k ⌝ }
+    requires { ⌜ Ready (now sheet) (now table) (now last) (now previous) ⌝ }
+    ensures { λ x. ⌜ (x ≡ sectionStatic (now (sheet .entry)) k) × Ready (now (sheet .entry)) (now (table .exit)) (now (last .exit)) (now (previous .exit)) ⌝ }
 {
     let count = reader::count_in(directory, k);
     let mut i: usize = 0;
@@ -299,7 +307,7 @@ fn section_static(sheet: &[u8], directory: &[usize; 16], k: usize) -> bool
         let Found::Present(r) = reader::read(sheet, directory, k, i) else {
             return false;
         };
-        if !record_static(sheet, directory, k, r) {
+        if !record_static(sheet, directory, table, last, previous, k, r) {
             return false;
         }
         i += 1;
@@ -312,9 +320,12 @@ pub fn rules_hold(sheet: &[u8], directory: &[usize; 16]) -> bool
     requires { ⌜ now directory ≡ directoryOf (now sheet) ⌝ }
     ensures { λ x. ⌜ x ≡ static (now (sheet .entry)) ⌝ }
 {
+    let mut table = [0u16; 4096];
+    let mut last = [0u16; 4096];
+    let mut previous = [0u16; 4096];
     let mut k: usize = 0;
     while k < 8 {
-        if !section_static(sheet, directory, k) {
+        if !section_static(sheet, directory, &mut table, &mut last, &mut previous, k) {
             return false;
         }
         k += 1;

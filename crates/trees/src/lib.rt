@@ -3,6 +3,7 @@ use laris::Operands;
 use sheet::Found;
 use sheet::Record;
 ghost use mathlib.Core.Path.{_≡_};
+ghost use lib.Dec.{ltb};
 ghost use Rattle.sheet.specs.Sheet.{directoryOf};
 ghost use Rattle.laris.specs.Forms.{formOf};
 ghost use Rattle.laris.specs.Shape.{variablesAt, sendShape, fieldsShape, treeShape, treesShape};
@@ -30,6 +31,13 @@ fn send_fits(sheet: &[u8], directory: &[usize; 16], r: Record) -> bool
     fields::zero_from(r, 4 + n.f1 as usize)
 }
 
+// Whether the clock that a node names is one of the chart's variables.
+fn clock_there(c: Record, r: Record) -> bool
+    ensures { λ x. ⌜ x ≡ ltb (r .f1) (c .f3) ⌝ }
+{
+    r.f1 < c.f3
+}
+
 fn fields_fit(sheet: &[u8], directory: &[usize; 16], c: Record, b: Record, r: Record) -> bool
     requires { ⌜ now directory ≡ directoryOf (now sheet) ⌝ }
     ensures { λ x. ⌜ x ≡ fieldsShape (now (sheet .entry)) c b r (formOf (r .f0)) ⌝ }
@@ -46,7 +54,7 @@ fn fields_fit(sheet: &[u8], directory: &[usize; 16], c: Record, b: Record, r: Re
         8 => fields::zero_from(r, 2),
         9..=16 => fields::zero_from(r, 3),
         17..=18 => {
-            if c.f3 <= r.f1 {
+            if !clock_there(c, r) {
                 return false;
             }
             fields::zero_from(r, 2)
@@ -69,13 +77,13 @@ fn fields_fit(sheet: &[u8], directory: &[usize; 16], c: Record, b: Record, r: Re
             send_fits(sheet, directory, r)
         }
         36..=37 => {
-            if c.f3 <= r.f1 {
+            if !clock_there(c, r) {
                 return false;
             }
             send_fits(sheet, directory, r)
         }
         38..=39 => {
-            if c.f3 <= r.f1 {
+            if !clock_there(c, r) {
                 return false;
             }
             fields::zero_from(r, 2)

@@ -1,9 +1,8 @@
-use native.Mathlib.Omega.{arith}
 use mathlib.Core.Path.{_≡_, refl, sym, ap, _∙_}
-use mathlib.Core.Bool.{Bool, true, false, not}
+use mathlib.Core.Bool.{true}
 use mathlib.Core.List.{List}
-use Prim.Native.Nat.{ℕ, _+_, _-_, _*_, _≤_, _<_}
-use borrow.Author.Tests.{lt-ltb, le-ltb, le-leb, lt-leb, eq-eqb, ne-eqb, not-true, not-false}
+use Prim.Native.Nat.{ℕ}
+use borrow.Author.Tests.{ne-eqb}
 use borrow.Author.Needs.{needs}
 use Rattle.sheet.specs.declared.Record.{Record}
 use Rattle.laris.specs.Static.{recordStatic}
@@ -25,18 +24,18 @@ binding-static-requires c κs = search needs
 
 returns : tie.Need-returns
 unfolding recordStatic
-returns c = c .name-static .ensures ∙ sym (ap (λ n. recordStatic (c .before .before .before .args .sheet .now) n (c .before .before .before .args .r)) (c .before .match .keys1))
+returns c = (c .name-static .ensures ∙ sym (ap (λ n. recordStatic (c .before .before .before .args .sheet .now) n (c .before .before .before .args .r)) (c .before .match .keys1)), c .before .before .before .pre .1)
 
 returns-2 : tie.Need-returns-2
 unfolding recordStatic
-returns-2 c = c .chart-static .ensures ∙ sym (ap (λ n. recordStatic (c .before .before .before .args .sheet .now) n (c .before .before .before .args .r)) (c .before .match .keys2))
+returns-2 c = (c .chart-static .ensures .0 ∙ sym (ap (λ n. recordStatic (c .before .before .before .before .before .before .args .sheet .now) n (c .before .before .before .before .before .before .args .r)) (c .before .before .before .before .match .keys2)), c .chart-static .ensures .1)
 
 returns-3 : tie.Need-returns-3
 unfolding recordStatic
-returns-3 c = c .binding-static .ensures ∙ sym (ap (λ n. recordStatic (c .before .before .before .args .sheet .now) n (c .before .before .before .args .r)) (c .before .match .keys3))
+returns-3 c = (c .binding-static .ensures ∙ sym (ap (λ n. recordStatic (c .before .before .before .args .sheet .now) n (c .before .before .before .args .r)) (c .before .match .keys3)), c .before .before .before .pre .1)
 
 returns-4 : tie.Need-returns-4
-returns-4 c = sym (other _ _ _ (c .match .rest .0 .0 .1) (c .match .rest .0 .1) (c .match .rest .1))
+returns-4 c = (sym (other _ _ _ (c .match .rest .0 .0 .1) (c .match .rest .0 .1) (c .match .rest .1)), c .before .before .pre .1)
 
 pub record-static-spec : {M : Type 1} → statement M
 record-static-spec =

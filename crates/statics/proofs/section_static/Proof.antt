@@ -1,16 +1,17 @@
 use native.Mathlib.Omega.{arith}
-use mathlib.Core.Path.{_≡_, refl, sym, ap, _∙_}
-use mathlib.Core.Bool.{Bool, true, not}
+use mathlib.Core.Path.{_≡_, refl, sym, _∙_}
+use mathlib.Core.Bool.{Bool, true}
 use mathlib.Core.List.{List}
-use Prim.Native.Nat.{ℕ, _+_, _-_, _*_, _≤_}
-use borrow.Author.Tests.{lt-ltb, le-ltb, le-leb, lt-leb, eq-eqb, ne-eqb, not-true, not-false}
+use Prim.Native.Nat.{ℕ, _-_, _≤_}
+use borrow.Author.Tests.{not-true, not-false}
 use borrow.Author.Needs.{needs}
-use Rattle.sheet.specs.All.{_and_, allBelow}
+use Rattle.sheet.specs.All.{allBelow}
 use Rattle.sheet.proofs.All.{all-more, loop-fails, loop-ends}
 use Rattle.laris.proofs.Fields.{holds-present, holds-absent}
 use Rattle.sheet.specs.Sheet.{recordOf}
 use Rattle.laris.specs.Fields.{holds}
 use Rattle.laris.specs.Static.{recordStatic, sectionStatic}
+use Rattle.reactions.specs.Entries.{Ready}
 use Rattle.statics.proofs.section_static.Statement.{statement}
 use Rattle.statics.proofs.section_static.Tie as tie
 
@@ -18,17 +19,17 @@ abbrev fits : List ℕ → ℕ → ℕ → Bool
 fits s k i = holds (recordOf s k i) (recordStatic s k)
 
 abbrev Inv-loop : tie.InvT-loop
-Inv-loop sheet directory k count i₀ i = (i ≤ count) × (allBelow i (fits sheet k) ≡ true)
+Inv-loop sheet directory table₀ last₀ previous₀ k count i₀ table last previous i = (i ≤ count) × (allBelow i (fits sheet k) ≡ true) × Ready sheet table last previous
 
 abbrev μ-loop : tie.MeasureT-loop
-μ-loop sheet directory k count i₀ i = count - i
+μ-loop sheet directory table₀ last₀ previous₀ k count i₀ table last previous i = count - i
 
 count-in-requires : tie.Need-count-in-requires Inv-loop μ-loop
 count-in-requires c κs = search needs
 
 loop-holds : tie.Need-loop-holds Inv-loop μ-loop
 unfolding allBelow
-loop-holds c = (omega arith, refl)
+loop-holds c = (omega arith, refl, c .before .before .pre .1)
 
 read-requires : tie.Need-read-requires Inv-loop μ-loop
 read-requires c κs = search needs
@@ -41,14 +42,14 @@ enum-told c = search needs
 
 returns : tie.Need-returns Inv-loop μ-loop
 unfolding sectionStatic
-returns c = loop-fails _ _ _ _ (c .before .before .before .before .before .count-in .ensures _ (c .before .before .before .before .before .before .before .pre)) (c .before .before .before .loop-test .taken) (holds-absent _ _ (sym (c .before .before .read .ensures) ∙ c .enum-told .given .1))
+returns c = (loop-fails _ _ _ _ (c .before .before .before .before .before .count-in .ensures _ (c .before .before .before .before .before .before .before .pre .0)) (c .before .before .before .loop-test .taken) (holds-absent _ _ (sym (c .before .before .read .ensures) ∙ c .enum-told .given .1)), c .before .before .before .before .loop .inv .2)
 
 record-static-requires : tie.Need-record-static-requires Inv-loop μ-loop
-record-static-requires c κs = search needs
+record-static-requires c κs = (c .before .before .before .before .before .before .before .before .before .before .before .pre .0, c .before .before .before .before .before .before .before .before .loop .inv .2)
 
 returns-2 : tie.Need-returns-2 Inv-loop μ-loop
 unfolding sectionStatic
-returns-2 c = loop-fails _ _ _ _ (c .before .before .before .before .before .before .before .before .count-in .ensures _ (c .before .before .before .before .before .before .before .before .before .before .pre)) (c .before .before .before .before .before .before .loop-test .taken) (holds-present _ _ _ (sym (c .before .before .before .before .before .read .ensures) ∙ c .before .before .before .r .given .1) ∙ sym (c .before .record-static .ensures) ∙ not-true _ (c .if1 .taken))
+returns-2 c = (loop-fails _ _ _ _ (c .before .before .before .before .before .before .before .before .before .before .before .count-in .ensures _ (c .before .before .before .before .before .before .before .before .before .before .before .before .before .pre .0)) (c .before .before .before .before .before .before .before .before .before .loop-test .taken) (holds-present _ _ _ (sym (c .before .before .before .before .before .before .before .before .read .ensures) ∙ c .before .before .before .before .before .before .r .given .1) ∙ sym (c .before .record-static .ensures .0) ∙ not-true _ (c .if1 .taken)), c .before .record-static .ensures .1)
 
 add-i : tie.Need-add-i Inv-loop μ-loop
 add-i c = search needs
@@ -57,11 +58,11 @@ loop-less : tie.Need-loop-less Inv-loop μ-loop
 loop-less c = search needs
 
 loop-again : tie.Need-loop-again Inv-loop μ-loop
-loop-again c = (omega arith, all-more (c .before .before .before .before .before .before .before .loop .i) _ (c .before .before .before .before .before .before .before .loop .inv .1) (holds-present _ _ _ (sym (c .before .before .before .before .before .read .ensures) ∙ c .before .before .before .r .given .1) ∙ sym (c .before .record-static .ensures) ∙ not-false _ (c .if1 .left)))
+loop-again c = (omega arith, all-more (c .before .before .before .before .before .before .before .before .before .before .loop .i) _ (c .before .before .before .before .before .before .before .before .before .before .loop .inv .1) (holds-present _ _ _ (sym (c .before .before .before .before .before .before .before .before .read .ensures) ∙ c .before .before .before .before .before .before .r .given .1) ∙ sym (c .before .record-static .ensures .0) ∙ not-false _ (c .if1 .left)), c .before .record-static .ensures .1)
 
 returns-3 : tie.Need-returns-3 Inv-loop μ-loop
 unfolding sectionStatic
-returns-3 c = loop-ends _ _ _ _ (c .before .before .count-in .ensures _ (c .before .before .before .before .pre)) (c .before .loop .inv .0) (c .loop-test .left) (c .before .loop .inv .1)
+returns-3 c = (loop-ends _ _ _ _ (c .before .before .count-in .ensures _ (c .before .before .before .before .pre .0)) (c .before .loop .inv .0) (c .loop-test .left) (c .before .loop .inv .1), c .before .loop .inv .2)
 
 pub section-static-spec : {M : Type 1} → statement M
 section-static-spec =

@@ -113,23 +113,32 @@ literal-fits-requires c κs = search needs
 zero-from-requires-7 : tie.Need-zero-from-requires-7
 zero-from-requires-7 c κs = search needs
 
+clock-there-requires : tie.Need-clock-there-requires
+clock-there-requires c κs = search needs
+
 returns-8 : tie.Need-returns-8
 unfolding fieldsShape
-returns-8 c = at (c .before .before .before .before .before .before .before .before .before .args .sheet .now) (c .before .before .before .before .before .before .before .before .before .args .c) (c .before .before .before .before .before .before .before .before .before .args .b) (c .before .before .before .before .before .before .before .before .before .args .r) clock _ (form-clock _ (c .before .before .before .before .if10 .left) (below-is _ _ (c .before .before .before .if11 .taken))) (first-fails _ _ (le-ltb _ _ (c .if12 .taken)))
+returns-8 c = at (c .before .before .before .before .before .before .before .before .args .sheet .now) (c .before .before .before .before .before .before .before .before .args .c) (c .before .before .before .before .before .before .before .before .args .b) (c .before .before .before .before .before .before .before .before .args .r) clock _ (form-clock _ (c .before .before .before .if10 .left) (below-is _ _ (c .before .before .if11 .taken))) (first-fails _ _ (sym (c .before .clock-there .ensures) ∙ not-true _ (c .if12 .taken)))
 
 zero-from-requires-8 : tie.Need-zero-from-requires-8
 zero-from-requires-8 c κs = search needs
 
+clock-there-requires-2 : tie.Need-clock-there-requires-2
+clock-there-requires-2 c κs = search needs
+
 returns-9 : tie.Need-returns-9
 unfolding fieldsShape
-returns-9 c = at (c .before .before .before .before .before .before .before .before .before .before .before .args .sheet .now) (c .before .before .before .before .before .before .before .before .before .before .before .args .c) (c .before .before .before .before .before .before .before .before .before .before .before .args .b) (c .before .before .before .before .before .before .before .before .before .before .before .args .r) arm _ (form-arm _ (from-next 35 _ (from-next 34 _ (from-next 33 _ (from-next 32 _ (c .before .before .before .before .if13 .left) (c .before .before .before .before .before .before .before .before .before .match .rest .0 .0 .0 .0 .0 .1)) (c .before .before .before .before .before .before .before .before .before .match .rest .0 .0 .0 .0 .1)) (c .before .before .before .before .before .before .before .before .before .match .rest .0 .0 .0 .1)) (c .before .before .before .before .before .before .before .before .before .match .rest .0 .0 .1)) (below-is _ _ (c .before .before .before .if14 .taken))) (first-fails _ _ (le-ltb _ _ (c .if15 .taken)))
+returns-9 c = at (c .before .before .before .before .before .before .before .before .before .before .args .sheet .now) (c .before .before .before .before .before .before .before .before .before .before .args .c) (c .before .before .before .before .before .before .before .before .before .before .args .b) (c .before .before .before .before .before .before .before .before .before .before .args .r) arm _ (form-arm _ (from-next 35 _ (from-next 34 _ (from-next 33 _ (from-next 32 _ (c .before .before .before .if13 .left) (c .before .before .before .before .before .before .before .before .match .rest .0 .0 .0 .0 .0 .1)) (c .before .before .before .before .before .before .before .before .match .rest .0 .0 .0 .0 .1)) (c .before .before .before .before .before .before .before .before .match .rest .0 .0 .0 .1)) (c .before .before .before .before .before .before .before .before .match .rest .0 .0 .1)) (below-is _ _ (c .before .before .if14 .taken))) (first-fails _ _ (sym (c .before .clock-there2 .ensures) ∙ not-true _ (c .if15 .taken)))
 
 send-fits-requires-3 : tie.Need-send-fits-requires-3
 send-fits-requires-3 c κs = search needs
 
+clock-there-requires-3 : tie.Need-clock-there-requires-3
+clock-there-requires-3 c κs = search needs
+
 returns-10 : tie.Need-returns-10
 unfolding fieldsShape
-returns-10 c = at (c .before .before .before .before .before .before .before .before .before .before .before .before .args .sheet .now) (c .before .before .before .before .before .before .before .before .before .before .before .before .args .c) (c .before .before .before .before .before .before .before .before .before .before .before .before .args .b) (c .before .before .before .before .before .before .before .before .before .before .before .before .args .r) clockAct _ (form-clockAct _ (c .before .before .before .before .if14 .left) (below-is _ _ (c .before .before .before .if16 .taken))) (first-fails _ _ (le-ltb _ _ (c .if17 .taken)))
+returns-10 c = at (c .before .before .before .before .before .before .before .before .before .before .before .args .sheet .now) (c .before .before .before .before .before .before .before .before .before .before .before .args .c) (c .before .before .before .before .before .before .before .before .before .before .before .args .b) (c .before .before .before .before .before .before .before .before .before .before .before .args .r) clockAct _ (form-clockAct _ (c .before .before .before .if14 .left) (below-is _ _ (c .before .before .if16 .taken))) (first-fails _ _ (sym (c .before .clock-there3 .ensures) ∙ not-true _ (c .if17 .taken)))
 
 zero-from-requires-9 : tie.Need-zero-from-requires-9
 zero-from-requires-9 c κs = search needs
@@ -179,15 +188,15 @@ returns-20 c = at (c .before .before .before .before .before .before .args .shee
 
 returns-21 : tie.Need-returns-21
 unfolding fieldsShape
-returns-21 c = at (c .before .before .before .before .before .before .before .before .before .before .args .sheet .now) (c .before .before .before .before .before .before .before .before .before .before .args .c) (c .before .before .before .before .before .before .before .before .before .before .args .b) (c .before .before .before .before .before .before .before .before .before .before .args .r) clock _ (form-clock _ (c .before .before .before .before .before .if10 .left) (below-is _ _ (c .before .before .before .before .if11 .taken))) (first-holds _ _ _ (lt-ltb _ _ (c .before .if12 .left)) (c .zero-from8 .ensures))
+returns-21 c = at (c .before .before .before .before .before .before .before .before .before .args .sheet .now) (c .before .before .before .before .before .before .before .before .before .args .c) (c .before .before .before .before .before .before .before .before .before .args .b) (c .before .before .before .before .before .before .before .before .before .args .r) clock _ (form-clock _ (c .before .before .before .before .if10 .left) (below-is _ _ (c .before .before .before .if11 .taken))) (first-holds _ _ _ (sym (c .before .before .clock-there .ensures) ∙ not-false _ (c .before .if12 .left)) (c .zero-from8 .ensures))
 
 returns-22 : tie.Need-returns-22
 unfolding fieldsShape
-returns-22 c = at (c .before .before .before .before .before .before .before .before .before .before .before .before .args .sheet .now) (c .before .before .before .before .before .before .before .before .before .before .before .before .args .c) (c .before .before .before .before .before .before .before .before .before .before .before .before .args .b) (c .before .before .before .before .before .before .before .before .before .before .before .before .args .r) arm _ (form-arm _ (from-next 35 _ (from-next 34 _ (from-next 33 _ (from-next 32 _ (c .before .before .before .before .before .if13 .left) (c .before .before .before .before .before .before .before .before .before .before .match .rest .0 .0 .0 .0 .0 .1)) (c .before .before .before .before .before .before .before .before .before .before .match .rest .0 .0 .0 .0 .1)) (c .before .before .before .before .before .before .before .before .before .before .match .rest .0 .0 .0 .1)) (c .before .before .before .before .before .before .before .before .before .before .match .rest .0 .0 .1)) (below-is _ _ (c .before .before .before .before .if14 .taken))) (first-holds _ _ _ (lt-ltb _ _ (c .before .if15 .left)) (c .send-fits3 .ensures))
+returns-22 c = at (c .before .before .before .before .before .before .before .before .before .before .before .args .sheet .now) (c .before .before .before .before .before .before .before .before .before .before .before .args .c) (c .before .before .before .before .before .before .before .before .before .before .before .args .b) (c .before .before .before .before .before .before .before .before .before .before .before .args .r) arm _ (form-arm _ (from-next 35 _ (from-next 34 _ (from-next 33 _ (from-next 32 _ (c .before .before .before .before .if13 .left) (c .before .before .before .before .before .before .before .before .before .match .rest .0 .0 .0 .0 .0 .1)) (c .before .before .before .before .before .before .before .before .before .match .rest .0 .0 .0 .0 .1)) (c .before .before .before .before .before .before .before .before .before .match .rest .0 .0 .0 .1)) (c .before .before .before .before .before .before .before .before .before .match .rest .0 .0 .1)) (below-is _ _ (c .before .before .before .if14 .taken))) (first-holds _ _ _ (sym (c .before .before .clock-there2 .ensures) ∙ not-false _ (c .before .if15 .left)) (c .send-fits3 .ensures))
 
 returns-23 : tie.Need-returns-23
 unfolding fieldsShape
-returns-23 c = at (c .before .before .before .before .before .before .before .before .before .before .before .before .before .args .sheet .now) (c .before .before .before .before .before .before .before .before .before .before .before .before .before .args .c) (c .before .before .before .before .before .before .before .before .before .before .before .before .before .args .b) (c .before .before .before .before .before .before .before .before .before .before .before .before .before .args .r) clockAct _ (form-clockAct _ (c .before .before .before .before .before .if14 .left) (below-is _ _ (c .before .before .before .before .if16 .taken))) (first-holds _ _ _ (lt-ltb _ _ (c .before .if17 .left)) (c .zero-from9 .ensures))
+returns-23 c = at (c .before .before .before .before .before .before .before .before .before .before .before .before .args .sheet .now) (c .before .before .before .before .before .before .before .before .before .before .before .before .args .c) (c .before .before .before .before .before .before .before .before .before .before .before .before .args .b) (c .before .before .before .before .before .before .before .before .before .before .before .before .args .r) clockAct _ (form-clockAct _ (c .before .before .before .before .if14 .left) (below-is _ _ (c .before .before .before .if16 .taken))) (first-holds _ _ _ (sym (c .before .before .clock-there3 .ensures) ∙ not-false _ (c .before .if17 .left)) (c .zero-from9 .ensures))
 
 returns-24 : tie.Need-returns-24
 returns-24 c = loop-or-sequence _ _ _ _ _ (from-next 41 _ (from-next 40 _ (c .before .before .if16 .left) (c .before .before .before .before .before .before .before .before .before .match .rest .0 .1)) (c .before .before .before .before .before .before .before .before .before .match .rest .1)) (below-is _ _ (c .before .if18 .taken)) (c .zero-from10 .ensures)
@@ -231,10 +240,13 @@ fields-fit-spec =
     zero-from-requires-6
     literal-fits-requires
     zero-from-requires-7
+    clock-there-requires
     returns-8
     zero-from-requires-8
+    clock-there-requires-2
     returns-9
     send-fits-requires-3
+    clock-there-requires-3
     returns-10
     zero-from-requires-9
     zero-from-requires-10

@@ -9,7 +9,8 @@ use Rattle.sheet.specs.All.{allBelow}
 use Rattle.sheet.proofs.All.{all-more}
 use Rattle.laris.specs.Types.{lowerType, typeOf}
 use Rattle.laris.proofs.Types.{lower-type, not-lower-type}
-use Rattle.typing.proofs.Laws.{no, so, datumMatches, datum, data-fail, data-all, typed-absent, typed-literal, typed-read, typed-not, typed-binary, typed-clock, typed-skip, typed-assign, typed-external, typed-internal, typed-arm, typed-act, typed-call, typed-choice, typed-loop, typed-sequence, typed-zero, typed-gap, typed-past}
+use Rattle.types.proofs.Laws.{no, so}
+use Rattle.typing.proofs.Laws.{datumMatches, datum, data-fail, data-all, typed-absent, typed-literal, typed-read, typed-not, typed-binary, typed-clock, typed-skip, typed-assign, typed-external, typed-internal, typed-arm, typed-act, typed-call, typed-choice, typed-loop, typed-sequence, typed-zero, typed-gap, typed-past}
 use Rattle.typing.proofs.data_match.Reads as data-match
 use Rattle.typing.proofs.data_match.Kinds as data-match-kinds
 use Rattle.typing.proofs.+data_match+operand_type+type_of.Lts-data_match as data-match-lts
@@ -21,57 +22,57 @@ use Rattle.typing.proofs.type_of.Kinds as type-of-kinds
 use Rattle.typing.proofs.+data_match+operand_type+type_of.Lts-type_of as type-of-lts
 use Rattle.fields.proofs.field.Reads as field-reads
 use Rattle.reader.proofs.read.Reads as read-reads
-use Rattle.typing.proofs.arm_type.Reads as arm-type-reads
-use Rattle.typing.proofs.assign_type.Reads as assign-type-reads
-use Rattle.typing.proofs.binary_type.Reads as binary-type-reads
-use Rattle.typing.proofs.call_type.Reads as call-type-reads
-use Rattle.typing.proofs.called_range.Reads as called-range-reads
-use Rattle.typing.proofs.choice_type.Reads as choice-type-reads
-use Rattle.typing.proofs.clock_act_type.Reads as clock-act-type-reads
-use Rattle.typing.proofs.clock_type.Reads as clock-type-reads
-use Rattle.typing.proofs.external_type.Reads as external-type-reads
-use Rattle.typing.proofs.internal_type.Reads as internal-type-reads
-use Rattle.typing.proofs.is_of.Reads as is-of-reads
-use Rattle.typing.proofs.literal_type.Reads as literal-type-reads
-use Rattle.typing.proofs.loop_type.Reads as loop-type-reads
-use Rattle.typing.proofs.name_range.Reads as name-range-reads
-use Rattle.typing.proofs.not_type.Reads as not-type-reads
-use Rattle.typing.proofs.read_type.Reads as read-type-reads
-use Rattle.typing.proofs.sequence_type.Reads as sequence-type-reads
-use Rattle.typing.proofs.type_at.Reads as type-at-reads
+use Rattle.types.proofs.arm_type.Reads as arm-type-reads
+use Rattle.types.proofs.assign_type.Reads as assign-type-reads
+use Rattle.types.proofs.binary_type.Reads as binary-type-reads
+use Rattle.types.proofs.call_type.Reads as call-type-reads
+use Rattle.types.proofs.called_range.Reads as called-range-reads
+use Rattle.types.proofs.choice_type.Reads as choice-type-reads
+use Rattle.types.proofs.clock_act_type.Reads as clock-act-type-reads
+use Rattle.types.proofs.clock_type.Reads as clock-type-reads
+use Rattle.types.proofs.external_type.Reads as external-type-reads
+use Rattle.types.proofs.internal_type.Reads as internal-type-reads
+use Rattle.types.proofs.is_of.Reads as is-of-reads
+use Rattle.types.proofs.literal_type.Reads as literal-type-reads
+use Rattle.types.proofs.loop_type.Reads as loop-type-reads
+use Rattle.types.proofs.name_range.Reads as name-range-reads
+use Rattle.types.proofs.not_type.Reads as not-type-reads
+use Rattle.types.proofs.read_type.Reads as read-type-reads
+use Rattle.types.proofs.sequence_type.Reads as sequence-type-reads
+use Rattle.types.proofs.type_at.Reads as type-at-reads
 use Rattle.typing.proofs.+data_match+operand_type+type_of.{statement}
 use Rattle.typing.proofs.+data_match+operand_type+type_of.Tie.{close}
 
-abbrev μ-data-match : Measures 2 data-match-kinds.ps ℕ
-μ-data-match κs a = 3 * a .1 .1 .1 .1 .0 + 1
+abbrev μ-data-match : Measures 3 data-match-kinds.ps ℕ
+μ-data-match κs a = 3 * a .1 .1 .1 .1 .1 .0 + 1
 
-abbrev μ-operand-type : Measures 2 operand-type-kinds.ps ℕ
-μ-operand-type κs a = 3 * a .1 .1 .1 .1 .0
+abbrev μ-operand-type : Measures 3 operand-type-kinds.ps ℕ
+μ-operand-type κs a = 3 * a .1 .1 .1 .1 .1 .0
 
-abbrev μ-type-of : Measures 2 type-of-kinds.ps ℕ
-μ-type-of κs a = 3 * a .1 .1 .1 .1 .0 + 2
+abbrev μ-type-of : Measures 3 type-of-kinds.ps ℕ
+μ-type-of κs a = 3 * a .1 .1 .1 .1 .1 .0 + 2
 
-abbrev data-match-at : ℕ → In 2 data-match-kinds.ps
+abbrev data-match-at : ℕ → In 3 data-match-kinds.ps
 data-match-at t =
-    joined 2 data-match-kinds.ps (is 2 data-match-kinds.ps μ-data-match t) data-match.Pre
+    joined 3 data-match-kinds.ps (is 3 data-match-kinds.ps μ-data-match t) data-match.Pre
 
-abbrev data-match-below : ℕ → In 2 data-match-kinds.ps
+abbrev data-match-below : ℕ → In 3 data-match-kinds.ps
 data-match-below t =
-    joined 2 data-match-kinds.ps (falls 2 data-match-kinds.ps _<_ μ-data-match t) data-match.Pre
+    joined 3 data-match-kinds.ps (falls 3 data-match-kinds.ps _<_ μ-data-match t) data-match.Pre
 
-abbrev operand-type-at : ℕ → In 2 operand-type-kinds.ps
+abbrev operand-type-at : ℕ → In 3 operand-type-kinds.ps
 operand-type-at t =
-    joined 2 operand-type-kinds.ps (is 2 operand-type-kinds.ps μ-operand-type t) operand-type.Pre
+    joined 3 operand-type-kinds.ps (is 3 operand-type-kinds.ps μ-operand-type t) operand-type.Pre
 
-abbrev operand-type-below : ℕ → In 2 operand-type-kinds.ps
+abbrev operand-type-below : ℕ → In 3 operand-type-kinds.ps
 operand-type-below t =
-    joined 2 operand-type-kinds.ps (falls 2 operand-type-kinds.ps _<_ μ-operand-type t) operand-type.Pre
+    joined 3 operand-type-kinds.ps (falls 3 operand-type-kinds.ps _<_ μ-operand-type t) operand-type.Pre
 
-abbrev type-of-at : ℕ → In 2 type-of-kinds.ps
-type-of-at t = joined 2 type-of-kinds.ps (is 2 type-of-kinds.ps μ-type-of t) type-of.Pre
+abbrev type-of-at : ℕ → In 3 type-of-kinds.ps
+type-of-at t = joined 3 type-of-kinds.ps (is 3 type-of-kinds.ps μ-type-of t) type-of.Pre
 
-abbrev type-of-below : ℕ → In 2 type-of-kinds.ps
-type-of-below t = joined 2 type-of-kinds.ps (falls 2 type-of-kinds.ps _<_ μ-type-of t) type-of.Pre
+abbrev type-of-below : ℕ → In 3 type-of-kinds.ps
+type-of-below t = joined 3 type-of-kinds.ps (falls 3 type-of-kinds.ps _<_ μ-type-of t) type-of.Pre
 
 abbrev data-match-callees : ℕ → data-match-lts.Claims
 data-match-callees t = (
@@ -134,10 +135,10 @@ type-of-callees t = (
 )
 
 abbrev data-match-Inv-loop : data-match-lts.InvT-loop
-data-match-Inv-loop sheet directory c b n r first count j₀ j = (j ≤ count) × (allBelow j (datumMatches sheet (lowerType n (typeOf sheet c b)) first r) ≡ true)
+data-match-Inv-loop sheet directory table c b n r first count j₀ j = (j ≤ count) × (allBelow j (datumMatches sheet (lowerType n (typeOf sheet c b)) first r) ≡ true)
 
 abbrev data-match-μ-loop : data-match-lts.MeasureT-loop
-data-match-μ-loop sheet directory c b n r first count j₀ j = count - j
+data-match-μ-loop sheet directory table c b n r first count j₀ j = count - j
 
 data-match-loop-holds : (t : ℕ) → data-match-lts.Need-loop-holds (data-match-callees t) (data-match-at t) data-match.Post data-match-Inv-loop data-match-μ-loop
 unfolding allBelow
@@ -244,13 +245,13 @@ type-of-cast-name-range : (t : ℕ) → type-of-lts.Need-cast-name-range (type-o
 type-of-cast-name-range t c = search needs
 
 type-of-name-range-requires : (t : ℕ) → type-of-lts.Need-name-range-requires (type-of-callees t) (type-of-at t) type-of.Post
-type-of-name-range-requires t c κs = search needs
+type-of-name-range-requires t c κs = c .before .before .before .before .before .before .before .before .before .before .before .pre .1 .0
 
 type-of-data-match-requires : (t : ℕ) → type-of-lts.Need-data-match-requires (type-of-callees t) (type-of-at t) type-of.Post
-type-of-data-match-requires t c κs = (omega (arith, c .before .before .before .before .before .before .before .before .before .before .before .before .pre .0), (c .before .before .before .before .before .before .before .before .before .before .before .before .pre .1, c .name-range .ensures .1, c .name-range .ensures .2))
+type-of-data-match-requires t c κs = (omega (arith, c .before .before .before .before .before .before .before .before .before .before .before .before .pre .0), (c .before .before .before .before .before .before .before .before .before .before .before .before .pre .1 .0, (c .before .before .before .before .before .before .before .before .before .before .before .before .pre .1 .1, (c .name-range .ensures .1, c .name-range .ensures .2))))
 
 type-of-external-type-requires : (t : ℕ) → type-of-lts.Need-external-type-requires (type-of-callees t) (type-of-at t) type-of.Post
-type-of-external-type-requires t c κs = c .before .before .before .before .before .before .before .before .before .before .before .before .before .pre .1
+type-of-external-type-requires t c κs = c .before .before .before .before .before .before .before .before .before .before .before .before .before .pre .1 .0
 
 type-of-cast-name-range-2 : (t : ℕ) → type-of-lts.Need-cast-name-range-2 (type-of-callees t) (type-of-at t) type-of.Post
 type-of-cast-name-range-2 t c = search needs
@@ -259,7 +260,7 @@ type-of-name-range-requires-2 : (t : ℕ) → type-of-lts.Need-name-range-requir
 type-of-name-range-requires-2 t c κs = search needs
 
 type-of-data-match-requires-2 : (t : ℕ) → type-of-lts.Need-data-match-requires-2 (type-of-callees t) (type-of-at t) type-of.Post
-type-of-data-match-requires-2 t c κs = (omega (arith, c .before .before .before .before .before .before .before .before .pre .0), (c .before .before .before .before .before .before .before .before .pre .1, c .name-range2 .ensures .1, c .name-range2 .ensures .2))
+type-of-data-match-requires-2 t c κs = (omega (arith, c .before .before .before .before .before .before .before .before .pre .0), (c .before .before .before .before .before .before .before .before .pre .1 .0, (c .before .before .before .before .before .before .before .before .pre .1 .1, (c .name-range2 .ensures .1, c .name-range2 .ensures .2))))
 
 type-of-internal-type-requires : (t : ℕ) → type-of-lts.Need-internal-type-requires (type-of-callees t) (type-of-at t) type-of.Post
 type-of-internal-type-requires t c κs = search needs
@@ -268,7 +269,7 @@ type-of-called-range-requires : (t : ℕ) → type-of-lts.Need-called-range-requ
 type-of-called-range-requires t c κs = search needs
 
 type-of-data-match-requires-3 : (t : ℕ) → type-of-lts.Need-data-match-requires-3 (type-of-callees t) (type-of-at t) type-of.Post
-type-of-data-match-requires-3 t c κs = (omega (arith, c .before .before .before .before .before .before .before .pre .0), (c .before .before .before .before .before .before .before .pre .1, c .called-range .ensures .1, c .called-range .ensures .2))
+type-of-data-match-requires-3 t c κs = (omega (arith, c .before .before .before .before .before .before .before .pre .0), (c .before .before .before .before .before .before .before .pre .1 .0, (c .before .before .before .before .before .before .before .pre .1 .1, (c .called-range .ensures .1, c .called-range .ensures .2))))
 
 type-of-call-type-requires : (t : ℕ) → type-of-lts.Need-call-type-requires (type-of-callees t) (type-of-at t) type-of.Post
 type-of-call-type-requires t c κs = search needs
@@ -358,7 +359,7 @@ type-of-name-range-requires-3 : (t : ℕ) → type-of-lts.Need-name-range-requir
 type-of-name-range-requires-3 t c κs = search needs
 
 type-of-data-match-requires-4 : (t : ℕ) → type-of-lts.Need-data-match-requires-4 (type-of-callees t) (type-of-at t) type-of.Post
-type-of-data-match-requires-4 t c κs = (omega (arith, c .before .before .before .before .before .before .before .before .before .before .before .before .before .before .before .before .pre .0), (c .before .before .before .before .before .before .before .before .before .before .before .before .before .before .before .before .pre .1, c .name-range3 .ensures .1, c .name-range3 .ensures .2))
+type-of-data-match-requires-4 t c κs = (omega (arith, c .before .before .before .before .before .before .before .before .before .before .before .before .before .before .before .before .pre .0), (c .before .before .before .before .before .before .before .before .before .before .before .before .before .before .before .before .pre .1 .0, (c .before .before .before .before .before .before .before .before .before .before .before .before .before .before .before .before .pre .1 .1, (c .name-range3 .ensures .1, c .name-range3 .ensures .2))))
 
 type-of-arm-type-requires : (t : ℕ) → type-of-lts.Need-arm-type-requires (type-of-callees t) (type-of-at t) type-of.Post
 type-of-arm-type-requires t c κs = c .before .before .before .before .before .before .before .before .before .before .before .before .before .before .before .before .before .pre .1
