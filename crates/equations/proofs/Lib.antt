@@ -1,0 +1,2 @@
+pub mod Eval
+pub mod Left

@@ -1,0 +1,1 @@
+// Theorems only: the machine's recursion equations. There is no code here.
