@@ -158,3 +158,203 @@ module _ (s : List ℕ) (x : Context) (st lo : List ℤ) where
   pub eval-left : (n l : ℕ) → Within l (evalOf s x st lo n l)
   unfolding evalOf
   eval-left n l = evalF-in (suc n) n l
+
+-- ---- data
+
+abbrev pub DataWithin : ℕ → Data → Type 0
+DataWithin l (given zs m) = m ≤ l
+DataWithin l (refused k m) = m ≤ l
+DataWithin l stuck = Unit {0}
+
+eitherData : (b : Bool) (d d′ : Data) (l : ℕ) → DataWithin l d → DataWithin l d′ → DataWithin l (elim b [ true ↦ d | false ↦ d′ ])
+eitherData true d d′ l p q = p
+eitherData false d d′ l p q = q
+
+before-in : (z : ℤ) (d : Data) {m l : ℕ} → DataWithin m d → m ≤ l → DataWithin l (before z d)
+unfolding before
+before-in z (given zs m′) p h = le-trans p h
+before-in z (refused k m′) p h = le-trans p h
+before-in z stuck p h = tt
+
+nextDatum-in : (o : Out) (t : ℕ) (K : ℕ → Data) (l : ℕ) → Within l o → ((m : ℕ) → DataWithin m (K m)) → DataWithin l (nextDatum o t K)
+unfolding nextDatum
+nextDatum-in (Val v m) t K l p q = eitherData (eqb (v .kind) t) _ _ l (before-in (v .word) (K m) (q m) (omega arith)) tt
+nextDatum-in (Refused k m) t K l p q = p
+nextDatum-in Stuck t K l p q = tt
+
+dataFrom-in : (s : List ℕ) (f : ℕ → ℕ → Out) → ((n l : ℕ) → Within l (f n l)) → (g : Range) (r : Record) (n j l : ℕ) → DataWithin l (dataFrom s f g r n j l)
+unfolding dataFrom
+dataFrom-in s f h g r zero j l = le-refl l
+dataFrom-in s f h g r (suc n) j l = nextDatum-in (f (fieldOf r (4 + j)) l) _ _ l (h (fieldOf r (4 + j)) l) (λ m. dataFrom-in s f h g r n (suc j) m)
+
+pub data-left : (s : List ℕ) (x : Context) (st lo : List ℤ) (g : Range) (r : Record) (n j l : ℕ) → DataWithin l (dataFrom s (evalOf s x st lo) g r n j l)
+data-left s x st lo g r n j l = dataFrom-in s (evalOf s x st lo) (eval-left s x st lo) g r n j l
+
+-- ---- statements
+
+-- with l steps left before the visit
+abbrev pub RanWithin : ℕ → Ran → Type 0
+RanWithin l (ran.Done m) = m < l
+RanWithin l (ran.Refused k m) = m ≤ l
+RanWithin l ran.Stuck = Unit {0}
+
+pub ran-wider : (o : Ran) {l l′ : ℕ} → RanWithin l o → l ≤ l′ → RanWithin l′ o
+ran-wider (ran.Done m) p h = le-trans p h
+ran-wider (ran.Refused k m) p h = le-trans p h
+ran-wider ran.Stuck p h = tt
+
+eitherRan : (b : Bool) (w w′ : World) (l : ℕ) → RanWithin l (w .ran) → RanWithin l (w′ .ran) → RanWithin l ((elim b as (λ b. World) [ true ↦ w | false ↦ w′ ]) .ran)
+eitherRan true w w′ l p q = p
+eitherRan false w w′ l p q = q
+
+goOn-in : (o : Ran) (st lo : List ℤ) (K : ℕ → List ℤ → List ℤ → World) (l : ℕ) → RanWithin l o → ((m : ℕ) (st lo : List ℤ) → m < l → RanWithin l (K m st lo .ran)) → RanWithin l (goOn o st lo K .ran)
+unfolding goOn
+goOn-in (ran.Done m) st lo K l p q = q m st lo p
+goOn-in (ran.Refused k m) st lo K l p q = p
+goOn-in ran.Stuck st lo K l p q = tt
+
+-- what follows a value is visited with m steps left at most l
+value-in : (o : Out) (t : ℕ) (st lo : List ℤ) (K : ℤ → ℕ → World) (l : ℕ) → Within l o → ((z : ℤ) (m : ℕ) → m < l → RanWithin l (K z m .ran)) → RanWithin l (thenValue o t st lo K .ran)
+unfolding thenValue
+value-in (Val v m) t st lo K l p q = eitherRan (eqb (v .kind) t) _ _ l (q (v .word) m p) tt
+value-in (Refused k m) t st lo K l p q = p
+value-in Stuck t st lo K l p q = tt
+
+thenData-in : (d : Data) (st lo : List ℤ) (K : List ℤ → ℕ → World) (l : ℕ) {l′ : ℕ} → DataWithin l d → l ≤ l′ → ((zs : List ℤ) (m : ℕ) → m ≤ l → RanWithin l′ (K zs m .ran)) → RanWithin l′ (thenData d st lo K .ran)
+unfolding thenData
+thenData-in (given zs m) st lo K l p h q = q zs m p
+thenData-in (refused k m) st lo K l p h q = le-trans p h
+thenData-in stuck st lo K l p h q = tt
+
+withRecord-in : (f : Found) (st lo : List ℤ) (K : Record → World) (l : ℕ) → ((r : Record) → RanWithin l (K r .ran)) → RanWithin l (withRecord f st lo K .ran)
+unfolding withRecord
+withRecord-in (Present r) st lo K l p = p r
+withRecord-in Absent st lo K l p = tt
+
+provided-in : (b : Bool) (st lo : List ℤ) (w : World) (l : ℕ) → RanWithin l (w .ran) → RanWithin l (provided b st lo w .ran)
+unfolding provided
+provided-in true st lo w l p = p
+provided-in false st lo w l p = tt
+
+append-in : (s : List ℕ) (t : Telegram) (l : ℕ) (st lo : List ℤ) → RanWithin (suc l) (append s t l st lo .ran)
+unfolding append
+append-in s t l st lo = eitherRan (ltb (waiting st) places) _ _ (suc l) (le-refl (suc l)) (next l)
+
+armed-in : (cell t : ℕ) (period : ℤ) (name : ℕ) (zs : List ℤ) (l : ℕ) (st lo : List ℤ) → RanWithin (suc l) (armed cell t period name zs l st lo .ran)
+unfolding armed
+armed-in cell t period name zs l st lo = eitherRan (leZ (pos 1) period) _ _ (suc l) (le-refl (suc l)) (next l)
+
+clockSet-in : (cell : ℕ) (running : ℤ) (l : ℕ) (st lo : List ℤ) → RanWithin (suc l) (clockSet cell running l st lo .ran)
+unfolding clockSet
+clockSet-in cell running l st lo = le-refl (suc l)
+
+module _ (s : List ℕ) (x : Context) where
+  assigned-in : (place n : ℕ) (z : ℤ) (l : ℕ) (st lo : List ℤ) → RanWithin (suc l) (assigned s x place n z l st lo .ran)
+  unfolding assigned
+  assigned-in place n z l st lo = eitherRan (eqb place chartVariable) _ _ (suc l) (le-refl (suc l)) (eitherRan (eqb place bodyVariable) _ _ (suc l) (le-refl (suc l)) tt)
+
+  -- a value worked out with m steps left, at most l
+  from-value : (n m l t : ℕ) (st lo st′ lo′ : List ℤ) (K : ℤ → ℕ → World) → m ≤ l → ((z : ℤ) (m′ : ℕ) → m′ < l → RanWithin l (K z m′ .ran)) → RanWithin l (thenValue (evalOf s x st lo n m) t st′ lo′ K .ran)
+  from-value n m l t st lo st′ lo′ K h q = value-in (evalOf s x st lo n m) t st′ lo′ K l (wider (evalOf s x st lo n m) (eval-left s x st lo n m) h) q
+
+  from-data : (n r : Record) (m l : ℕ) (st lo : List ℤ) (K : List ℤ → ℕ → World) → m ≤ l → ((zs : List ℤ) (m′ : ℕ) → m′ ≤ m → RanWithin l (K zs m′ .ran)) → RanWithin l (thenData (nameDataOf s x n r m st lo) st lo K .ran)
+  unfolding nameDataOf
+  from-data n r m l st lo K h q = thenData-in (dataFrom s (evalOf s x st lo) (dataOf n) r (dataOf n .count) 0 m) st lo K m (data-left s x st lo (dataOf n) r (dataOf n .count) 0 m) h q
+
+  assign-in : (r : Record) (l : ℕ) (st lo : List ℤ) → RanWithin (suc l) (assignOf s x r l st lo .ran)
+  unfolding assignOf
+  assign-in r l st lo =
+      provided-in (ltb (r .f2) (variablesAt (x .chart) (x .body) (r .f1))) st lo _ (suc l)
+      (from-value (r .f3) l (suc l) _ st lo st lo _ (next l) (λ z m q. ran-wider (assigned s x (r .f1) (r .f2) z m st lo .ran) (assigned-in (r .f1) (r .f2) z m st lo) q))
+
+  externalSend-in : (r : Record) (l : ℕ) (st lo : List ℤ) → RanWithin (suc l) (externalSendOf s x r l st lo .ran)
+  unfolding externalSendOf
+  externalSend-in r l st lo =
+      withRecord-in (recordOf s names (r .f3)) st lo _ (suc l) (λ n.
+      from-value (r .f1) l (suc l) _ st lo st lo _ (next l) (λ receiver m q.
+      from-value (r .f2) m (suc l) _ st lo st lo _ (omega arith) (λ port m′ q′.
+      from-data n r m′ (suc l) st lo _ (omega arith) (λ zs m″ q″.
+      ran-wider (append s (telegram (pos (x .element)) receiver port (r .f3) zs) m″ st lo .ran) (append-in s (telegram (pos (x .element)) receiver port (r .f3) zs) m″ st lo) (omega arith)))))
+
+  internalSend-in : (r : Record) (l : ℕ) (st lo : List ℤ) → RanWithin (suc l) (internalSendOf s x r l st lo .ran)
+  unfolding internalSendOf
+  internalSend-in r l st lo =
+      withRecord-in (recordOf s names (r .f3)) st lo _ (suc l) (λ n.
+      from-data n r l (suc l) st lo _ (next l) (λ zs m q.
+      ran-wider (append s (telegram (pos (x .element)) (pos (x .element)) (negsuc 0) (r .f3) zs) m st lo .ran) (append-in s (telegram (pos (x .element)) (pos (x .element)) (negsuc 0) (r .f3) zs) m st lo) (omega arith)))
+
+  arm-in : (r : Record) (l : ℕ) (st lo : List ℤ) → RanWithin (suc l) (armOf s x r l st lo .ran)
+  unfolding armOf
+  arm-in r l st lo =
+      provided-in (isVariable s x (r .f1) and eqb (cellType s x (r .f1)) (clockOf (operator r))) st lo _ (suc l)
+      (withRecord-in (recordOf s names (r .f3)) st lo _ (suc l) (λ n.
+      from-value (r .f2) l (suc l) _ st lo st lo _ (next l) (λ period m q.
+      from-data n r m (suc l) st lo _ (omega arith) (λ zs m′ q′.
+      ran-wider (armed _ (cellType s x (r .f1)) period (r .f3) zs m′ st lo .ran) (armed-in _ (cellType s x (r .f1)) period (r .f3) zs m′ st lo) (omega arith)))))
+
+  clockAct-in : (r : Record) (l : ℕ) (st lo : List ℤ) → RanWithin (suc l) (clockActOf s x r l st lo .ran)
+  unfolding clockActOf
+  clockAct-in r l st lo =
+      eitherRan (eqb (operator r) 38) _ _ (suc l)
+      (provided-in (isVariable s x (r .f1) and eqb (cellType s x (r .f1)) Timer-type) st lo _ (suc l) (clockSet-in _ (pos 1) l st lo))
+      (provided-in (isVariable s x (r .f1) and isClock (cellType s x (r .f1))) st lo _ (suc l) (clockSet-in _ (pos 0) l st lo))
+
+  choice-in : (n l : ℕ) (st lo : List ℤ) (K L : ℕ → World) → ((m : ℕ) → m ≤ l → RanWithin (suc l) (K m .ran)) → ((m : ℕ) → m ≤ l → RanWithin (suc l) (L m .ran)) → RanWithin (suc l) (choiceOf s x n l st lo K L .ran)
+  unfolding choiceOf
+  choice-in n l st lo K L p q = from-value n l (suc l) Bool-type st lo st lo _ (next l) (λ z m h. eitherRan (isZero z) _ _ (suc l) (q m (omega arith)) (p m (omega arith)))
+
+  module _ (f : Runs) (h : (depth : ℕ) (x : Context) (n l : ℕ) (st lo : List ℤ) → RanWithin l (f depth x n l st lo .ran)) where
+    again : (depth : ℕ) (x : Context) (n m l : ℕ) (st lo : List ℤ) → m ≤ l → RanWithin l (f depth x n m st lo .ran)
+    again depth x n m l st lo q = ran-wider (f depth x n m st lo .ran) (h depth x n m st lo) q
+
+    entered-in : (depth : ℕ) (b : Record) (zs : List ℤ) (l : ℕ) (st lo : List ℤ) → RanWithin (suc l) (entered s x f depth b zs l st lo .ran)
+    unfolding entered
+    entered-in depth b zs l st lo = eitherRan (ltb depth 16) _ _ (suc l) (again (depth + 1) (inBody x b) (root b) l (suc l) st (localsOf s b zs) (next l)) (next l)
+
+    call-in : (depth : ℕ) (r : Record) (l : ℕ) (st lo : List ℤ) → RanWithin (suc l) (callOf s x f depth r l st lo .ran)
+    unfolding callOf
+    call-in depth r l st lo =
+        withRecord-in (calledBody s (x .chart) r) st lo _ (suc l) (λ b.
+        thenData-in (dataFrom s (evalOf s x st lo) (bodyParameters b) r (bodyParameters b .count) 0 l) st lo _ l (data-left s x st lo (bodyParameters b) r (bodyParameters b .count) 0 l) (next l) (λ zs m q.
+        ran-wider (entered s x f depth b zs m st lo .ran) (entered-in depth b zs m st lo) (omega arith)))
+
+    runIn-in : (depth n : ℕ) (r : Record) (l : ℕ) (st lo : List ℤ) (form : Form) → RanWithin (suc l) (runIn s x f depth n r l st lo form .ran)
+    unfolding runIn
+    runIn-in depth n r l st lo literal = tt
+    runIn-in depth n r l st lo read = tt
+    runIn-in depth n r l st lo unary = tt
+    runIn-in depth n r l st lo binary = tt
+    runIn-in depth n r l st lo clock = tt
+    runIn-in depth n r l st lo skip = le-refl (suc l)
+    runIn-in depth n r l st lo assign = assign-in r l st lo
+    runIn-in depth n r l st lo externalSend = externalSend-in r l st lo
+    runIn-in depth n r l st lo internalSend = internalSend-in r l st lo
+    runIn-in depth n r l st lo arm = arm-in r l st lo
+    runIn-in depth n r l st lo clockAct = clockAct-in r l st lo
+    runIn-in depth n r l st lo call = call-in depth r l st lo
+    runIn-in depth n r l st lo choice = choice-in (r .f1) l st lo _ _ (λ m q. again depth x (r .f2) m (suc l) st lo (omega arith)) (λ m q. again depth x (r .f3) m (suc l) st lo (omega arith))
+    runIn-in depth n r l st lo loop =
+        choice-in (r .f1) l st lo _ _
+        (λ m q. goOn-in (f depth x (r .f2) m st lo .ran) _ _ _ (suc l) (again depth x (r .f2) m (suc l) st lo (omega arith)) (λ m′ st lo q′. again depth x n m′ (suc l) st lo (omega arith)))
+        (λ m q. omega arith)
+    runIn-in depth n r l st lo sequence = goOn-in (f depth x (r .f1) l st lo .ran) _ _ _ (suc l) (again depth x (r .f1) l (suc l) st lo (next l)) (λ m st lo q. again depth x (r .f2) m (suc l) st lo (omega arith))
+    runIn-in depth n r l st lo unknown = tt
+
+module _ (s : List ℕ) where
+  runStep-in : (f : Runs) → ((depth : ℕ) (x : Context) (n l : ℕ) (st lo : List ℤ) → RanWithin l (f depth x n l st lo .ran)) → (depth : ℕ) (x : Context) (n l : ℕ) (st lo : List ℤ) → RanWithin l (runStep s f depth x n l st lo .ran)
+  unfolding runStep
+  runStep-in f h depth x n zero st lo = le-refl 0
+  runStep-in f h depth x n (suc l) st lo = withRecord-in (recordOf s nodes n) st lo _ (suc l) (λ r. runIn-in s x f h depth n r l st lo (formOf (operator r)))
+
+  fewer-in : (left : ℕ) (f : Runs) → ((depth : ℕ) (x : Context) (n l : ℕ) (st lo : List ℤ) → RanWithin l (f depth x n l st lo .ran)) → (depth : ℕ) (x : Context) (n l : ℕ) (st lo : List ℤ) → RanWithin l (fewer left f depth x n l st lo .ran)
+  unfolding fewer
+  fewer-in left f h depth x n l st lo = eitherRan (ltb l left) _ _ l (h depth x n l st lo) tt
+
+  runF-in : (k depth : ℕ) (x : Context) (n l : ℕ) (st lo : List ℤ) → RanWithin l (runF s k depth x n l st lo .ran)
+  unfolding runF
+  runF-in zero depth x n l st lo = tt
+  runF-in (suc k) depth x n l st lo = runStep-in (fewer l (runF s k)) (fewer-in l (runF s k) (runF-in k)) depth x n l st lo
+
+  pub run-left : (depth : ℕ) (x : Context) (n l : ℕ) (st lo : List ℤ) → RanWithin l (runOf s depth x n l st lo .ran)
+  unfolding runOf
+  run-left depth x n l st lo = runF-in (suc l) depth x n l st lo
