@@ -1,2 +1,3 @@
 pub mod Eval
 pub mod Left
+pub mod Run
