@@ -1,19 +1,18 @@
 -- On any sheet the steps left never grow: what a node gives or does leaves fewer than it was visited with.
 use Prim.Native.Nat.{ℕ, zero, suc, _+_, _≤_, _<_}
-use mathlib.Core.Path.{_≡_, refl}
-use mathlib.Core.List.{List, []}
+use mathlib.Core.List.{List}
 use mathlib.Core.Bool.{Bool, true, false}
 use native.Mathlib.Omega.{arith}
 use native.Mathlib.Nat.{le-refl, le-trans}
-use lib.Dec.{ltb, leb, eqb}
+use lib.Dec.{ltb, eqb}
 use lib.IntN.{ℤ, pos, negsuc, _+ℤ_, _-ℤ_, _*ℤ_}
-use lib.Signed.{leZ, ltZ}
+use lib.Signed.{leZ}
 use Rattle.sheet.specs.declared.Record.{Record}
 use Rattle.sheet.specs.declared.Range.{Range}
 use Rattle.sheet.specs.declared.Found.{Found}
 use Rattle.sheet.specs.declared.Found.the-variants.{Present, Absent}
 use Rattle.sheet.specs.All.{_and_}
-use Rattle.sheet.specs.Names.{names, nodes, dataOf, chartVariables, bodyParameters, root, operator, Bool-type, Int-type, Component-type, Port-type, Timer-type, isClock, isLiteral, chartParameter, chartVariable, bodyVariable}
+use Rattle.sheet.specs.Names.{names, nodes, dataOf, chartVariables, bodyParameters, root, operator, Bool-type, Int-type, Timer-type, isClock, isLiteral, chartParameter, chartVariable, bodyVariable}
 use Rattle.sheet.specs.Sheet.{recordOf}
 use Rattle.laris.specs.declared.Value.{Value}
 use Rattle.laris.specs.declared.Out.{Out}
@@ -24,11 +23,11 @@ use Rattle.laris.specs.declared.Telegram.{Telegram}
 use Rattle.laris.specs.Fields.{fieldOf, typeAt}
 use Rattle.laris.specs.Forms.{Form, literal, read, unary, binary, clock, skip, assign, externalSend, internalSend, arm, clockAct, call, choice, loop, sequence, unknown, formOf, calledBody}
 use Rattle.laris.specs.Shape.{variablesAt, constantOf}
-use Rattle.laris.specs.Types.{variableAt, clockOf}
+use Rattle.laris.specs.Types.{clockOf}
 use Rattle.laris.specs.Values.{fits32, isZero, inType}
 use Rattle.laris.specs.State.{places, waiting}
 use Rattle.laris.specs.Eval.{Context, andThen, needs, onRecord, intOut, quotient, remainder, dividing, notVal, intVal, binaryVal, literalValue, within, ofType, parameterVal, readAs, readVal, clockVal, evalIn, evalStep, lowerEval, evalF, evalOf}
-use Rattle.laris.specs.Run.{World, world, goOn, thenValue, withRecord, provided, Data, given, refused, stuck, before, nextDatum, dataFrom, thenData, telegram, localsOf, append, armed, clockSet, Runs, fewer, inBody, assigned, assignOf, nameDataOf, externalSendOf, internalSendOf, cellType, isVariable, armOf, clockActOf, entered, callOf, choiceOf, runIn, runStep, runF, runOf}
+use Rattle.laris.specs.Run.{World, goOn, thenValue, withRecord, provided, Data, given, refused, stuck, before, nextDatum, dataFrom, thenData, telegram, localsOf, append, armed, clockSet, Runs, fewer, inBody, assigned, assignOf, nameDataOf, externalSendOf, internalSendOf, cellType, isVariable, armOf, clockActOf, entered, callOf, choiceOf, runIn, runStep, runF, runOf}
 
 -- ---- expressions
 
