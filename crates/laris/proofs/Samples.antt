@@ -194,7 +194,7 @@ cycler period = arming 6 37 period
 slices : ℕ → List (List ℤ)
 slices n = replicate n (words 5 0 0)
 
--- "Timeout 1 fires on the first slice", and then no more
+-- "Timeout 1 fires on the first slice; period 0: 7." It stops then, and Timeout 2 doesn't fire early
 timeout-one : play (timeout 1) (slices 2) ≡ row 0 2 0 ∷ row 0 0 1 ∷ row 0 0 1 ∷ []
 unfolding play timeout arming slices
 timeout-one = refl
