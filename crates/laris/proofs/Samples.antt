@@ -141,7 +141,7 @@ eventOn : List (List ℕ) → List ℤ → List ℤ → Outcome
 unfolding start
 eventOn ss st ev = eventCall (sheetOf ss) st (replicate (length st) (pos 0)) ev
 
--- the machine alone, where sheet, state and event are known to pass: testing 128 places takes seconds
+-- the machine alone, without the tests of sheet, state and event that a call makes before: those of 128 places take seconds
 event : List (List ℕ) → List ℤ → List ℤ → Outcome
 unfolding start
 event ss st ev = happens (sheetOf ss) st ev
