@@ -1,6 +1,6 @@
 -- Bounds of signed sums, products and quotients, by `mag`; the tests of range and of a zero.
 use Prim.Native.Nat.{ℕ, zero, suc, _+_, _-_, _*_, _/_, _≤_, _<_}
-use mathlib.Core.Path.{_≡_, refl, sym, ap, _∙_}
+use mathlib.Core.Path.{_≡_, refl, sym, _∙_}
 use mathlib.Core.Bool.{Bool, true, false, cond}
 use native.Mathlib.Omega.{arith}
 use native.Mathlib.Nat.{mul-le-mul, div-le-self, le-trans}
@@ -14,7 +14,6 @@ use borrow.Author.Tests.{ltb-true, ltb-false, eqb-true, lt-ltb, le-ltb, eq-eqb, 
 use Rattle.sheet.proofs.All.{true-false, not-so}
 use Rattle.laris.specs.Values.{fits32, isZero}
 use Rattle.laris.specs.Eval.{intOut, dividing}
-use Rattle.ints.specs.declared.Work.{Work}
 use Rattle.ints.specs.declared.Work.the-variants.{Word, Refused}
 use Rattle.ints.specs.Work.{workOf}
 

@@ -1,10 +1,10 @@
 -- Words of Bools, and the case laws of `binaryWork`.
-use Prim.Native.Nat.{ℕ, suc, _+_, _-_, _≤_, _<_}
+use Prim.Native.Nat.{ℕ, suc, _+_, _-_}
 use mathlib.Core.Path.{_≡_, refl, sym, ap, _∙_}
 use mathlib.Core.Bool.{Bool, true, false, not}
 use native.Mathlib.Omega.{arith}
 use native.Mathlib.Decide.{decLt, ℕ-discrete}
-use lib.Dec.{ltb, leb, eqb}
+use lib.Dec.{leb, eqb}
 use lib.IntN.{ℤ, pos, negsuc, _+ℤ_, _-ℤ_, _*ℤ_}
 use lib.Signed.{ltZ}
 use mir.Syntax.{w32}
@@ -14,7 +14,6 @@ use Rattle.sheet.specs.All.{_and_}
 use Rattle.sheet.proofs.All.{and-true, true-and, false-and, and-false}
 use Rattle.laris.specs.Values.{isZero}
 use Rattle.laris.specs.Eval.{boolWord, isOne, sameWord, intOut, dividing, quotient, remainder, intVal}
-use Rattle.ints.specs.declared.Work.{Work}
 use Rattle.ints.specs.declared.Work.the-variants.{Word}
 use Rattle.ints.specs.Work.{workOf, binaryWork}
 

@@ -2,7 +2,6 @@
 // 1,024 words, so where they begin follows from its length.
 use laris::Telegram;
 ghost use mathlib.Core.Path.{_≡_};
-ghost use mathlib.Core.Bool.{Bool};
 ghost use mathlib.Core.List.{List, [], _∷_};
 ghost use Prim.Native.Nat.{ℕ, _+_, _*_, _-_, _<_, _≤_};
 ghost use lib.IntN.{pos};
@@ -199,13 +198,13 @@ pub fn oldest_internal(st: &[i32], r: i32) -> usize
     ensures { λ n. ⌜ ((s : List ℕ) → length (now (st .entry)) ≡ stateLength s → n ≡ oldest s (now (st .entry)) (innerOf r)) ⌝ }
 {
     let n = waiting_count(st);
-    let mut j = 0;
-    while j < n {
-        let at = place(st, j);
+    let mut k = 0;
+    while k < n {
+        let at = place(st, k);
         if inner(st, at, r) {
-            return j;
+            return k;
         }
-        j += 1;
+        k += 1;
     }
     n
 }

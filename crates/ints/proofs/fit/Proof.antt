@@ -1,6 +1,5 @@
 use mir.Syntax.{w32}
 use mir.Val.{SFits}
-use borrow.Author.Needs.{needs}
 use Rattle.ints.proofs.Range.{back, back64, too-low, too-high, within, inside}
 use Rattle.ints.proofs.fit.Statement.{statement}
 use Rattle.ints.proofs.fit.Tie as tie

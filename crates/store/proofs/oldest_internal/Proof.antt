@@ -1,4 +1,4 @@
-use Prim.Native.Nat.{ℕ, _+_, _-_, _<_, _≤_}
+use Prim.Native.Nat.{ℕ, _-_, _≤_}
 use mathlib.Core.Path.{_≡_, sym, ap, _∙_}
 use mathlib.Core.List.{List}
 use native.Mathlib.Omega.{arith}
@@ -14,10 +14,10 @@ use Rattle.store.proofs.oldest_internal.Statement.{statement}
 use Rattle.store.proofs.oldest_internal.Tie as tie
 
 abbrev Inv-loop : tie.InvT-loop
-Inv-loop st r n j₀ j = (j ≤ n) × ((s : List ℕ) → length st ≡ stateLength s → oldest s st (innerOf (toZ w32 r)) ≡ oldestFrom s st (innerOf (toZ w32 r)) (n - j) j)
+Inv-loop st r n k₀ k = (k ≤ n) × ((s : List ℕ) → length st ≡ stateLength s → oldest s st (innerOf (toZ w32 r)) ≡ oldestFrom s st (innerOf (toZ w32 r)) (n - k) k)
 
 abbrev μ-loop : tie.MeasureT-loop
-μ-loop st r n j₀ j = n - j
+μ-loop st r n k₀ k = n - k
 
 waiting-count-requires : tie.Need-waiting-count-requires Inv-loop μ-loop
 waiting-count-requires c κs = search needs
@@ -36,11 +36,11 @@ unfolding telegramOf
 returns c = λ s e.
     let st = c .before .before .before .before .before .before .args .st .now in
     let p = innerOf (toZ w32 (ofZ w32 (c .before .before .before .before .before .before .args .r))) in
-    let h : c .before .before .before .before .loop .j ≡ oldest s st p = oldest-here s st p _ _ (c .before .before .before .loop-test .taken) (ap (λ at. p (telegramIn st at)) (sym (c .before .before .place .ensures .1 s e)) ∙ sym (c .before .inner .ensures) ∙ c .if1 .taken) ∙ sym (c .before .before .before .before .loop .inv .1 s e) in
+    let h : c .before .before .before .before .loop .k ≡ oldest s st p = oldest-here s st p _ _ (c .before .before .before .loop-test .taken) (ap (λ at. p (telegramIn st at)) (sym (c .before .before .place .ensures .1 s e)) ∙ sym (c .before .inner .ensures) ∙ c .if1 .taken) ∙ sym (c .before .before .before .before .loop .inv .1 s e) in
     rw (back (c .before .before .before .before .before .before .fits .r)) at h
 
-add-j : tie.Need-add-j Inv-loop μ-loop
-add-j c = let e = c .before .before .before .before .before .waiting-count .ensures in let l = c .before .before .before .loop-test .taken in record { fits = omega (arith, waiting-limit _ (c .before .before .before .before .before .before .pre)) }
+add-k : tie.Need-add-k Inv-loop μ-loop
+add-k c = let e = c .before .before .before .before .before .waiting-count .ensures in let l = c .before .before .before .loop-test .taken in record { fits = omega (arith, waiting-limit _ (c .before .before .before .before .before .before .pre)) }
 
 loop-less : tie.Need-loop-less Inv-loop μ-loop
 loop-less c = let l = c .before .before .before .loop-test .taken in omega arith
@@ -71,7 +71,7 @@ oldest-internal-spec =
     place-requires
     inner-requires
     returns
-    add-j
+    add-k
     loop-less
     loop-again
     returns-2)

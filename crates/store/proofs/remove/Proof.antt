@@ -5,7 +5,8 @@ use lib.IntN.{pos}
 use lib.ListN.{length, length-set, getD}
 use borrow.Author.Needs.{needs}
 use Rattle.laris.specs.State.{wordOf, waiting}
-use Rattle.store.proofs.Laws.{given, waiting-limit, Moved, moved-none, moved-more, removed}
+use Rattle.store.proofs.Laws.{given, waiting-limit}
+use Rattle.store.proofs.Removed.{Moved, moved-none, moved-more, removed}
 use Rattle.store.proofs.remove.Statement.{statement}
 use Rattle.store.proofs.remove.Tie as tie
 
