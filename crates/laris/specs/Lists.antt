@@ -1,11 +1,14 @@
 -- A whole list of events.
 use mathlib.Core.List.{List, [], _∷_}
 use mathlib.Core.Bool.{Bool, true, false}
+use mathlib.Core.Path.{_≡_}
+use lib.ListN.{length, replicate}
 use lib.Dec.{eqb}
-use lib.IntN.{ℤ}
+use lib.IntN.{ℤ, pos}
 use Prim.Native.Nat.{ℕ}
 use Rattle.laris.specs.declared.Answer.{Answer}
-use Rattle.laris.specs.Play.{Outcome, ended, stuck, eventCall}
+use Rattle.laris.specs.State.{stateLength}
+use Rattle.laris.specs.Play.{Outcome, ended, stuck, startCall, eventCall}
 
 -- What a list comes to: the answers in order and the state that the last accepted event left; or the machine is stuck.
 pub data Played : Type 0 where
@@ -28,3 +31,24 @@ goesOn a old new = elim (eqb (a .number) 0) [ true ↦ new | false ↦ old ]
 unfoldable pub eventsOf : List ℕ → List ℤ → List (List ℤ) → Played
 eventsOf s st [] = played [] st
 eventsOf s st (ev ∷ evs) = thenPlayed (eventCall s st st ev) (λ a new. afterAnswer a (eventsOf s (goesOn a st new) evs))
+
+-- The machine's own run, "fed with the sheet and the events alone": start on a state of the right length, and after answer 0 the events.
+unfoldable pub playOf : List ℕ → List (List ℤ) → Played
+playOf s evs = thenPlayed (startCall s (replicate (stateLength s) (pos 0))) (λ a st. afterAnswer a (elim (eqb (a .number) 0) [ true ↦ eventsOf s st evs | false ↦ played [] st ]))
+
+-- ---- what calls of an engine give
+
+-- start: the answer and the result state are the machine's
+abbrev pub StartGives : List ℕ → List ℤ → Answer → List ℤ → Type 0
+StartGives s lent a result = ended a result ≡ startCall s lent
+
+-- event, on an old state
+abbrev pub EventGives : List ℕ → List ℤ → List ℤ → List ℤ → Answer → List ℤ → Type 0
+EventGives s old lent ev a result = ended a result ≡ eventCall s old lent ev
+
+-- calls of event for a list of events, one after another, each on the state that the last accepted one left, with any result state lent at its length; they give these answers and leave this state
+abbrev pub EventsGive : List ℕ → List ℤ → List (List ℤ) → List Answer → List ℤ → Type 0
+EventsGive s st [] [] last = last ≡ st
+EventsGive s st [] (a ∷ answers) last = ⊥
+EventsGive s st (ev ∷ evs) [] last = ⊥
+EventsGive s st (ev ∷ evs) (a ∷ answers) last = (lent : List ℤ) × (result : List ℤ) × (length lent ≡ stateLength s) × EventGives s st lent ev a result × EventsGive s (goesOn a st result) evs answers last

@@ -25,7 +25,7 @@ module _ (s : List ℕ) (ok : checkOf s ≡ Passed) where
   also-kept a nowhere h k = k
 
   -- an accepted event's state is of the sheet, and a refused one leaves the old
-  on-kept : (old : List ℤ) → OfSheet s old → (a : Answer) (st : List ℤ) → EventKept s old (ended a st) → OfSheet s (goesOn a old st)
+  pub on-kept : (old : List ℤ) → OfSheet s old → (a : Answer) (st : List ℤ) → EventKept s old (ended a st) → OfSheet s (goesOn a old st)
   unfolding goesOn
   on-kept old o a st h = go (eqb (a .number) 0) refl
     where
