@@ -217,6 +217,11 @@ module _ (s w : List ℕ) (st lo : List ℤ) (ready : Ready s w st lo) where
             let p = parameter-as l ∙ ap (λ f. onRecord f (λ r. needs (isLiteral (operator r)) (ofType declared (literalValue (x .element) r) (within s (literalValue (x .element) r) l)))) h in
             ap workOf (visited read q l ∙ p) ∙ needs-three _ _ _ _ (λ z. goes read q l (ap workOf p ∙ z))
 
+        -- no such constant
+        pub parameter-stuck : recordOf s nodes (constantOf (x .binding) (r .f2)) ≡ Absent → (l : ℕ) → workOf (evalOf s x st lo n (suc l)) ≡ Stuck
+        unfolding parameterVal onRecord workOf
+        parameter-stuck h l = ap workOf (visited read q l ∙ parameter-as l ∙ ap (λ f. onRecord f (λ r. needs (isLiteral (operator r)) (ofType declared (literalValue (x .element) r) (within s (literalValue (x .element) r) l)))) h)
+
     -- ---- clocks
 
     module _ (q : formOf (operator r) ≡ clock) where

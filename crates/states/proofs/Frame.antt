@@ -24,7 +24,7 @@ either false x x′ y y′ e f = f
 both : (x x′ y y′ : Bool) → x ≡ x′ → y ≡ y′ → x and y ≡ x′ and y′
 both x x′ y y′ e f = rw (e, f) refl
 
-all-same : (n : ℕ) (p q : ℕ → Bool) → ((i : ℕ) → i < n → p i ≡ q i) → allBelow n p ≡ allBelow n q
+pub all-same : (n : ℕ) (p q : ℕ → Bool) → ((i : ℕ) → i < n → p i ≡ q i) → allBelow n p ≡ allBelow n q
 unfolding allBelow
 all-same zero p q h = refl
 all-same (suc n) p q h = rw (all-same n p q (λ i l. h i (omega arith)), h n (omega arith)) refl
