@@ -98,7 +98,7 @@ module _ (s : List ℕ) (ok : checkOf s ≡ Passed) (e : ℕ) (b c : Record) (x 
         unfolding sameTypes
         same-type j l = eqb-true _ _ (all-at _ _ (and-second _ _ (reaction-types h)) j l)
 
-        brought-so : brought s t d ≡ true
+        pub brought-so : brought s t d ≡ true
         unfolding brought dataFit
         brought-so = and-true _ _ (eq-eqb _ _ (sym same-count)) (all-true 4 _ (λ j l. go j (ltb j (bodyParameters d .count)) refl (all-at 4 _ data-fits j l)))
           where
@@ -113,7 +113,7 @@ module _ (s : List ℕ) (ok : checkOf s ≡ Passed) (e : ℕ) (b c : Record) (x 
         unfolding bodyShape
         few = leb-true _ _ (and-first _ _ (and-second _ _ (and-second _ _ (and-second _ _ (body-shape s ok _ d (i .there))))))
 
-        brought-data : Parameters (t .d0 ∷ t .d1 ∷ t .d2 ∷ t .d3 ∷ [])
+        pub brought-data : Parameters (t .d0 ∷ t .d1 ∷ t .d2 ∷ t .d3 ∷ [])
         unfolding brought dataFit
         brought-data j l = rw (lt-ltb j (bodyParameters d .count) l) at (all-at 4 _ (and-second _ _ brought-so) j (omega (arith, few)))
 
