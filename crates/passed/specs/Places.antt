@@ -1,13 +1,14 @@
 -- Where a body runs on a passed sheet, and what its variables hold.
-use Prim.Native.Nat.{ℕ, _+_, _-_, _<_}
+use Prim.Native.Nat.{ℕ, _+_, _-_, _<_, _≤_}
 use mathlib.Core.Path.{_≡_}
 use mathlib.Core.List.{List}
 use mathlib.Core.Bool.{Bool, true, false}
 use lib.ListN.{length}
+use lib.Dec.{ltb}
 use lib.IntN.{ℤ}
 use Rattle.sheet.specs.declared.Record.{Record}
-use Rattle.sheet.specs.declared.Found.the-variants.{Present}
-use Rattle.sheet.specs.Names.{charts, bindings, chartVariables, chartBodies, bodyParameters, bodyLocals, boundChart, bodyVariable}
+use Rattle.sheet.specs.declared.Found.the-variants.{Present, Absent}
+use Rattle.sheet.specs.Names.{charts, bodies, bindings, chartVariables, chartBodies, bodyParameters, bodyLocals, boundChart, bodyVariable}
 use Rattle.sheet.specs.Sheet.{recordOf}
 use Rattle.laris.specs.Fields.{typeAt, externalsOf}
 use Rattle.laris.specs.Types.{variableAt}
@@ -16,6 +17,7 @@ use Rattle.laris.specs.Values.{inType, isBound, firstCell}
 use Rattle.laris.specs.State.{cellAt, wordOf}
 use Rattle.laris.specs.Valid.{cellFits}
 use Rattle.laris.specs.Eval.{Context}
+use Rattle.laris.specs.Play.{bodyWhere}
 
 -- body b stands in chart c
 pub record InChart (s : List ℕ) (c b : Record) : Type 0 where
@@ -42,3 +44,8 @@ pub record Locals (s : List ℕ) (x : Context) (lo : List ℤ) : Type 0 where
 -- the cells of a body's element
 abbrev pub Cells : List ℕ → Context → List ℤ → Type 0
 Cells s x st = (j : ℕ) → j < chartVariables (x .chart) .count → cellFits s (x .element) (typeAt s (chartVariables (x .chart) .first + j)) st (cellAt (firstCell s (x .element) + j)) ≡ true
+
+-- number j of chart c is the first body that meets a test; the count of its bodies if none does
+pub record StandsAt (s : List ℕ) (c : Record) (p : Record → Bool) (j : ℕ) : Type 0 where
+  pub within : j ≤ chartBodies c .count
+  pub there : bodyWhere s c p ≡ elim (ltb j (chartBodies c .count)) [ true ↦ recordOf s bodies (chartBodies c .first + j) | false ↦ Absent ]

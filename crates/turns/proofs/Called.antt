@@ -26,10 +26,10 @@ use Rattle.laris.specs.Valid.{dataFit, datumOf}
 use Rattle.laris.specs.Run.{World, datum}
 use Rattle.laris.specs.Play.{Outcome, bodyWhere, hasPanic, isInitial, reactsOn, elementBody, bodyEvent, reacting, panicking, delivered, ranBody}
 use Rattle.laris.specs.Check.{checkOf}
-use Rattle.passed.specs.Places.{InChart, Element}
+use Rattle.passed.specs.Places.{InChart, Element, StandsAt}
 use Rattle.passed.proofs.Charts.{element-chart, where-found, body-there, panic-there, initial-there, reaction-there}
 use Rattle.promise.proofs.Bodies.{brought-so, brought-data, no-parameters}
-use Rattle.turns.specs.Called.{Called, StandsAt}
+use Rattle.turns.specs.Called.{Called}
 use Rattle.turns.proofs.Laws.{element-body, delivered-reaction, delivered-panic, reacting-is, panicking-is, initial-ran}
 
 abbrev fourZeros : List ℤ

@@ -3,16 +3,12 @@ use Prim.Native.Nat.{ℕ, _+_, _<_, _≤_}
 use mathlib.Core.Path.{_≡_}
 use mathlib.Core.List.{List}
 use mathlib.Core.Bool.{Bool, true, false}
-use lib.Dec.{ltb}
 use lib.IntN.{ℤ}
 use Rattle.sheet.specs.declared.Record.{Record}
-use Rattle.sheet.specs.declared.Found.the-variants.{Present, Absent}
-use Rattle.sheet.specs.Names.{bodies, chartBodies, bodyParameters}
-use Rattle.sheet.specs.Sheet.{recordOf}
+use Rattle.sheet.specs.Names.{chartBodies, bodyParameters}
 use Rattle.laris.specs.Fields.{typeAt}
 use Rattle.laris.specs.Values.{inType}
 use Rattle.laris.specs.Run.{datum}
-use Rattle.laris.specs.Play.{bodyWhere}
 use Rattle.passed.specs.Places.{InChart, Element}
 
 -- body `number` of section 5 stands in the chart of element e, and the data are of its parameters' types
@@ -24,8 +20,3 @@ pub record Called (s : List ℕ) (e number : ℕ) (zs : List ℤ) : Type 0 where
   pub inside : InChart s chart body
   pub at : number ≡ chartBodies chart .first + inside .number
   pub parameters : (j : ℕ) → j < bodyParameters body .count → inType s (typeAt s (bodyParameters body .first + j)) (datum zs j) ≡ true
-
--- number j of chart c is the first body that meets a test; the count of its bodies if none does
-pub record StandsAt (s : List ℕ) (c : Record) (p : Record → Bool) (j : ℕ) : Type 0 where
-  pub within : j ≤ chartBodies c .count
-  pub there : bodyWhere s c p ≡ elim (ltb j (chartBodies c .count)) [ true ↦ recordOf s bodies (chartBodies c .first + j) | false ↦ Absent ]

@@ -1,7 +1,8 @@
 use Prim.Native.Nat.{_+_}
-use mathlib.Core.Path.{_≡_, _∙_}
+use mathlib.Core.Path.{_≡_, ap, _∙_}
 use native.Mathlib.Omega.{arith}
 use lib.IntN.{pos}
+use lib.ListN.{set}
 use borrow.Author.Needs.{needs}
 use Rattle.laris.specs.State.{wordsOf, putWords}
 use Rattle.store.proofs.Laws.{given, appended}
@@ -35,7 +36,7 @@ returns c = λ s e.
     let told = c .before .before .before .before .before .struct-told8 .given in
     let p : c .before .before .before .before .put-words .last .0 ≡ putWords (c .before .before .before .before .before .before .before .before .before .before .before .before .before .before .before .before .before .before .args .st .now) (c .before .before .before .before .before .before .before .before .before .before .before .before .before .before .place .result) (wordsOf t) = rw (given (t .sender) (told .0 .1), given (t .receiver) (told .1 .0 .1), given (t .port) (told .1 .1 .0 .1), given (t .name) (told .1 .1 .1 .0 .1), given (t .d0) (told .1 .1 .1 .1 .0 .1), given (t .d1) (told .1 .1 .1 .1 .1 .0 .1), given (t .d2) (told .1 .1 .1 .1 .1 .1 .0 .1), given (t .d3) (told .1 .1 .1 .1 .1 .1 .1 .0 .1)) at (c .before .before .before .before .put-words .ensures) in
     let n = c .before .before .before .before .before .before .before .before .before .before .before .before .before .before .before .before .waiting-count .ensures in let l = c .before .before .before .before .before .before .before .before .before .before .before .before .before .before .before .before .before .before .pre .1 in
-    (rw (p, given (pos (c .before .before .before .before .before .before .before .before .before .before .before .before .before .before .before .before .waiting-count .result + 1)) (omega arith)) at (c .before .set-word .ensures)) ∙ appended s _ t _ _ n (c .before .before .before .before .before .before .before .before .before .before .before .before .before .before .place .ensures .1 s e)
+    c .before .set-word .ensures ∙ ap (λ z. set (c .before .before .before .before .put-words .last .0) 0 z) (given (pos (c .before .before .before .before .before .before .before .before .before .before .before .before .before .before .before .before .waiting-count .result + 1)) (omega arith)) ∙ ap (λ l. set l 0 (pos (c .before .before .before .before .before .before .before .before .before .before .before .before .before .before .before .before .waiting-count .result + 1))) p ∙ appended s _ t _ _ n (c .before .before .before .before .before .before .before .before .before .before .before .before .before .before .place .ensures .1 s e)
 
 pub append-spec : {M : Type 1} → statement M
 append-spec =

@@ -2,9 +2,9 @@ use Prim.Native.Nat.{_+_, _-_, _<_, _≤_}
 use mathlib.Core.Path.{_≡_, refl, _∙_}
 use native.Mathlib.Omega.{arith}
 use lib.IntN.{pos}
-use lib.ListN.{length, length-set, getD}
+use lib.ListN.{length, length-set, getD, set, replicate}
 use borrow.Author.Needs.{needs}
-use Rattle.laris.specs.State.{wordOf, waiting}
+use Rattle.laris.specs.State.{wordOf, waiting, putWords}
 use Rattle.store.proofs.Laws.{given, waiting-limit}
 use Rattle.store.proofs.Removed.{Moved, moved-none, moved-more, removed}
 use Rattle.store.proofs.remove.Statement.{statement}
@@ -76,8 +76,8 @@ returns c = λ s o.
     let n = c .before .before .before .before .before .before .before .before .before .before .before .before .waiting-count .result - 1 in
     let e = c .before .before .before .before .before .before .before .before .before .before .before .before .waiting-count .ensures in let here = c .before .before .before .before .before .before .before .before .before .before .before .before .before .before .pre .1 in
     let k : n ≡ waiting (c .before .before .before .before .before .before .before .before .before .before .before .before .before .before .args .st .now) - 1 = omega arith in
-    (rw (c .before .before .before .before .put-words .ensures, given (pos n) (omega (arith, waiting-limit _ (c .before .before .before .before .before .before .before .before .before .before .before .before .before .before .pre .0)))) at (c .before .set-word .ensures))
-    ∙ removed s (c .before .before .before .before .before .before .before .before .before .before .before .before .before .before .args .st .now) o (c .before .before .before .before .before .before .before .before .before .before .before .before .before .before .args .j) n (c .before .before .before .before .before .before .before .before .place2 .result) (c .before .before .before .before .before .before .before .before .before .before .place .result) (c .before .before .before .before .before .before .before .loop .i) (c .before .before .before .before .before .before .before .loop .st) here k (c .before .before .before .before .before .before .before .before .place2 .ensures .1 s (o .whole)) (c .before .before .before .before .before .before .before .before .before .before .place .ensures .1 s (o .whole)) (c .before .before .before .before .before .before .before .loop .inv .1) (c .before .before .before .before .before .before .loop-test .left) (c .before .before .before .before .before .before .before .loop .inv .2) (c .before .before .before .before .before .before .before .loop .inv .3)
+    let h : c .before .set-word .last .0 ≡ set (putWords (c .before .before .before .before .before .before .before .loop .st) (c .before .before .before .before .before .before .before .before .before .before .place .result) (replicate 8 (pos 0))) 0 (pos n) = rw (c .before .before .before .before .put-words .ensures, given (pos n) (omega (arith, waiting-limit _ (c .before .before .before .before .before .before .before .before .before .before .before .before .before .before .pre .0)))) at (c .before .set-word .ensures) in
+    h ∙ removed s (c .before .before .before .before .before .before .before .before .before .before .before .before .before .before .args .st .now) o (c .before .before .before .before .before .before .before .before .before .before .before .before .before .before .args .j) n (c .before .before .before .before .before .before .before .before .place2 .result) (c .before .before .before .before .before .before .before .before .before .before .place .result) (c .before .before .before .before .before .before .before .loop .i) (c .before .before .before .before .before .before .before .loop .st) here k (c .before .before .before .before .before .before .before .before .place2 .ensures .1 s (o .whole)) (c .before .before .before .before .before .before .before .before .before .before .place .ensures .1 s (o .whole)) (c .before .before .before .before .before .before .before .loop .inv .1) (c .before .before .before .before .before .before .loop-test .left) (c .before .before .before .before .before .before .before .loop .inv .2) (c .before .before .before .before .before .before .before .loop .inv .3)
 
 pub remove-spec : {M : Type 1} → statement M
 remove-spec =
