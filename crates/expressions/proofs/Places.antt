@@ -1,5 +1,5 @@
 -- The same laws in the code's terms: words found by the six numbers of a body, steps counted down.
-use Prim.Native.Nat.{ℕ, zero, suc, _+_, _*_, _-_, _<_, _≤_}
+use Prim.Native.Nat.{ℕ, suc, _+_, _*_, _-_, _<_, _≤_}
 use mathlib.Core.Path.{_≡_, refl, sym, ap, subst, _∙_}
 use mathlib.Core.List.{List}
 use mathlib.Core.Bool.{Bool, true, false}
@@ -106,6 +106,10 @@ module _ (s w : List ℕ) (st lo : List ℤ) (ready : Ready s w st lo) where
 
     pub not-at : formOf (operator r) ≡ unary → (l : ℕ) (y : Work) → y ≡ workOf (evalOf s (contextAt s w) st lo (r .f1) l) → thenWork y notWork ≡ given l
     not-at q l y h = ap (λ o. thenWork o notWork) h ∙ sym (laws.not-word s w st lo ready n r there e q l)
+
+    -- both operands are lower, and expressions
+    pub operands-at : formOf (operator r) ≡ binary → (r .f1 < n) × (r .f2 < n) × IsExpression s w (r .f1) × IsExpression s w (r .f2)
+    operands-at q = (laws.first-low s w st lo ready n r there e q, laws.second-low s w st lo ready n r there e q, laws.first-operand s w st lo ready n r there e q, laws.second-operand s w st lo ready n r there e q)
 
     -- the first operand gave x
     module _ (q : formOf (operator r) ≡ binary) (l : ℕ) (x : Work) (first : x ≡ workOf (evalOf s (contextAt s w) st lo (r .f1) l)) where

@@ -86,8 +86,7 @@ fn variable(
             let Found::Present(b) = reader::read(sheet, directory, 7, context[2]) else {
                 return Work::Stuck;
             };
-            let Found::Present(c) =
-                reader::read(sheet, directory, 6, fields::field(b, 1 + number))
+            let Found::Present(c) = reader::read(sheet, directory, 6, fields::field(b, 1 + number))
             else {
                 return Work::Stuck;
             };

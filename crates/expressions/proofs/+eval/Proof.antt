@@ -1,18 +1,17 @@
+use Prim.Native.Nat.{ℕ, _-_, _<_}
+use mathlib.Core.Path.{_≡_, sym, ap, _∙_}
 use native.Mathlib.Omega.{arith}
-use mathlib.Core.Path.{_≡_, refl, sym, ap, _∙_}
-use Prim.Native.Nat.{_-_}
 use lib.IntN.{ℤ}
 use mir.Syntax.{w32}
 use mir.Val.{ofZ, toZ}
 use borrow.Author.Needs.{needs}
-use Prim.Native.Nat.{ℕ, _<_}
 use borrow.Fn.Kinds.{In}
 use borrow.Fn.PlainCycle.{Measures, is, falls, and as joined}
 use Rattle.laris.proofs.Forms.{form-literal, form-binary, form-clock, form-expression}
 use Rattle.ints.specs.declared.Work.the-variants.{Word}
 use Rattle.ints.proofs.Range.{back}
-use Rattle.ready.proofs.Expressions.{absent-stuck, other-stuck, unary-low, unary-operand, first-low, first-operand, second-low, second-operand}
-use Rattle.expressions.proofs.Places.{form-read, form-unary, visit, refused-at, element-low, literal-at, clock-here, running-at, value-at, not-at, two-at, first-refused, first-stuck}
+use Rattle.ready.proofs.Expressions.{absent-stuck, other-stuck, unary-low, unary-operand}
+use Rattle.expressions.proofs.Places.{form-read, form-unary, visit, refused-at, element-low, literal-at, clock-here, running-at, value-at, not-at, operands-at, two-at, first-refused, first-stuck}
 use Rattle.expressions.proofs.eval.Reads as eval
 use Rattle.expressions.proofs.eval.Kinds as eval-kinds
 use Rattle.expressions.proofs.+eval.Lts-eval as eval-lts
@@ -131,7 +130,7 @@ eval-cast-eval-2 : (t : ℕ) → eval-lts.Need-cast-eval-2 (callees t) (eval-at 
 eval-cast-eval-2 t c = search needs
 
 eval-eval-requires-2 : (t : ℕ) → eval-lts.Need-eval-requires-2 (callees t) (eval-at t) eval.Post
-eval-eval-requires-2 t c κs = (omega (arith, c .before .before .before .before .before .before .before .before .before .before .before .pre .0, first-low _ _ _ _ (c .before .before .before .before .before .before .before .before .before .before .before .pre .1 .1) _ _ (sym (c .before .before .before .before .before .before .before .before .read .ensures) ∙ c .before .before .before .before .before .before .r .given .1) (c .before .before .before .before .before .before .before .before .before .before .before .pre .1 .2) (form-binary _ (omega (arith, c .before .before .before .before .match2 .rest .0 .0 .0 .1, c .before .before .before .before .match2 .rest .0 .0 .1)) (omega arith))), (c .before .before .before .before .before .before .before .before .before .before .before .pre .1 .0, c .before .before .before .before .before .before .before .before .before .before .before .pre .1 .1, first-operand _ _ _ _ (c .before .before .before .before .before .before .before .before .before .before .before .pre .1 .1) _ _ (sym (c .before .before .before .before .before .before .before .before .read .ensures) ∙ c .before .before .before .before .before .before .r .given .1) (c .before .before .before .before .before .before .before .before .before .before .before .pre .1 .2) (form-binary _ (omega (arith, c .before .before .before .before .match2 .rest .0 .0 .0 .1, c .before .before .before .before .match2 .rest .0 .0 .1)) (omega arith))))
+eval-eval-requires-2 t c κs = let o = operands-at _ _ _ _ (c .before .before .before .before .before .before .before .before .before .before .before .pre .1 .1) _ _ (sym (c .before .before .before .before .before .before .before .before .read .ensures) ∙ c .before .before .before .before .before .before .r .given .1) (c .before .before .before .before .before .before .before .before .before .before .before .pre .1 .2) (form-binary _ (omega (arith, c .before .before .before .before .match2 .rest .0 .0 .0 .1, c .before .before .before .before .match2 .rest .0 .0 .1)) (omega arith)) in (omega (arith, c .before .before .before .before .before .before .before .before .before .before .before .pre .0, o .0, o .1), (c .before .before .before .before .before .before .before .before .before .before .before .pre .1 .0, c .before .before .before .before .before .before .before .before .before .before .before .pre .1 .1, search (o .2, o .3)))
 
 eval-enum-known-x : (t : ℕ) → eval-lts.Need-enum-known-x (callees t) (eval-at t) eval.Post
 eval-enum-known-x t c = search needs
@@ -140,7 +139,7 @@ eval-cast-eval-3 : (t : ℕ) → eval-lts.Need-cast-eval-3 (callees t) (eval-at 
 eval-cast-eval-3 t c = search needs
 
 eval-eval-requires-3 : (t : ℕ) → eval-lts.Need-eval-requires-3 (callees t) (eval-at t) eval.Post
-eval-eval-requires-3 t c κs = (omega (arith, c .before .before .before .before .before .before .before .before .before .before .before .before .before .before .before .before .pre .0, second-low _ _ _ _ (c .before .before .before .before .before .before .before .before .before .before .before .before .before .before .before .before .pre .1 .1) _ _ (sym (c .before .before .before .before .before .before .before .before .before .before .before .before .before .read .ensures) ∙ c .before .before .before .before .before .before .before .before .before .before .before .r .given .1) (c .before .before .before .before .before .before .before .before .before .before .before .before .before .before .before .before .pre .1 .2) (form-binary _ (omega (arith, c .before .before .before .before .before .before .before .before .before .match2 .rest .0 .0 .0 .1, c .before .before .before .before .before .before .before .before .before .match2 .rest .0 .0 .1)) (omega arith))), (c .before .before .before .before .before .before .before .before .before .before .before .before .before .before .before .before .pre .1 .0, c .before .before .before .before .before .before .before .before .before .before .before .before .before .before .before .before .pre .1 .1, second-operand _ _ _ _ (c .before .before .before .before .before .before .before .before .before .before .before .before .before .before .before .before .pre .1 .1) _ _ (sym (c .before .before .before .before .before .before .before .before .before .before .before .before .before .read .ensures) ∙ c .before .before .before .before .before .before .before .before .before .before .before .r .given .1) (c .before .before .before .before .before .before .before .before .before .before .before .before .before .before .before .before .pre .1 .2) (form-binary _ (omega (arith, c .before .before .before .before .before .before .before .before .before .match2 .rest .0 .0 .0 .1, c .before .before .before .before .before .before .before .before .before .match2 .rest .0 .0 .1)) (omega arith))))
+eval-eval-requires-3 t c κs = let o = operands-at _ _ _ _ (c .before .before .before .before .before .before .before .before .before .before .before .before .before .before .before .before .pre .1 .1) _ _ (sym (c .before .before .before .before .before .before .before .before .before .before .before .before .before .read .ensures) ∙ c .before .before .before .before .before .before .before .before .before .before .before .r .given .1) (c .before .before .before .before .before .before .before .before .before .before .before .before .before .before .before .before .pre .1 .2) (form-binary _ (omega (arith, c .before .before .before .before .before .before .before .before .before .match2 .rest .0 .0 .0 .1, c .before .before .before .before .before .before .before .before .before .match2 .rest .0 .0 .1)) (omega arith)) in (omega (arith, c .before .before .before .before .before .before .before .before .before .before .before .before .before .before .before .before .pre .0, o .0, o .1), (c .before .before .before .before .before .before .before .before .before .before .before .before .before .before .before .before .pre .1 .0, c .before .before .before .before .before .before .before .before .before .before .before .before .before .before .before .before .pre .1 .1, search (o .2, o .3)))
 
 eval-combined-requires : (t : ℕ) → eval-lts.Need-combined-requires (callees t) (eval-at t) eval.Post
 eval-combined-requires t c κs = search needs

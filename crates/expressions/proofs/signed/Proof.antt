@@ -1,9 +1,9 @@
 use Prim.Native.Nat.{ℕ, _+_, _*_, _<_}
 use mathlib.Core.Path.{_≡_, refl}
 use native.Mathlib.Omega.{arith}
-use lib.IntN.{ℤ, pos, _-ℤ_}
+use lib.IntN.{pos, _-ℤ_}
 use mir.Syntax.{w32, w64}
-use mir.Val.{SFits, Fits, toZ}
+use mir.Val.{SFits, toZ}
 use mir.ValLaws.{toZ-pos, toZ-fits}
 use borrow.Author.Needs.{needs}
 use Rattle.ints.proofs.Range.{back, back64, widen}
