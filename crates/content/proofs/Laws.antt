@@ -4,37 +4,35 @@ use mathlib.Core.Path.{_≡_, refl, sym, ap, _∙_}
 use mathlib.Core.List.{List}
 use mathlib.Core.Bool.{Bool, true, false, not}
 use native.Mathlib.Omega.{arith}
-use lib.Dec.{ltb, leb, eqb}
 use lib.ListN.{length, getD}
 use lib.IntN.{ℤ, pos, natAbs}
 use lib.Signed.{leZ, ltZ}
 use mir.Syntax.{w8, w32}
 use mir.Val.{Fits, toZ, ofZ}
-use borrow.Author.Tests.{lt-ltb, le-ltb, le-leb, lt-leb, eq-eqb, ne-eqb}
+use borrow.Author.Tests.{eq-eqb, ne-eqb}
 use Rattle.sheet.specs.declared.Record.{Record}
-use Rattle.sheet.specs.declared.Range.{Range}
 use Rattle.sheet.specs.declared.Found.{Found}
 use Rattle.sheet.specs.declared.Found.the-variants.{Present, Absent}
 use Rattle.sheet.specs.All.{_and_, allBelow}
 use Rattle.sheet.specs.Sheet.{wordAt, offsetOf, countOf, recordAt, recordOf}
 use Rattle.sheet.specs.Names.{isClock}
-use Rattle.sheet.proofs.All.{true-false, and-true, and-first, and-second, and-false, false-and, all-fails, first-fails, first-holds}
+use Rattle.sheet.proofs.All.{true-false, and-true, and-first, and-second, first-fails, first-holds}
 use Rattle.sheet.proofs.Sheet.{count-limit, record-present}
-use Rattle.laris.specs.Fields.{holds, numberOr0, typeAt, sumBelow, componentsOf, externalsOf, portsOf}
+use Rattle.laris.specs.Fields.{holds, numberOr0, typeAt, sumBelow, componentsOf, externalsOf}
 use Rattle.laris.proofs.Fields.{number-present, holds-present, holds-absent, sum-more}
 use Rattle.laris.specs.declared.Telegram.{Telegram}
-use Rattle.laris.specs.Types.{hasClass, nameRange, reactsTo, hasReaction}
+use Rattle.laris.specs.Types.{hasReaction}
 use Rattle.laris.specs.Shape.{variablesBound, variablesOf}
-use Rattle.laris.specs.Values.{fits32, isBelow, isZero, membersOf, inType, isBound, bindingOf, chartOf, firstCell}
+use Rattle.laris.specs.Values.{fits32, isBelow, isZero, inType, chartOf, firstCell}
 use Rattle.laris.specs.State.{cellAt, placeAt, stateLength, wordOf, waiting, telegramIn, telegramOf}
-use Rattle.laris.specs.Valid.{dataFit, nameFits, reactionAwaits, zeroWords, runningClock, clockCell, cellFits, elementFits, datumOf, internalFits, externalFits, isInternal, telegramFits, headFits, cellsFit, waitingFit, unusedZero}
+use Rattle.laris.specs.Valid.{nameFits, reactionAwaits, zeroWords, runningClock, clockCell, cellFits, elementFits, datumOf, internalFits, externalFits, isInternal, telegramFits, headFits, cellsFit, waitingFit, unusedZero}
 use Rattle.states.proofs.Frame.{all-same, name-same}
 use Rattle.states.proofs.Parts.{below-abs}
 use Rattle.states.proofs.Elements.{element-count, element-cells}
 use Rattle.passed.proofs.Records.{present-below}
 use Rattle.types.proofs.Laws.{no, so}
 use Rattle.tests.proofs.Laws.{read-back, below-from}
-use Rattle.content.specs.Parts.{datumFits, valueFits}
+use Rattle.content.specs.Parts.{valueFits}
 
 -- ---- how many variables: a field is below 65,536, as bytes are below 256
 
@@ -60,100 +58,6 @@ module _ (s : List ℕ) (byte : (i : ℕ) → Fits w8 (getD s i 0)) where
   unfolding variablesOf variablesBound
   variables-small = omega (arith, sum-small (countOf s 7) (variablesBound s) (λ i. number-small _ _ 65535 (λ b p. number-small _ _ 65535 (λ c q. field-small 4 (b .f0) c q))), count-limit s 7)
 
--- ---- bound elements
-
-module _ (s : List ℕ) (e : ℕ) where
-  pub too-low : (n : ℕ) → n ≡ externalsOf s → e < n → Absent ≡ bindingOf s e
-  unfolding bindingOf isBound
-  too-low n p h = rw (bindingOf, false-and (leb (externalsOf s) e) (ltb e (componentsOf s)) (lt-leb _ _ (rw p at h))) refl
-
-  pub too-high : (n : ℕ) → n ≡ componentsOf s → n ≤ e → Absent ≡ bindingOf s e
-  unfolding bindingOf isBound
-  too-high n p h = rw (bindingOf, and-false (leb (externalsOf s) e) (ltb e (componentsOf s)) (le-ltb _ _ (rw p at h))) refl
-
-  pub binding-there : (n m : ℕ) → n ≡ externalsOf s → m ≡ componentsOf s → n ≤ e → e < m → recordOf s 7 (e - n) ≡ bindingOf s e
-  unfolding bindingOf isBound
-  binding-there n m p q h k = rw (bindingOf, p, and-true (leb (externalsOf s) e) (ltb e (componentsOf s)) (le-leb _ _ (rw p at h)) (lt-ltb _ _ (rw q at k))) refl
-
-  pub no-chart : bindingOf s e ≡ Absent → Absent ≡ chartOf s e
-  unfolding chartOf
-  no-chart p = rw (chartOf, p) refl
-
-  pub chart-there : (b : Record) → bindingOf s e ≡ Present b → recordOf s 4 (b .f0) ≡ chartOf s e
-  unfolding chartOf
-  chart-there b p = rw (chartOf, p) refl
-
--- ---- values
-
-module _ (s : List ℕ) (t : ℕ) (z : ℤ) where
-  pub of-bool : t ≡ 0 → isBelow z 2 ≡ inType s t z
-  unfolding inType
-  of-bool e = rw (inType, eq-eqb t 0 e) refl
-
-  pub of-int : t ≡ 1 → fits32 z ≡ inType s t z
-  unfolding inType
-  of-int e = rw (inType, ne-eqb t 0 (λ h. omega arith), eq-eqb t 1 e) refl
-
-  pub of-component : t ≡ 2 → isBelow z (componentsOf s) ≡ inType s t z
-  unfolding inType
-  of-component e = rw (inType, ne-eqb t 0 (λ h. omega arith), ne-eqb t 1 (λ h. omega arith), eq-eqb t 2 e) refl
-
-  pub of-port : t ≡ 3 → isBelow z (portsOf s) ≡ inType s t z
-  unfolding inType
-  of-port e = rw (inType, ne-eqb t 0 (λ h. omega arith), ne-eqb t 1 (λ h. omega arith), ne-eqb t 2 (λ h. omega arith), eq-eqb t 3 e) refl
-
-  -- the other types, from 4 on
-  others : 4 ≤ t → inType s t z ≡ leb 8 t and isBelow z (membersOf s (t - 8))
-  unfolding inType
-  others h = rw (inType, ne-eqb t 0 (λ e. omega arith), ne-eqb t 1 (λ e. omega arith), ne-eqb t 2 (λ e. omega arith), ne-eqb t 3 (λ e. omega arith)) refl
-
-  pub no-value : 4 ≤ t → t < 8 → false ≡ inType s t z
-  no-value h k = sym (others h ∙ false-and _ _ (lt-leb 8 t k))
-
-  pub of-member : 8 ≤ t → isBelow z (membersOf s (t - 8)) ≡ inType s t z
-  unfolding _and_
-  of-member h = sym (others (omega arith) ∙ rw (le-leb 8 t h) refl)
-
-pub from-four : (t : ℕ) → (t ≡ 0 → ⊥) → (t ≡ 1 → ⊥) → (t ≡ 2 → ⊥) → (t ≡ 3 → ⊥) → 4 ≤ t
-from-four t a b c d = omega arith
-
--- ---- data
-
-module _ (s : List ℕ) (g : Range) (j : ℕ) (z : ℤ) (b : Bool) where
-  pub datum-typed : (t : ℕ) → j < g .count → t ≡ typeAt s (g .first + j) → b ≡ inType s t z → b ≡ datumFits s g j z
-  unfolding datumFits
-  datum-typed t h p e = e ∙ rw (datumFits, p, lt-ltb j (g .count) h) refl
-
-  pub datum-surplus : g .count ≤ j → b ≡ isZero z → b ≡ datumFits s g j z
-  unfolding datumFits
-  datum-surplus h e = e ∙ rw (datumFits, le-ltb j (g .count) h) refl
-
--- ---- reactions
-
--- body j of a chart is no internal reaction to name n
-abbrev pub noReaction : List ℕ → ℕ → ℕ → ℕ → Bool
-noReaction s first n j = not (holds (recordOf s 5 (first + j)) (reactsTo n))
-
-pub reaction-found : (s : List ℕ) (c : Record) (n j : ℕ) → j < c .f5 → holds (recordOf s 5 (c .f4 + j)) (reactsTo n) ≡ true → true ≡ hasReaction s c n
-unfolding hasReaction
-reaction-found s c n j l h = sym (ap not (all-fails (c .f5) (noReaction s (c .f4) n) j l (ap not h)))
-
-pub reaction-none : (s : List ℕ) (c : Record) (n : ℕ) → allBelow (c .f5) (noReaction s (c .f4) n) ≡ true → false ≡ hasReaction s c n
-unfolding hasReaction
-reaction-none s c n h = sym (ap not h)
-
-pub awaits-same : (s : List ℕ) (e n : ℕ) (z : ℤ) → n ≡ natAbs z → reactionAwaits s e (pos n) ≡ reactionAwaits s e z
-unfolding reactionAwaits
-awaits-same s e n z p = ap (λ (m : ℕ). holds (chartOf s e) (λ c. hasReaction s c m)) p
-
--- ---- words
-
-pub below-same : (z : ℤ) (n m : ℕ) (b : Bool) → b ≡ isBelow z n → n ≡ m → b ≡ isBelow z m
-below-same z n m b e p = e ∙ ap (isBelow z) p
-
-word-fits : (z w : ℤ) → z ≡ w → fits32 z ≡ true → fits32 w ≡ true
-word-fits z w e h = sym (ap fits32 e) ∙ h
-
 -- ---- names
 
 module _ (s : List ℕ) (k : ℕ) (z : ℤ) (d : ℕ → ℤ) where
@@ -162,16 +66,16 @@ module _ (s : List ℕ) (k : ℕ) (z : ℤ) (d : ℕ → ℤ) where
   unfolding nameFits
   name-from h = below-from z _ (and-first _ _ h)
 
-module _ (s : List ℕ) (n : ℕ) (z : ℤ) (b : Bool) (p : n ≡ natAbs z) where
-  pub name-class : (k : ℕ) → b ≡ hasClass s n k → b ≡ hasClass s (natAbs z) k
-  name-class k e = e ∙ ap (λ (m : ℕ). hasClass s m k) p
-
-  pub name-data : (g : Range) (d : ℕ → ℤ) → g ≡ nameRange s n → b ≡ dataFit s g d → b ≡ dataFit s (nameRange s (natAbs z)) d
-  name-data g d q e = e ∙ ap (λ (h : Range). dataFit s h d) (q ∙ ap (nameRange s) p)
-
 -- a clock's name and data
 pub clock-data : (s : List ℕ) (k : ℕ) (st : List ℤ) (at : ℕ) → nameFits s k (wordOf st (at + 3)) (λ j. wordOf st (at + 3 + 1 + j)) ≡ nameFits s k (wordOf st (at + 3)) (λ j. wordOf st (at + 4 + j))
 clock-data s k st at = name-same s k _ _ _ _ refl (λ j l. let e : at + 3 + 1 + j ≡ at + 4 + j = omega arith in ap (wordOf st) e)
+
+pub awaits-same : (s : List ℕ) (e n : ℕ) (z : ℤ) → n ≡ natAbs z → reactionAwaits s e (pos n) ≡ reactionAwaits s e z
+unfolding reactionAwaits
+awaits-same s e n z p = ap (λ (m : ℕ). holds (chartOf s e) (λ c. hasReaction s c m)) p
+
+word-fits : (z w : ℤ) → z ≡ w → fits32 z ≡ true → fits32 w ≡ true
+word-fits z w e h = sym (ap fits32 e) ∙ h
 
 -- ---- cells
 

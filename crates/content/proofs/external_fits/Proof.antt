@@ -5,7 +5,8 @@ use Rattle.sheet.proofs.All.{first-fails, rest-fails, first-holds}
 use Rattle.laris.specs.State.{telegramIn}
 use Rattle.laris.specs.Valid.{externalFits}
 use Rattle.types.proofs.Laws.{no, so}
-use Rattle.content.proofs.Laws.{below-same, name-of}
+use Rattle.values.proofs.Laws.{below-same}
+use Rattle.content.proofs.Laws.{name-of}
 use Rattle.content.proofs.external_fits.Statement.{statement}
 use Rattle.content.proofs.external_fits.Tie as tie
 
