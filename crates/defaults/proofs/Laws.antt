@@ -1,35 +1,25 @@
 -- What the code of each function comes to.
 use Prim.Native.Nat.{ℕ, zero, suc, _+_, _-_, _<_, _≤_}
 use mathlib.Core.Path.{_≡_, refl, sym, ap, _∙_}
-use mathlib.Core.List.{List, [], _∷_}
-use mathlib.Core.Bool.{Bool, true, false}
+use mathlib.Core.List.{List}
 use native.Mathlib.Omega.{arith}
 use native.Mathlib.Decide.{decLt, ℕ-discrete}
 use lib.ListN.{length, getD, set, replicate, length-set, getD-replicate}
 use lib.Seq.{ext-getD, getD-set-same, getD-set-other}
-use lib.Dec.{ltb}
 use lib.IntN.{ℤ, pos}
-use lib.Signed.{mag}
-use mir.Syntax.{w32}
-use mir.Val.{ofZ, toZ}
-use mir.Facts.{toZ-ofZ}
 use borrow.Author.Tests.{lt-ltb, le-ltb, le-leb, lt-leb, eq-eqb, ne-eqb}
 use Rattle.sheet.specs.declared.Record.{Record}
 use Rattle.sheet.specs.declared.Found.{Found}
 use Rattle.sheet.specs.declared.Found.the-variants.{Present, Absent}
-use Rattle.sheet.specs.Names.{head, charts, bindings, enumeratedTypes, defaultMember, stepLimit, boundChart, chartVariables, bodyParameters, bodyLocals}
+use Rattle.sheet.specs.Names.{head, charts, bindings, stepLimit, boundChart, chartVariables}
 use Rattle.sheet.specs.Sheet.{recordOf}
 use Rattle.laris.specs.Fields.{fieldOf, fieldAt, numberOr0, sumBelow, typeAt, externalsOf}
 use Rattle.laris.specs.Shape.{variablesBound}
 use Rattle.laris.specs.Values.{defaultOf, firstCell}
-use Rattle.laris.specs.Run.{datum, localAt, listFrom, localsOf}
+use Rattle.laris.specs.Run.{localAt, listFrom, localsOf}
 use Rattle.laris.specs.Play.{limitOf}
-use Rattle.laris.proofs.Fields.{number-present, number-absent, sum-more}
+use Rattle.laris.proofs.Fields.{sum-more}
 use Rattle.defaults.specs.Bound.{chartBound}
-
--- a word of 32 bits is read back from its bits
-pub back : (z : ℤ) → mag z < 2147483648 → toZ w32 (ofZ w32 z) ≡ z
-back z h = toZ-ofZ (record { sfits = h })
 
 -- ---- defaults
 

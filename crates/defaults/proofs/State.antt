@@ -1,8 +1,8 @@
 -- The state of start, written cell by cell.
 use Prim.Native.Nat.{ℕ, zero, suc, _+_, _*_, _-_, _<_, _≤_}
 use mathlib.Core.Path.{_≡_, refl, sym, ap, _∙_}
-use mathlib.Core.List.{List, [], _∷_, _++_, append-assoc, append-nil}
-use mathlib.Core.Bool.{Bool, true, false}
+use mathlib.Core.List.{List, _++_, append-assoc, append-nil}
+use mathlib.Core.Bool.{true}
 use native.Mathlib.Omega.{arith}
 use native.Mathlib.Numerals.{add-one}
 use lib.ListN.{length, set, replicate, length-append, replicate-append-replicate}
@@ -10,20 +10,19 @@ use lib.Seq.{set-append-seam}
 use lib.IntN.{ℤ, pos}
 use borrow.Author.Tests.{lt-ltb, le-leb}
 use Rattle.sheet.specs.declared.Record.{Record}
-use Rattle.sheet.specs.declared.Found.{Found}
 use Rattle.sheet.specs.declared.Found.the-variants.{Present, Absent}
-use Rattle.sheet.specs.Names.{bindings, charts, boundChart, chartVariables}
-use Rattle.sheet.specs.Sheet.{countOf, recordOf}
+use Rattle.sheet.specs.Names.{bindings, chartVariables}
+use Rattle.sheet.specs.Sheet.{countOf}
 use Rattle.sheet.proofs.All.{true-false, and-true}
 use Rattle.laris.specs.declared.Checked.the-variants.{Passed}
 use Rattle.laris.specs.Fields.{sumBelow, typeAt, externalsOf, componentsOf}
 use Rattle.laris.specs.Shape.{variablesBound, variablesOf}
 use Rattle.laris.specs.Check.{checkOf}
-use Rattle.laris.specs.Values.{defaultOf, isBound, bindingOf, chartOf, firstCell}
-use Rattle.laris.specs.State.{places, cellAt, placeAt, stateLength}
+use Rattle.laris.specs.Values.{defaultOf, isBound, bindingOf, chartOf}
+use Rattle.laris.specs.State.{cellAt, placeAt, stateLength}
 use Rattle.laris.specs.Play.{defaultCell, defaultCells, elementCells, cellsFrom, defaultState}
 use Rattle.laris.proofs.Fields.{holds-present, holds-absent, sum-more}
-use Rattle.passed.proofs.Records.{elements-bound, variables-limit}
+use Rattle.passed.proofs.Records.{elements-bound}
 use Rattle.passed.proofs.Charts.{bound-element, element-chart}
 use Rattle.states.proofs.Elements.{sum-rises, element-count}
 use Rattle.defaults.specs.Bound.{chartBound}

@@ -83,11 +83,11 @@ taking-kept s st o p K h = go (ltb (oldest s st p) (waiting st)) refl
 module _ (s : List ℕ) (ok : checkOf s ≡ Passed) where
   -- ---- the parts of a telegram that fits
 
-  receiver-below : (t : Telegram) → telegramFits s t ≡ true → isBelow (t .receiver) (componentsOf s) ≡ true
+  pub receiver-below : (t : Telegram) → telegramFits s t ≡ true → isBelow (t .receiver) (componentsOf s) ≡ true
   unfolding telegramFits
   receiver-below t h = and-first _ _ (and-second _ _ h)
 
-  external-part : (t : Telegram) → telegramFits s t ≡ true → isInternal t ≡ false → externalFits s t ≡ true
+  pub external-part : (t : Telegram) → telegramFits s t ≡ true → isInternal t ≡ false → externalFits s t ≡ true
   unfolding telegramFits
   external-part t h n = rw n at (and-second _ _ (and-second _ _ h))
 
@@ -128,7 +128,7 @@ module _ (s : List ℕ) (ok : checkOf s ≡ Passed) where
       go true q = (inl refl, λ z. o, λ k. absurd (k refl))
       go false q = delivered-bound old st o t fits (natAbs (t .receiver)) (bound-word s (t .receiver) (receiver-below t h) q) _ refl
 
-  outer : (a r : ℤ) (t : Telegram) → goesFrom a r t ≡ true → isInternal t ≡ false
+  pub outer : (a r : ℤ) (t : Telegram) → goesFrom a r t ≡ true → isInternal t ≡ false
   outer a r t h = not-true _ (and-first _ _ h)
 
   deliver-kept : (st : List ℤ) → OfSheet s st → (a r : ℤ) → EventKept s st (deliver s st a r)

@@ -28,7 +28,7 @@ pub fn waiting_count(st: &[i32]) -> usize
 }
 
 // Eight words as a telegram.
-fn telegram_in(st: &[i32], at: usize) -> Telegram
+pub fn telegram_in(st: &[i32], at: usize) -> Telegram
     requires { ⌜ at + 8 ≤ length (now st) ⌝ }
     ensures { λ r. ⌜ r ≡ telegramIn (now (st .entry)) at ⌝ }
 {

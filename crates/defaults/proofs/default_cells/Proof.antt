@@ -1,11 +1,10 @@
-use Prim.Native.Nat.{_+_, _-_, _≤_}
-use mathlib.Core.Path.{_≡_, refl, ap, _∙_}
+use Prim.Native.Nat.{_-_, _≤_}
+use mathlib.Core.Path.{_≡_, refl, _∙_}
 use native.Mathlib.Omega.{arith}
 use lib.ListN.{length, length-set}
 use borrow.Author.Needs.{needs}
 use Rattle.laris.specs.State.{cellAt}
-use Rattle.laris.specs.Values.{defaultOf}
-use Rattle.defaults.proofs.Laws.{back}
+use Rattle.store.proofs.Laws.{given}
 use Rattle.defaults.proofs.State.{Written, written-none, written-more, written-all}
 use Rattle.defaults.proofs.default_cells.Statement.{statement}
 use Rattle.defaults.proofs.default_cells.Tie as tie
@@ -57,7 +56,7 @@ loop-less : tie.Need-loop-less Inv-loop μ-loop
 loop-less c = search needs
 
 loop-again : tie.Need-loop-again Inv-loop μ-loop
-loop-again c = let e = c .before .before .before .before .loop .inv .1 in (omega arith, simp length-set e, written-more _ _ (c .before .before .before .before .loop .st) _ _ _ _ (c .before .type-at .result) _ _ (c .before .before .before .loop-test .taken) (c .before .type-at .ensures) (back (c .default-of .result) (c .default-of .ok) ∙ c .default-of .ensures) refl (c .before .before .before .before .loop .inv .2))
+loop-again c = let e = c .before .before .before .before .loop .inv .1 in (omega arith, simp length-set e, written-more _ _ (c .before .before .before .before .loop .st) _ _ _ _ (c .before .type-at .result) _ _ (c .before .before .before .loop-test .taken) (c .before .type-at .ensures) (given (c .default-of .result) (c .default-of .ok) ∙ c .default-of .ensures) refl (c .before .before .before .before .loop .inv .2))
 
 same-length : tie.Need-same-length Inv-loop μ-loop
 same-length c = c .before .loop .inv .1

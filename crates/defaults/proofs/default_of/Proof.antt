@@ -2,7 +2,8 @@ use native.Mathlib.Omega.{arith}
 use mathlib.Core.Path.{_∙_}
 use lib.IntN.{pos}
 use borrow.Author.Needs.{needs}
-use Rattle.defaults.proofs.Laws.{back, default-zero, default-member}
+use Rattle.store.proofs.Laws.{given}
+use Rattle.defaults.proofs.Laws.{default-zero, default-member}
 use Rattle.defaults.proofs.default_of.Statement.{statement}
 use Rattle.defaults.proofs.default_of.Tie as tie
 
@@ -16,7 +17,7 @@ cast-result : tie.Need-cast-result
 cast-result c = search needs
 
 returns-2 : tie.Need-returns-2
-returns-2 c = back (pos (c .field-at .result)) (let l = c .field-at .ensures .1 in omega arith) ∙ default-member _ _ _ (c .before .if1 .left) (c .field-at .ensures .0)
+returns-2 c = given (pos (c .field-at .result)) (let l = c .field-at .ensures .1 in omega arith) ∙ default-member _ _ _ (c .before .if1 .left) (c .field-at .ensures .0)
 
 pub default-of-spec : {M : Type 1} → statement M
 default-of-spec = tie.close (tie.spec returns field-at-requires cast-result returns-2)

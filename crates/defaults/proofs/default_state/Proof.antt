@@ -1,4 +1,4 @@
-use Prim.Native.Nat.{_+_, _-_, _≤_}
+use Prim.Native.Nat.{_-_, _≤_}
 use mathlib.Core.Path.{_≡_, refl, sym, ap, _∙_}
 use native.Mathlib.Omega.{arith}
 use lib.ListN.{length, length-replicate}
@@ -6,7 +6,7 @@ use lib.IntN.{pos}
 use borrow.Author.Needs.{needs}
 use Rattle.sheet.specs.Sheet.{countOf}
 use Rattle.laris.specs.Fields.{sumBelow}
-use Rattle.laris.specs.Shape.{variablesBound, variablesOf}
+use Rattle.laris.specs.Shape.{variablesBound}
 use Rattle.laris.specs.State.{cellAt, placeAt, stateLength}
 use Rattle.passed.proofs.Records.{variables-limit}
 use Rattle.defaults.proofs.State.{bound-there, bound-inside, bound-next, Filled, filled-none, filled-more, filled-all}

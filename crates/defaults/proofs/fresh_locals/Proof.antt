@@ -1,8 +1,9 @@
-use Prim.Native.Nat.{_+_, _-_, _≤_}
+use Prim.Native.Nat.{_-_, _≤_}
 use mathlib.Core.Path.{_∙_}
 use native.Mathlib.Omega.{arith}
 use borrow.Author.Needs.{needs}
-use Rattle.defaults.proofs.Laws.{back, Begun, begun-none, begun-more, begun-all}
+use Rattle.store.proofs.Laws.{given}
+use Rattle.defaults.proofs.Laws.{Begun, begun-none, begun-more, begun-all}
 use Rattle.defaults.proofs.fresh_locals.Statement.{statement}
 use Rattle.defaults.proofs.fresh_locals.Tie as tie
 
@@ -40,7 +41,7 @@ loop-less : tie.Need-loop-less Inv-loop μ-loop
 loop-less c = search needs
 
 loop-again : tie.Need-loop-again Inv-loop μ-loop
-loop-again c = let l = c .before .before .before .before .before .before .pre .2 in let m = c .before .loop-test .taken in (omega arith, begun-more _ _ _ _ _ _ (omega arith) (back (c .local-at .result) (c .local-at .ok) ∙ c .local-at .ensures) (c .before .before .loop .inv .1))
+loop-again c = let l = c .before .before .before .before .before .before .pre .2 in let m = c .before .loop-test .taken in (omega arith, begun-more _ _ _ _ _ _ (omega arith) (given (c .local-at .result) (c .local-at .ok) ∙ c .local-at .ensures) (c .before .before .loop .inv .1))
 
 returns : tie.Need-returns Inv-loop μ-loop
 returns c = begun-all _ _ _ _ _ (c .loop-test .left) (c .before .loop .inv .1)

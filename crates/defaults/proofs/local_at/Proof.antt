@@ -1,7 +1,8 @@
-use mathlib.Core.Path.{sym, ap, _∙_}
+use mathlib.Core.Path.{ap, _∙_}
 use borrow.Author.Needs.{needs}
 use Rattle.laris.specs.Values.{defaultOf}
-use Rattle.defaults.proofs.Laws.{back, local-parameter, local-default}
+use Rattle.store.proofs.Laws.{given}
+use Rattle.defaults.proofs.Laws.{local-parameter, local-default}
 use Rattle.defaults.proofs.local_at.Statement.{statement}
 use Rattle.defaults.proofs.local_at.Tie as tie
 
@@ -15,7 +16,7 @@ element-copy-out-result : tie.Need-element-copy-out-result
 element-copy-out-result c = search needs
 
 returns : tie.Need-returns
-returns c = back _ (c .result .given) ∙ local-parameter _ _ _ _ (c .before .if1 .taken)
+returns c = given _ (c .result .given) ∙ local-parameter _ _ _ _ (c .before .if1 .taken)
 
 cast-type-at : tie.Need-cast-type-at
 cast-type-at c = search needs
@@ -30,7 +31,7 @@ default-of-requires : tie.Need-default-of-requires
 default-of-requires c κs = search needs
 
 returns-2 : tie.Need-returns-2
-returns-2 c = back (c .default-of .result) (c .default-of .ok) ∙ c .default-of .ensures ∙ ap (defaultOf (c .before .before .before .before .before .before .args .sheet .now)) (c .before .type-at .ensures) ∙ local-default (c .before .before .before .before .before .before .args .sheet .now) (c .before .before .before .before .before .before .args .b) _ _ (c .before .before .before .if1 .left) (c .before .before .before .before .before .before .pre .2)
+returns-2 c = given (c .default-of .result) (c .default-of .ok) ∙ c .default-of .ensures ∙ ap (defaultOf (c .before .before .before .before .before .before .args .sheet .now)) (c .before .type-at .ensures) ∙ local-default (c .before .before .before .before .before .before .args .sheet .now) (c .before .before .before .before .before .before .args .b) _ _ (c .before .before .before .if1 .left) (c .before .before .before .before .before .before .pre .2)
 
 pub local-at-spec : {M : Type 1} → statement M
 local-at-spec =
