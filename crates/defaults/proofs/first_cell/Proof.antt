@@ -1,5 +1,5 @@
 use native.Mathlib.Omega.{arith}
-use Prim.Native.Nat.{_*_, _-_, _≤_, _<_}
+use Prim.Native.Nat.{_+_, _*_, _-_, _≤_, _<_}
 use mathlib.Core.Path.{_≡_, refl}
 use borrow.Author.Needs.{needs}
 use Rattle.laris.specs.Fields.{sumBelow}
@@ -12,7 +12,7 @@ abbrev Inv-loop : tie.InvT-loop
 Inv-loop sheet directory e first sum₀ i₀ sum i = (first < 65536) × (e ≤ 64) × (i ≤ e - first) × (sum ≤ 65536 * i) × (sum ≡ sumBelow i (variablesBound sheet))
 
 abbrev μ-loop : tie.MeasureT-loop
-μ-loop sheet directory e first sum₀ i₀ sum i = e - i
+μ-loop sheet directory e first sum₀ i₀ sum i = e + 1 - i
 
 field-at-requires : tie.Need-field-at-requires Inv-loop μ-loop
 field-at-requires c κs = search needs

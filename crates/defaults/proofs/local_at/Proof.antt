@@ -16,7 +16,7 @@ element-copy-out-result : tie.Need-element-copy-out-result
 element-copy-out-result c = search needs
 
 returns : tie.Need-returns
-returns c = given _ (c .result .given) ∙ local-parameter _ _ _ _ (c .before .if1 .taken)
+returns c = given _ (c .result .given) ∙ local-parameter (c .before .before .before .before .args .sheet .now) (c .before .before .before .before .args .b) (c .before .before .before .before .args .d .now) _ (c .before .if1 .taken)
 
 cast-type-at : tie.Need-cast-type-at
 cast-type-at c = search needs
