@@ -32,12 +32,10 @@ pub next-int : (w : ℤ) → mag w < 2147483648 → leZ (pos 0) w ≡ true → s
 unfolding fits32
 next-int w h from q = ltb-true _ _ (timer-int w (lt-ltb _ _ h) from q)
 
-pub less-int : (w : ℤ) (k : ℕ) → mag w < 2147483648 → leZ (pos 0) w ≡ true → k ≤ 1 → mag (w -ℤ pos k) < 2147483648
-less-int (pos a) zero h from l = omega arith
-less-int (pos zero) (suc zero) h from l = omega arith
-less-int (pos (suc a)) (suc zero) h from l = let e : pos (suc a) -ℤ pos 1 ≡ pos (suc a - 1) = rw (le-ltb (suc a) 1 (omega arith)) refl in rw e (omega arith)
-less-int (pos a) (suc (suc k)) h from l = absurd (omega arith)
-less-int (negsuc a) k h from l = absurd (true≢false (sym from))
+pub last-int : (w : ℤ) → mag w < 2147483648 → leZ (pos 0) w ≡ true → mag (w -ℤ pos 1) < 2147483648
+last-int (pos zero) h from = omega arith
+last-int (pos (suc a)) h from = let e : pos (suc a) -ℤ pos 1 ≡ pos (suc a - 1) = rw (le-ltb (suc a) 1 (omega arith)) refl in rw e (omega arith)
+last-int (negsuc a) h from = absurd (true≢false (sym from))
 
 -- a word is 0 where its bits are
 pub bits-zero : (z : ℤ) → mag z < 2147483648 → ofZ w32 z ≡ 0 → isZero z ≡ true

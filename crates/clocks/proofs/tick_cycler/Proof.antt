@@ -8,7 +8,7 @@ use Rattle.laris.specs.State.{wordOf}
 use Rattle.laris.specs.Play.{on}
 use Rattle.store.proofs.Laws.{given}
 use Rattle.clocks.specs.Sliced.{slicedTo}
-use Rattle.clocks.proofs.Laws.{less-int, bits-zero, bits-some, then-refused, then-done, goes-on, fired-word, put-two, cycler-goes, cycler-fires}
+use Rattle.clocks.proofs.Laws.{last-int, bits-zero, bits-some, then-refused, then-done, goes-on, fired-word, put-two, cycler-goes, cycler-fires}
 use Rattle.clocks.proofs.tick_cycler.Statement.{statement}
 use Rattle.clocks.proofs.tick_cycler.Tie as tie
 
@@ -23,7 +23,7 @@ slice-copy-out-value c = search needs
 
 sub-st : tie.Need-sub-st
 unfolding wordOf
-sub-st c = let w = getD (c .before .before .args .st .now) (c .before .before .args .at + 1) (pos 0) in rw (given w (c .before .value .given)) (record { sfits = less-int w _ (c .before .value .given) (c .before .before .pre .0 .value) (omega arith) })
+sub-st c = let w = getD (c .before .before .args .st .now) (c .before .before .args .at + 1) (pos 0) in rw (given w (c .before .value .given)) (record { sfits = last-int w (c .before .value .given) (c .before .before .pre .0 .value) })
 
 add-t13 : tie.Need-add-t13
 add-t13 c = search needs
@@ -39,7 +39,7 @@ same-length c = search needs
 
 returns : tie.Need-returns
 unfolding slicedTo wordOf
-returns c = λ s e. let w = getD (c .before .before .args .st .now) (c .before .before .args .at + 1) (pos 0) in rw (given w (c .before .value .given), given (w -ℤ pos 1) (less-int w 1 (c .before .value .given) (c .before .before .pre .0 .value) (omega arith))) (cycler-goes s _ _ _ (bits-some w (c .before .value .given) (c .if1 .taken)))
+returns c = λ s e. let w = getD (c .before .before .args .st .now) (c .before .before .args .at + 1) (pos 0) in rw (given w (c .before .value .given), given (w -ℤ pos 1) (last-int w (c .before .value .given) (c .before .before .pre .0 .value))) (cycler-goes s _ _ _ (bits-some w (c .before .value .given) (c .if1 .taken)))
 
 add-period : tie.Need-add-period
 add-period c = search needs
@@ -62,7 +62,7 @@ returns-2 c = λ s e. cycler-fires s _ _ _ (bits-zero (getD (c .before .before .
 
 sub-st-2 : tie.Need-sub-st-2
 unfolding wordOf
-sub-st-2 c = let w = getD (c .before .before .before .before .before .before .before .args .st .now) (c .before .before .before .before .before .before .before .args .at + 2) (pos 0) in rw (given w (c .before .before .before .before .period .given)) (record { sfits = less-int w _ (c .before .before .before .before .period .given) (c .before .before .before .before .before .before .before .pre .0 .period) (omega arith) })
+sub-st-2 c = let w = getD (c .before .before .before .before .before .before .before .args .st .now) (c .before .before .before .before .before .before .before .args .at + 2) (pos 0) in rw (given w (c .before .before .before .before .period .given)) (record { sfits = last-int w (c .before .before .before .before .period .given) (c .before .before .before .before .before .before .before .pre .0 .period) })
 
 add-t7 : tie.Need-add-t7
 add-t7 c = search needs
@@ -80,7 +80,7 @@ returns-3 : tie.Need-returns-3
 unfolding slicedTo wordOf
 returns-3 c = λ s e. let w = getD (c .before .before .before .before .before .before .before .args .st .now) (c .before .before .before .before .before .before .before .args .at + 2) (pos 0) in
     let f = fired-word s _ _ _ e (c .before .before .before .before .before .before .before .pre .0) _ (goes-on _ _ _ (c .before .before .fire .ensures s e) (c .if2 .left)) in
-    rw (given w (c .before .before .before .before .period .given), given (w -ℤ pos 1) (less-int w 1 (c .before .before .before .before .period .given) (c .before .before .before .before .before .before .before .pre .0 .period) (omega arith)))
+    rw (given w (c .before .before .before .before .period .given), given (w -ℤ pos 1) (last-int w (c .before .before .before .before .period .given) (c .before .before .before .before .before .before .before .pre .0 .period)))
     (cycler-fires s _ _ _ (bits-zero (getD (c .before .before .before .before .before .before .before .args .st .now) (c .before .before .before .before .before .before .before .args .at + 1) (pos 0)) (c .before .before .before .before .before .before .value .given) (c .before .before .before .before .before .if1 .left)) ∙ then-done _ _ _ _ (c .before .before .fire .ensures s e) (c .if2 .left) ∙ ap on (put-two _ _ _ (let l = c .before .before .before .before .before .before .before .pre .0 .inside in let m = f .1 in omega arith) (f .0)))
 
 pub tick-cycler-spec : {M : Type 1} → statement M

@@ -8,7 +8,7 @@ use Rattle.laris.specs.State.{wordOf}
 use Rattle.laris.specs.Play.{on}
 use Rattle.store.proofs.Laws.{given, bits-same, bits-differ}
 use Rattle.clocks.specs.Sliced.{slicedTo}
-use Rattle.clocks.proofs.Laws.{less-int, then-refused, then-done, timeout-goes, timeout-fires}
+use Rattle.clocks.proofs.Laws.{last-int, then-refused, then-done, timeout-goes, timeout-fires}
 use Rattle.clocks.proofs.tick_timeout.Statement.{statement}
 use Rattle.clocks.proofs.tick_timeout.Tie as tie
 
@@ -23,7 +23,7 @@ slice-copy-out-value c = search needs
 
 sub-st : tie.Need-sub-st
 unfolding wordOf
-sub-st c = let w = getD (c .before .before .args .st .now) (c .before .before .args .at + 1) (pos 0) in rw (given w (c .before .value .given)) (record { sfits = less-int w _ (c .before .value .given) (c .before .before .pre .0 .value) (omega arith) })
+sub-st c = let w = getD (c .before .before .args .st .now) (c .before .before .args .at + 1) (pos 0) in rw (given w (c .before .value .given)) (record { sfits = last-int w (c .before .value .given) (c .before .before .pre .0 .value) })
 
 add-t12 : tie.Need-add-t12
 add-t12 c = search needs
@@ -39,7 +39,7 @@ same-length c = search needs
 
 returns : tie.Need-returns
 unfolding slicedTo wordOf
-returns c = λ s e. let w = getD (c .before .before .args .st .now) (c .before .before .args .at + 1) (pos 0) in let q = bits-differ {z = w} {w = pos 1} (record { sfits = c .before .value .given }) (record { sfits = omega arith }) (c .if1 .taken) in rw (given w (c .before .value .given), given (w -ℤ pos 1) (less-int w 1 (c .before .value .given) (c .before .before .pre .0 .value) (omega arith))) (timeout-goes s _ _ _ q)
+returns c = λ s e. let w = getD (c .before .before .args .st .now) (c .before .before .args .at + 1) (pos 0) in let q = bits-differ {z = w} {w = pos 1} (record { sfits = c .before .value .given }) (record { sfits = omega arith }) (c .if1 .taken) in rw (given w (c .before .value .given), given (w -ℤ pos 1) (last-int w (c .before .value .given) (c .before .before .pre .0 .value))) (timeout-goes s _ _ _ q)
 
 fire-requires : tie.Need-fire-requires
 fire-requires c κs = search needs
