@@ -1,12 +1,12 @@
 -- What the acts of a statement come to.
 use Prim.Native.Nat.{ℕ, zero, suc, _+_, _*_, _-_, _<_, _≤_}
 use mathlib.Core.Path.{_≡_, refl, sym, ap, subst, _∙_}
-use mathlib.Core.List.{List, [], _∷_}
+use mathlib.Core.List.{List, _∷_}
 use mathlib.Core.Bool.{Bool, true, false, not}
 use native.Mathlib.Omega.{arith}
 use native.Mathlib.Decide.{ℕ-discrete}
 use lib.ListN.{length, getD, set, replicate}
-use lib.Dec.{ltb, leb, eqb}
+use lib.Dec.{eqb}
 use lib.IntN.{ℤ, pos, negsuc}
 use lib.Signed.{mag, leZ, ltZ}
 use mir.Syntax.{w32}
@@ -15,9 +15,9 @@ use borrow.Author.Tests.{ltb-true, lt-ltb, le-ltb, eq-eqb, ne-eqb, le-leb, leb-t
 use Rattle.sheet.specs.declared.Record.{Record}
 use Rattle.sheet.specs.declared.Found.{Found}
 use Rattle.sheet.specs.declared.Found.the-variants.{Present, Absent}
-use Rattle.sheet.specs.Names.{names, dataOf, chartVariables, bodyParameters, bodyLocals, operator}
+use Rattle.sheet.specs.Names.{names, chartVariables, bodyParameters, bodyLocals}
 use Rattle.sheet.specs.Sheet.{recordOf}
-use Rattle.sheet.proofs.All.{and-first, and-second, true-false}
+use Rattle.sheet.proofs.All.{and-first, and-second}
 use Rattle.laris.specs.declared.Ran.{Ran}
 use Rattle.laris.specs.declared.Ran.the-variants.{Done, Refused, Stuck}
 use Rattle.laris.specs.declared.Telegram.{Telegram}
@@ -31,7 +31,7 @@ use Rattle.laris.specs.State.{cellAt, placeAt, stateLength, waiting, putWords, 
 use Rattle.laris.specs.Valid.{OfSheet}
 use Rattle.laris.specs.Check.{checkOf}
 use Rattle.laris.specs.Eval.{Context, boolWord, variableAtCell}
-use Rattle.laris.specs.Run.{World, world, Data, given, refused, stuck, datum, thenData, telegram, append, armed, clockSet, assigned, runOf}
+use Rattle.laris.specs.Run.{World, world, Data, given, refused, stuck, thenData, telegram, append, armed, clockSet, assigned, runOf}
 use Rattle.passed.proofs.Records.{components-limit, variables-limit, name-shape}
 use Rattle.passed.proofs.Charts.{element-chart}
 use Rattle.states.proofs.Kept.{cell-in-state}

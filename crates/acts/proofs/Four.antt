@@ -1,12 +1,11 @@
 -- Data worked out one after another into four words.
-use Prim.Native.Nat.{ℕ, zero, suc, _+_, _-_, _<_, _≤_}
+use Prim.Native.Nat.{ℕ, suc, _+_, _-_, _<_, _≤_}
 use mathlib.Core.Path.{_≡_, refl, sym, ap, _∙_}
 use mathlib.Core.List.{List, [], _∷_, _++_}
-use mathlib.Core.Bool.{Bool, true, false}
+use mathlib.Core.Bool.{true, false}
 use native.Mathlib.Omega.{arith}
-use lib.ListN.{length, getD, set, length-append}
-use lib.Dec.{eqb}
-use lib.IntN.{ℤ, pos}
+use lib.ListN.{length, set, length-append}
+use lib.IntN.{ℤ}
 use borrow.Author.Tests.{eq-eqb}
 use Rattle.sheet.specs.declared.Record.{Record}
 use Rattle.sheet.specs.declared.Range.{Range}
@@ -14,7 +13,7 @@ use Rattle.laris.specs.declared.Out.{Out}
 use Rattle.laris.specs.declared.Out.the-variants as out
 use Rattle.laris.specs.declared.Ran.{Ran}
 use Rattle.laris.specs.declared.Ran.the-variants.{Done, Refused, Stuck}
-use Rattle.laris.specs.Fields.{fieldOf, typeAt}
+use Rattle.laris.specs.Fields.{fieldOf}
 use Rattle.laris.specs.Eval.{evalOf}
 use Rattle.laris.specs.Run.{Data, given, refused, stuck, before, nextDatum, dataFrom}
 use Rattle.ints.specs.declared.Work.{Work}
@@ -133,7 +132,7 @@ module _ (s w : List ℕ) (st lo : List ℤ) (r : Record) (g : Range) where
             number = length-append (c .got) (z ∷ []) ∙ ap (λ n. n + 1) (c .number);
             inside = omega arith;
             words = ap (λ d. set d j z) (c .words) ∙ word-set (c .got) z j (c .number) (omega arith);
-            rest = rw k (nextWith (work.Word z m) e ∙ befores-more (c .got) z _)
+            rest = rw k (nextWith (work.Word z m) e ∙ befores-more (c .got) z _);
           }
 
       pub data-refused : length into ≡ 4 → (k m : ℕ) → work.Refused k m ≡ wordAt s w st lo (fieldOf r (4 + j)) l → Told left (Refused k m) into

@@ -90,7 +90,15 @@ pub fn gather(
     let mut l = left;
     let mut j: usize = 0;
     while j < g.count {
-        let x = expressions::eval(sheet, directory, context, st, lo, fields::field(r, 4 + j), l);
+        let x = expressions::eval(
+            sheet,
+            directory,
+            context,
+            st,
+            lo,
+            fields::field(r, 4 + j),
+            l,
+        );
         match x {
             Work::Word { word, left } => {
                 into[j] = word;
@@ -181,7 +189,18 @@ fn send_to(
     let x = expressions::eval(sheet, directory, context, st, lo, r.f2 as usize, left);
     match x {
         Work::Word { word, left } => {
-            send(sheet, directory, context, st, lo, r, a, receiver, word, left)
+            send(
+                sheet,
+                directory,
+                context,
+                st,
+                lo,
+                r,
+                a,
+                receiver,
+                word,
+                left,
+            )
         }
         Work::Refused { number, left } => Ran::Refused { number, left },
         Work::Stuck => Ran::Stuck,
@@ -231,18 +250,25 @@ pub fn internal_send(
     let Found::Present(a) = reader::read(sheet, directory, 3, r.f3 as usize) else {
         return Ran::Stuck;
     };
-    send(sheet, directory, context, st, lo, r, a, context[0] as i32, -1, left)
+    send(
+        sheet,
+        directory,
+        context,
+        st,
+        lo,
+        r,
+        a,
+        context[0] as i32,
+        -1,
+        left,
+    )
 }
 
 // "Arming a Timeout sets its value to the period, a Cycler's to 0"
 fn first_value(op: u16, period: i32) -> i32
     ensures { λ z. ⌜ z ≡ armedValue (clockOf op) period ⌝ }
 {
-    if op == 36 {
-        period
-    } else {
-        0
-    }
+    if op == 36 { period } else { 0 }
 }
 
 // "period below 1": 7.

@@ -1,4 +1,3 @@
-use borrow.Author.Needs.{needs}
 use Rattle.ints.proofs.Range.{back}
 use Rattle.acts.proofs.Acts.{value-timeout, value-cycler}
 use Rattle.acts.proofs.first_value.Statement.{statement}

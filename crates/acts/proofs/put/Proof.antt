@@ -1,7 +1,5 @@
-use Prim.Native.Nat.{_+_, _*_, _<_}
 use native.Mathlib.Omega.{arith}
-use lib.ListN.{length, getD, length-set}
-use mathlib.Core.Path.{_∙_}
+use lib.ListN.{length-set}
 use borrow.Author.Needs.{needs}
 use Rattle.ints.proofs.Range.{back}
 use Rattle.acts.proofs.Acts.{to-chart, to-body, to-none}
