@@ -53,7 +53,7 @@ module _ (s : List ℕ) (ok : checkOf s ≡ Passed) (e : ℕ) (b c : Record) (x 
     abbrev Parameters : List ℤ → Type 0
     Parameters zs = (j : ℕ) → j < bodyParameters d .count → inType s (typeAt s (bodyParameters d .first + j)) (datum zs j) ≡ true
 
-    ran-is : (zs st : List ℤ) → ranBody s e (Present d) zs st ≡ runOf s 0 context (root d) (limitOf s) st (localsOf s d zs)
+    pub ran-is : (zs st : List ℤ) → ranBody s e (Present d) zs st ≡ runOf s 0 context (root d) (limitOf s) st (localsOf s d zs)
     unfolding ranBody
     ran-is zs st = rw (ranBody, element-binding s e b c x, element-chart s e b c x) refl
 

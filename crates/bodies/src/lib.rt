@@ -1,0 +1,85 @@
+// Runs a body of an element, for start and for events.
+use laris::Answer;
+use laris::Handed;
+use laris::Ran;
+use sheet::Found;
+ghost use mathlib.Core.Path.{_≡_};
+ghost use lib.ListN.{length};
+ghost use Rattle.sheet.specs.Sheet.{directoryOf, recordOf};
+ghost use Rattle.laris.specs.declared.Checked.the-variants.{Passed};
+ghost use Rattle.laris.specs.declared.Handed.the-variants.{Nothing};
+ghost use Rattle.laris.specs.Valid.{OfSheet};
+ghost use Rattle.laris.specs.Play.{ended, answer as answerOf, ranBody, bodyEvent};
+ghost use Rattle.laris.specs.Check.{checkOf};
+ghost use Rattle.turns.specs.Called.{Called};
+
+// Body number of section 5 runs for element e, with data for its parameters.
+pub fn run_body(
+    sheet: &[u8],
+    directory: &[usize; 16],
+    st: &mut [i32],
+    e: usize,
+    number: usize,
+    d: &[i32; 4],
+) -> Ran
+    requires { ⌜ (now directory ≡ directoryOf (now sheet)) × (checkOf (now sheet) ≡ Passed) × OfSheet (now sheet) (now st) × Called (now sheet) e number (now d) ⌝ }
+    ensures { λ r. ⌜ (r ≡ ranBody (now (sheet .entry)) e (recordOf (now (sheet .entry)) 5 number) (now (d .entry)) (now (st .entry)) .ran) × (now (st .exit) ≡ ranBody (now (sheet .entry)) e (recordOf (now (sheet .entry)) 5 number) (now (d .entry)) (now (st .entry)) .st) ⌝ }
+{
+    let i = e - fields::field_at(sheet, directory, 0, 0, 1);
+    let Found::Present(binding) = reader::read(sheet, directory, 7, i) else {
+        return Ran::Stuck;
+    };
+    let Found::Present(chart) = reader::read(sheet, directory, 4, binding.f0 as usize) else {
+        return Ran::Stuck;
+    };
+    let Found::Present(body) = reader::read(sheet, directory, 5, number) else {
+        return Ran::Stuck;
+    };
+    let cell = defaults::first_cell(sheet, directory, e);
+    let context = [e, cell, i, binding.f0 as usize, chart.f4 as usize, number];
+    let mut locals = defaults::fresh_locals(sheet, directory, body, d);
+    let limit = defaults::limit(sheet, directory);
+    statements::run(sheet, directory, &context, st, &mut locals, 0, body.f7 as usize, limit)
+}
+
+// An event's answer: "6 to 10" leave a copy of the old state.
+fn answer(old: &[i32], st: &mut [i32], number: u8, steps: u32) -> Answer
+    requires { ⌜ length (now old) ≡ length (now st) ⌝ }
+    ensures { λ a. ⌜ (a ≡ answerOf number steps Nothing) × (number ≡ 0 → now (st .exit) ≡ now (st .entry)) × ((number ≡ 0 → ⊥) → now (st .exit) ≡ now (old .entry)) ⌝ }
+{
+    if number == 0 {
+        return Answer {
+            number,
+            steps,
+            handed: Handed::Nothing,
+        };
+    }
+    store::copy(old, st);
+    Answer {
+        number,
+        steps,
+        handed: Handed::Nothing,
+    }
+}
+
+// The same for an event. On a passed sheet no body is stuck.
+pub fn event_body(
+    sheet: &[u8],
+    directory: &[usize; 16],
+    old: &[i32],
+    st: &mut [i32],
+    e: usize,
+    number: usize,
+    d: &[i32; 4],
+) -> Answer
+    requires { ⌜ (now directory ≡ directoryOf (now sheet)) × (checkOf (now sheet) ≡ Passed) × OfSheet (now sheet) (now st) × Called (now sheet) e number (now d) × (length (now old) ≡ length (now st)) ⌝ }
+    ensures { λ a. ⌜ ended a (now (st .exit)) ≡ bodyEvent (now (sheet .entry)) (now (old .entry)) e (recordOf (now (sheet .entry)) 5 number) (now (d .entry)) (now (st .entry)) ⌝ }
+{
+    let limit = defaults::limit(sheet, directory);
+    let r = run_body(sheet, directory, st, e, number, d);
+    match r {
+        Ran::Done { left } => answer(old, st, 0, limit - left),
+        Ran::Refused { number, left } => answer(old, st, number, limit - left),
+        Ran::Stuck => answer(old, st, 0, 0),
+    }
+}
