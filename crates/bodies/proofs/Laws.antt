@@ -103,7 +103,7 @@ module _ (s : List ℕ) (ok : checkOf s ≡ Passed) (e number : ℕ) (zs : List 
             placed = subst (Placed s) (sym context-is) placed;
             cell = first;
             binding = is-b ∙ sym (ap (λ x. Present (x .binding)) context-is);
-            first = sym (ap (λ x. chartBodies (x .chart) .first) context-is)
+            first = sym (ap (λ x. chartBodies (x .chart) .first) context-is);
           }
 
           pub ready : (st lo : List ℤ) → OfSheet s st → lo ≡ localsOf s d zs → Ready s w st lo
@@ -114,7 +114,7 @@ module _ (s : List ℕ) (ok : checkOf s ≡ Passed) (e number : ℕ) (zs : List 
           root-statement = record {
             levels = 64;
             tree = ap (λ x. treeShape s (x .chart) (x .body) 64 (root d)) context-is ∙ body-tree s ok _ c is-c d inside;
-            typed = ap (λ x. typeOf s (x .chart) (x .body) (root d)) context-is ∙ is-statement _ (and-second _ _ (and-second _ _ (and-second _ _ (body-static s ok _ c is-c d inside))))
+            typed = ap (λ x. typeOf s (x .chart) (x .body) (root d)) context-is ∙ is-statement _ (and-second _ _ (and-second _ _ (and-second _ _ (body-static s ok _ c is-c d inside))));
           }
 
           pub body-ran : (st st′ lo lo′ : List ℤ) (limit : ℕ) (r : Ran) → lo ≡ localsOf s d zs → limit ≡ limitOf s → world r st′ lo′ ≡ runOf s 0 (contextAt s w) (root d) limit st lo → (r ≡ ranBody s e (recordOf s bodies number) zs st .ran) × (st′ ≡ ranBody s e (recordOf s bodies number) zs st .st)

@@ -39,7 +39,16 @@ pub fn run_body(
     let context = [e, cell, i, binding.f0 as usize, chart.f4 as usize, number];
     let mut locals = defaults::fresh_locals(sheet, directory, body, d);
     let limit = defaults::limit(sheet, directory);
-    statements::run(sheet, directory, &context, st, &mut locals, 0, body.f7 as usize, limit)
+    statements::run(
+        sheet,
+        directory,
+        &context,
+        st,
+        &mut locals,
+        0,
+        body.f7 as usize,
+        limit,
+    )
 }
 
 // An event's answer: "6 to 10" leave a copy of the old state.

@@ -1,0 +1,73 @@
+use borrow.Author.Tests.{not-true, not-false}
+use mathlib.Core.Path.{_≡_, refl, sym, ap, subst, _∙_}
+use borrow.Author.Needs.{needs}
+use denote.Ref.{now as nowOf}
+use Rattle.engine.specs.Playing.{Playing}
+use Rattle.engine.proofs.Calls.{old-long, result-long, other-content, malformed-event, happened-event, old-plays}
+use Rattle.engine.proofs.on_passed.Statement.{statement}
+use Rattle.engine.proofs.on_passed.Tie as tie
+
+state-length-requires : tie.Need-state-length-requires
+state-length-requires c κs = search needs
+
+answered-requires : tie.Need-answered-requires
+answered-requires c κs = search needs
+
+returns : tie.Need-returns
+returns c = old-long _ _ _ _ (c .before .before .before .before .pre .1) _ (c .before .before .state-length .ensures) _ (c .answered .ensures) (c .before .if1 .taken)
+
+answered-requires-2 : tie.Need-answered-requires-2
+answered-requires-2 c κs = search needs
+
+returns-2 : tie.Need-returns-2
+returns-2 c = result-long _ _ _ _ (c .before .before .before .before .before .pre .1) _ (c .before .before .before .state-length .ensures) _ (c .answered2 .ensures) (c .before .if2 .taken)
+
+content-fits-requires : tie.Need-content-fits-requires
+content-fits-requires c κs = search needs
+
+answered-requires-3 : tie.Need-answered-requires-3
+answered-requires-3 c κs = search needs
+
+returns-3 : tie.Need-returns-3
+returns-3 c = other-content _ _ _ _ (c .before .before .before .before .before .before .before .pre .1) _ (c .before .before .before .before .before .state-length .ensures) (c .before .before .before .before .if1 .left) (c .before .before .before .if2 .left) _ (c .answered3 .ensures) (sym (c .before .before .content-fits .ensures) ∙ not-true _ (c .before .if3 .taken))
+
+is-event-requires : tie.Need-is-event-requires
+is-event-requires c κs = search needs
+
+answered-requires-4 : tie.Need-answered-requires-4
+answered-requires-4 c κs = search needs
+
+returns-4 : tie.Need-returns-4
+returns-4 c = malformed-event _ _ _ _ (c .before .before .before .before .before .before .before .before .before .pre .1) _ (c .before .before .before .before .before .before .before .state-length .ensures) (c .before .before .before .before .before .before .if1 .left) (c .before .before .before .before .before .if2 .left) _ (c .answered4 .ensures) (sym (c .before .before .before .before .content-fits .ensures) ∙ not-false _ (c .before .before .before .if3 .left)) (sym (c .before .before .is-event .ensures) ∙ not-true _ (c .before .if4 .taken))
+
+copy-requires : tie.Need-copy-requires
+copy-requires c κs = search needs
+
+happened-requires : tie.Need-happened-requires
+happened-requires c κs = (subst (Playing (nowOf (c .before .before .before .before .before .before .before .before .before .before .before .before .args .sheet)) (nowOf (c .before .before .before .before .before .before .before .before .before .before .before .before .args .directory))) (sym (c .before .before .copy .ensures)) (old-plays _ _ (nowOf (c .before .before .before .before .before .before .before .before .before .before .before .before .args .result)) (nowOf (c .before .before .before .before .before .before .before .before .before .before .before .before .args .ev)) (c .before .before .before .before .before .before .before .before .before .before .before .before .pre .1) _ (c .before .before .before .before .before .before .before .before .before .before .state-length .ensures) (c .before .before .before .before .before .before .before .before .before .if1 .left) (c .before .before .before .before .before .before .before .before .if2 .left) _ (c .before .before .before .before .before .before .before .before .before .before .before .before .pre .0) (sym (c .before .before .before .before .before .before .before .content-fits .ensures) ∙ not-false _ (c .before .before .before .before .before .before .if3 .left))), sym (c .before .before .copy .ensures), sym (c .before .before .before .before .before .is-event .ensures) ∙ not-false _ (c .before .before .before .before .if4 .left))
+
+same-length : tie.Need-same-length
+same-length c = search needs
+
+returns-5 : tie.Need-returns-5
+returns-5 c = happened-event _ _ _ _ (c .before .before .before .before .before .before .before .before .before .before .before .before .before .before .pre .1) _ (c .before .before .before .before .before .before .before .before .before .before .before .before .state-length .ensures) (c .before .before .before .before .before .before .before .before .before .before .before .if1 .left) (c .before .before .before .before .before .before .before .before .before .before .if2 .left) _ _ (sym (c .before .before .before .before .before .before .before .before .before .content-fits .ensures) ∙ not-false _ (c .before .before .before .before .before .before .before .before .if3 .left)) (sym (c .before .before .before .before .before .before .before .is-event .ensures) ∙ not-false _ (c .before .before .before .before .before .before .if4 .left)) (c .before .happened .ensures)
+
+pub on-passed-spec : {M : Type 1} → statement M
+on-passed-spec =
+    tie.close
+    (tie.spec
+    state-length-requires
+    answered-requires
+    returns
+    answered-requires-2
+    returns-2
+    content-fits-requires
+    answered-requires-3
+    returns-3
+    is-event-requires
+    answered-requires-4
+    returns-4
+    copy-requires
+    happened-requires
+    same-length
+    returns-5)

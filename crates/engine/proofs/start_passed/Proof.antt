@@ -1,0 +1,30 @@
+use mathlib.Core.Path.{sym, ap, _∙_}
+use borrow.Author.Needs.{needs}
+use Rattle.laris.specs.declared.Answer.{Answer}
+use Rattle.laris.specs.Play.{ended}
+use Rattle.turns.proofs.Laws.{start-length}
+use Rattle.engine.proofs.start_passed.Statement.{statement}
+use Rattle.engine.proofs.start_passed.Tie as tie
+
+state-length-requires : tie.Need-state-length-requires
+state-length-requires c κs = search needs
+
+answered-requires : tie.Need-answered-requires
+answered-requires c κs = search needs
+
+returns : tie.Need-returns
+returns c = ap (λ (a : Answer). ended a (c .before .before .before .before .args .result .now)) (c .answered .ensures) ∙ sym (start-length _ _ (c .before .before .before .before .pre .1) (λ e. c .before .if1 .taken (e ∙ sym (c .before .before .state-length .ensures))))
+
+begin-requires : tie.Need-begin-requires
+begin-requires c κs = search needs
+
+same-length : tie.Need-same-length
+same-length c = search needs
+
+returns-2 : tie.Need-returns-2
+returns-2 c = search needs
+
+pub start-passed-spec : {M : Type 1} → statement M
+start-passed-spec =
+    tie.close
+    (tie.spec state-length-requires answered-requires returns begin-requires same-length returns-2)
