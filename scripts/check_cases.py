@@ -95,4 +95,5 @@ def main():
             answers.write("%d\n" % answer)
 
 
-main()
+if __name__ == "__main__":
+    main()

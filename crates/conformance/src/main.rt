@@ -1,27 +1,93 @@
-// Replays calls from standard input and prints each answer on a line. A call is its kind (0 check),
-// the sheet's length and the sheet, numbers being 32-bit little-endian. An incomplete last call
+// Replays calls from standard input and prints each answer on a line. A call is its kind (0 check,
+// 1 start, 2 event), the sheet's length and the sheet; for start the result state's length; for
+// event the old state's length and words, the result's length, the event's length and words.
+// Numbers are 32-bit little-endian. The lent result is filled with 777. An incomplete last call
 // ends it, and so does a kind or a length that it doesn't take.
+use laris::Answer;
 use laris::Checked;
+use laris::Handed;
 use libc::STDIN_FILENO;
 use libc::STDOUT_FILENO;
-ghost use Prim.Native.Nat.{_<_};
+ghost use Prim.Native.Nat.{_+_, _≤_};
+ghost use lib.ListN.{length};
 
-fn join(a: u8, b: u8, c: u8, d: u8) -> u64
-    ensures { λ r. ⌜ r < 4294967296 ⌝ }
-{
-    a as u64 + 256 * (b as u64) + 65536 * (c as u64) + 16777216 * (d as u64)
+// The longest sheet, state and event that it takes.
+const SHEET: usize = 70000;
+
+const STATE: usize = 6000;
+
+const EVENT: usize = 16;
+
+// What the next number is where the input has ended: more than any length.
+const NONE: usize = 4294967296;
+
+fn read_number() -> usize {
+    let mut bytes = [0u8; 4];
+    if io::read_full(STDIN_FILENO, &mut bytes) < 4 {
+        return NONE;
+    }
+    words::number(&bytes, 0) as usize
 }
 
-fn kind_of(head: &[u8; 8]) -> u64
-    ensures { λ r. ⌜ r < 4294967296 ⌝ }
+// Whether as many words came as there is room for.
+fn read_words(out: &mut [i32]) -> bool
+    requires { ⌜ length (now out) ≤ 6000 ⌝ }
 {
-    join(head[0], head[1], head[2], head[3])
+    let mut bytes = [0u8; 24000];
+    let size = 4 * out.len();
+    if io::read_full(STDIN_FILENO, &mut bytes[..size]) < size {
+        return false;
+    }
+    words::words(&bytes, 0, out);
+    true
 }
 
-fn size_of(head: &[u8; 8]) -> u64
-    ensures { λ r. ⌜ r < 4294967296 ⌝ }
+fn print_words(words: &[i32]) {
+    if words.len() == 0 {
+        io::write_all(STDOUT_FILENO, b"-");
+        return;
+    }
+    let mut out = [0u8; 32768];
+    let mut at = text::put_signed(&mut out, 0, words[0]);
+    let mut i: usize = 1;
+    while i < words.len() {
+        let room = text::with_room(STDOUT_FILENO, &out, at, 22);
+        let next = text::put(&mut out, room, b',');
+        at = text::put_signed(&mut out, next, words[i]);
+        i += 1;
+    }
+    io::write_all(STDOUT_FILENO, &out[..at]);
+}
+
+fn put_handed(out: &mut [u8], at: usize, h: Handed) -> usize
+    requires { ⌜ at + 153 ≤ length (now out) ⌝ }
+    ensures { λ r. ⌜ r ≤ at + 153 ⌝ }
 {
-    join(head[4], head[5], head[6], head[7])
+    match h {
+        Handed::Nothing => text::put(out, at, b'-'),
+        Handed::Outside(t) => listing::put_telegram(out, at, b',', t),
+    }
+}
+
+fn print_start(a: Answer, result: &[i32]) {
+    let mut out = [0u8; 42];
+    let counts = listing::put_counts(&mut out, 0, a.number, a.steps);
+    let end = text::put(&mut out, counts, b' ');
+    io::write_all(STDOUT_FILENO, &out[..end]);
+    print_words(result);
+    io::write_all(STDOUT_FILENO, b"\n");
+}
+
+fn print_event(a: Answer, result: &[i32]) {
+    let mut out = [0u8; 196];
+    let counts = listing::put_counts(&mut out, 0, a.number, a.steps);
+    let next = text::put(&mut out, counts, b' ');
+    let h = a.handed;
+    let handed = put_handed(&mut out, next, h);
+    let end = text::put(&mut out, handed, b' ');
+    io::write_all(STDOUT_FILENO, &out[..end]);
+    print_words(result);
+    io::write_all(STDOUT_FILENO, b"\n");
 }
 
 fn answer(r: Checked) -> u64 {
@@ -32,31 +98,74 @@ fn answer(r: Checked) -> u64 {
     }
 }
 
-fn replay_check(sheet: &[u8]) {
+fn replay_check(sheet: &[u8]) -> bool {
     io::print_decimal(STDOUT_FILENO, answer(checker::check(sheet)));
-    io::write_all(STDOUT_FILENO, b"\n");
+    io::write_all(STDOUT_FILENO, b"\n")
+}
+
+// Each gives whether the call was whole.
+fn replay_start(sheet: &[u8]) -> bool {
+    let length = read_number();
+    if STATE < length {
+        return false;
+    }
+    let mut result = [777i32; STATE];
+    let a = engine::start(sheet, &mut result[..length]);
+    print_start(a, &result[..length]);
+    true
+}
+
+fn replay_event(sheet: &[u8]) -> bool {
+    let before = read_number();
+    if STATE < before {
+        return false;
+    }
+    let mut old = [0i32; STATE];
+    if !read_words(&mut old[..before]) {
+        return false;
+    }
+    let length = read_number();
+    if STATE < length {
+        return false;
+    }
+    let count = read_number();
+    if EVENT < count {
+        return false;
+    }
+    let mut ev = [0i32; EVENT];
+    if !read_words(&mut ev[..count]) {
+        return false;
+    }
+    let mut result = [777i32; STATE];
+    let a = engine::event(sheet, &old[..before], &mut result[..length], &ev[..count]);
+    print_event(a, &result[..length]);
+    true
+}
+
+fn replay(kind: usize, sheet: &[u8]) -> bool {
+    match kind {
+        0 => replay_check(sheet),
+        1 => replay_start(sheet),
+        2 => replay_event(sheet),
+        _ => false,
+    }
 }
 
 fn main() {
-    let mut sheet = [0u8; 70000];
+    let mut sheet = [0u8; SHEET];
     let mut left: u64 = 1000000000000;
     while 0 < left {
         left -= 1;
-        let mut head = [0u8; 8];
-        if io::read_full(STDIN_FILENO, &mut head) < 8 {
-            return;
-        }
-        let kind = kind_of(&head);
-        let size = size_of(&head) as usize;
-        if kind != 0 {
-            return;
-        }
-        if 70000 < size {
+        let kind = read_number();
+        let size = read_number();
+        if SHEET < size {
             return;
         }
         if io::read_full(STDIN_FILENO, &mut sheet[..size]) < size {
             return;
         }
-        replay_check(&sheet[..size]);
+        if !replay(kind, &sheet[..size]) {
+            return;
+        }
     }
 }
