@@ -11,7 +11,7 @@ use lib.Dec.{ltb, leb, eqb}
 use lib.IntN.{ℤ, pos, negsuc, natAbs, _+ℤ_, _-ℤ_}
 use lib.Signed.{mag, leZ, ltZ}
 use mir.Syntax.{w32}
-use mir.Val.{ofZ}
+use mir.Val.{ofZ, toZ}
 use borrow.Author.Tests.{ltb-true, lt-ltb, le-ltb, le-leb, lt-leb, eq-eqb, ne-eqb}
 use Rattle.sheet.specs.Names.{Timer-type, Timeout-type, isClock}
 use Rattle.sheet.proofs.All.{true-false, and-true, and-first, and-second, false-and, and-false, all-at}
@@ -23,6 +23,7 @@ use Rattle.laris.specs.Play.{Sliced, on, off, thenSlice, fires, ticks, slicedCe
 use Rattle.states.proofs.Words.{with-length, with-before}
 use Rattle.states.proofs.Clocks.{running, running-below, timer-runs, timeout-runs, cycler-runs, timer-int}
 use Rattle.store.specs.Laid.{Laid}
+use Rattle.store.proofs.Laws.{given}
 use Rattle.clocks.specs.Sliced.{slicedTo, clockTelegram, fired}
 use Rattle.clocks.specs.Running.{Running, Cell}
 
@@ -36,6 +37,10 @@ pub last-int : (w : ℤ) → mag w < 2147483648 → leZ (pos 0) w ≡ true → m
 last-int (pos zero) h from = omega arith
 last-int (pos (suc a)) h from = let e : pos (suc a) -ℤ pos 1 ≡ pos (suc a - 1) = rw (le-ltb (suc a) 1 (omega arith)) refl in rw e (omega arith)
 last-int (negsuc a) h from = absurd (true≢false (sym from))
+
+-- a word read and written less 1
+pub one-less : (w : ℤ) → mag w < 2147483648 → leZ (pos 0) w ≡ true → toZ w32 (ofZ w32 (toZ w32 (ofZ w32 w) -ℤ pos 1)) ≡ w -ℤ pos 1
+one-less w h from = rw (given w h) (given (w -ℤ pos 1) (last-int w h from))
 
 -- a word is 0 where its bits are
 pub bits-zero : (z : ℤ) → mag z < 2147483648 → ofZ w32 z ≡ 0 → isZero z ≡ true

@@ -81,11 +81,12 @@ fn tick_cycler(st: &mut [i32], e: usize, at: usize) -> u8
         return 0;
     }
     let period = st[at + 2];
+    let next = period - 1;
     let n = fire(st, e, at);
     if n != 0 {
         return n;
     }
-    st[at + 1] = period - 1;
+    store::set_word(st, at + 1, next);
     0
 }
 

@@ -217,17 +217,8 @@ pub fn run(
                 rest,
             );
             match o {
-                Ran::Done { left } => {
-                    run(
-                        sheet,
-                        directory,
-                        context,
-                        st,
-                        lo,
-                        depth,
-                        r.f2 as usize,
-                        left,
-                    )
+                Ran::Done { left: l } => {
+                    run(sheet, directory, context, st, lo, depth, r.f2 as usize, l)
                 }
                 Ran::Refused { number, left } => Ran::Refused { number, left },
                 Ran::Stuck => Ran::Stuck,

@@ -1,14 +1,14 @@
 use Prim.Native.Nat.{_+_}
 use native.Mathlib.Omega.{arith}
 use mathlib.Core.Path.{sym, ap, _∙_}
-use lib.ListN.{getD}
-use lib.IntN.{pos, _-ℤ_}
+use lib.ListN.{getD, set}
+use lib.IntN.{ℤ, pos}
 use borrow.Author.Needs.{needs}
 use Rattle.laris.specs.State.{wordOf}
 use Rattle.laris.specs.Play.{on}
 use Rattle.store.proofs.Laws.{given, bits-same, bits-differ}
 use Rattle.clocks.specs.Sliced.{slicedTo}
-use Rattle.clocks.proofs.Laws.{last-int, then-refused, then-done, timeout-goes, timeout-fires}
+use Rattle.clocks.proofs.Laws.{last-int, one-less, then-refused, then-done, timeout-goes, timeout-fires}
 use Rattle.clocks.proofs.tick_timeout.Statement.{statement}
 use Rattle.clocks.proofs.tick_timeout.Tie as tie
 
@@ -39,7 +39,7 @@ same-length c = search needs
 
 returns : tie.Need-returns
 unfolding slicedTo wordOf
-returns c = λ s e. let w = getD (c .before .before .args .st .now) (c .before .before .args .at + 1) (pos 0) in let q = bits-differ {z = w} {w = pos 1} (record { sfits = c .before .value .given }) (record { sfits = omega arith }) (c .if1 .taken) in rw (given w (c .before .value .given), given (w -ℤ pos 1) (last-int w (c .before .value .given) (c .before .before .pre .0 .value))) (timeout-goes s _ _ _ q)
+returns c = λ s e. let w = getD (c .before .before .args .st .now) (c .before .before .args .at + 1) (pos 0) in let q = bits-differ {z = w} {w = pos 1} (record { sfits = c .before .value .given }) (record { sfits = omega arith }) (c .if1 .taken) in timeout-goes s _ _ _ q ∙ ap (λ (z : ℤ). on (set (c .before .before .args .st .now) (c .before .before .args .at + 1) z)) (sym (one-less w (c .before .value .given) (c .before .before .pre .0 .value)))
 
 fire-requires : tie.Need-fire-requires
 fire-requires c κs = search needs
