@@ -82,6 +82,5 @@ every-list s ok = record {
   list = λ lent a first l e z evs answers last g.
       let o : OfSheet s first = subst (StartKept s) (sym e) (promise s ok .start lent l) .1 z in
       let h = list-same s ok evs answers first last o g in
-      held s ok a evs answers first last (machine-same s ok lent a first l e z evs answers last h) h (promise s ok .list lent a first (sym e) l z evs)
+      held s ok a evs answers first last (machine-same s ok lent a first l e z evs answers last h) h (promise s ok .list lent a first (sym e) l z evs);
 }
-
