@@ -61,9 +61,10 @@ module _ (s : List ℕ) (ok : checkOf s ≡ Passed) where
       let i = initial-there s ok _ (x .1) (x .2 .chart) in
       let f = where-found s isInitial (x .1) (i .0) (i .1) in
       let none : role (i .0) ≡ initial = eqb-true _ _ (f .1) in
-      subst (λ g. ((y : Context) × Ends s y (ranBody s e g [] st .ran) (ranBody s e g [] st .st) (ranBody s e g [] st .lo)) × RanWithin (limitOf s) (ranBody s e g [] st .ran)) (sym (body-of s ok e (x .0) (x .1) (x .2) isInitial ∙ i .1))
-      ((_, ran-ends s ok e (x .0) (x .1) (x .2) (i .0) (f .0) [] st o (no-parameters s ok e (x .0) (x .1) (x .2) (i .0) (f .0) (omega arith) [])),
-       subst (λ (w : World). RanWithin (limitOf s) (w .ran)) (sym (ran-is s ok e (x .0) (x .1) (x .2) (i .0) (f .0) [] st)) (run-left s 0 _ (root (i .0)) (limitOf s) st (localsOf s (i .0) [])))
+      subst (λ g. ((y : Context) × Ends s y (ranBody s e g [] st .ran) (ranBody s e g [] st .st) (ranBody s e g [] st .lo)) × RanWithin (limitOf s) (ranBody s e g [] st .ran)) (sym (body-of s ok e (x .0) (x .1) (x .2) isInitial ∙ i .1)) (
+        (_, ran-ends s ok e (x .0) (x .1) (x .2) (i .0) (f .0) [] st o (no-parameters s ok e (x .0) (x .1) (x .2) (i .0) (f .0) (omega arith) [])),
+        subst (λ (w : World). RanWithin (limitOf s) (w .ran)) (sym (ran-is s ok e (x .0) (x .1) (x .2) (i .0) (f .0) [] st)) (run-left s 0 _ (root (i .0)) (limitOf s) st (localsOf s (i .0) [])),
+      )
 
   -- the body of element number i among those bound
   module _ (first count most i : ℕ) (p : first ≡ externalsOf s) (q : count ≡ countOf s bindings) (m : most ≡ limitOf s) (l : i < count) where

@@ -49,13 +49,7 @@ fn sent_outside(sheet: &[u8], directory: &[usize; 16], st: &mut [i32], ev: &[i32
 }
 
 // The panic body of element e, whose chart is c.
-fn panicked(
-    sheet: &[u8],
-    directory: &[usize; 16],
-    old: &[i32],
-    st: &mut [i32],
-    e: usize,
-) -> Answer
+fn panicked(sheet: &[u8], directory: &[usize; 16], old: &[i32], st: &mut [i32], e: usize) -> Answer
     requires { ⌜ Playing (now sheet) (now directory) (now st) × (length (now old) ≡ length (now st)) × (isBound (now sheet) e ≡ true) ⌝ }
     ensures { λ a. ⌜ ended a (now (st .exit)) ≡ panicking (now (sheet .entry)) (now (old .entry)) e (now (st .entry)) ⌝ }
 {
@@ -146,13 +140,7 @@ fn corrupts(
 }
 
 // 4: "the oldest internal telegram of r is removed and its reaction runs"
-fn inners(
-    sheet: &[u8],
-    directory: &[usize; 16],
-    old: &[i32],
-    st: &mut [i32],
-    r: i32,
-) -> Answer
+fn inners(sheet: &[u8], directory: &[usize; 16], old: &[i32], st: &mut [i32], r: i32) -> Answer
     requires { ⌜ Playing (now sheet) (now directory) (now st) × (now old ≡ now st) ⌝ }
     ensures { λ x. ⌜ ended x (now (st .exit)) ≡ inner (now (sheet .entry)) (now (old .entry)) r ⌝ }
 {

@@ -45,10 +45,11 @@ panicked-requires c κs =
     let p = goesFrom (c .before .before .before .before .before .before .before .before .before .before .before .args .a) (c .before .before .before .before .before .before .before .before .before .before .before .args .r) in
     let at : c .before .before .before .before .before .before .before .before .oldest-external .result ≡ oldest s st p = rw (back (c .before .before .before .before .before .before .before .before .before .before .before .fits .a), back (c .before .before .before .before .before .before .before .before .before .before .before .fits .r)) at (c .before .before .before .before .before .before .before .before .oldest-external .ensures s (c .before .before .before .before .before .before .before .before .before .before .before .pre .0 .state .whole)) in
     let gone : c .before .before .before .remove .last .0 ≡ withoutTelegram s st (c .before .before .before .before .before .before .before .before .oldest-external .result) = c .before .before .before .remove .ensures s (c .before .before .before .before .before .before .before .before .before .before .before .pre .0 .state) in
-    let q : c .number .result ≡ natAbs (c .before .before .before .before .before .before .before .before .before .before .before .args .r) = c .number .ensures ∙ ap natAbs (back (c .before .before .before .before .before .before .before .before .before .before .before .fits .r)) in
-    (record { directory = c .before .before .before .before .before .before .before .before .before .before .before .pre .0 .directory; passed = c .before .before .before .before .before .before .before .before .before .before .before .pre .0 .passed; state = taken-kept s old st (c .before .before .before .before .before .before .before .before .before .before .before .pre .1) p _ _ at (c .before .before .before .before .before .before .waiting-count .ensures) (c .before .before .before .before .before .if1 .left) (c .before .before .before .before .before .before .before .before .before .before .before .pre .0 .state) _ gone },
+    let q : c .number .result ≡ natAbs (c .before .before .before .before .before .before .before .before .before .before .before .args .r) = c .number .ensures ∙ ap natAbs (back (c .before .before .before .before .before .before .before .before .before .before .before .fits .r)) in (
+      record { directory = c .before .before .before .before .before .before .before .before .before .before .before .pre .0 .directory; passed = c .before .before .before .before .before .before .before .before .before .before .before .pre .0 .passed; state = taken-kept s old st (c .before .before .before .before .before .before .before .before .before .before .before .pre .1) p _ _ at (c .before .before .before .before .before .before .waiting-count .ensures) (c .before .before .before .before .before .if1 .left) (c .before .before .before .before .before .before .before .before .before .before .before .pre .0 .state) _ gone },
       taken-length s old st (c .before .before .before .before .before .before .before .before .before .before .before .pre .1) p _ _ at (c .before .before .before .before .before .before .waiting-count .ensures) (c .before .before .before .before .before .if1 .left) (c .before .before .before .before .before .before .before .before .before .before .before .pre .0 .state) _ gone,
-      subst (λ e. isBound s e ≡ true) (sym q) (c .before .before .before .before .before .before .before .before .before .before .before .pre .2))
+      subst (λ e. isBound s e ≡ true) (sym q) (c .before .before .before .before .before .before .before .before .before .before .before .pre .2),
+    )
 
 same-length-2 : tie.Need-same-length-2
 same-length-2 c = search needs

@@ -64,9 +64,9 @@ returns-2 c =
     let gone : c .before .before .before .before .before .remove .last .0 ≡ withoutTelegram s st (c .before .before .before .before .before .before .before .before .before .before .before .before .oldest-external .result) = c .before .before .before .before .before .remove .ensures s (c .before .before .before .before .before .before .before .before .before .before .before .before .before .before .before .pre .0 .state) in
     let far : isBelow (t .receiver) (externalsOf s) ≡ true = ap (λ z. isBelow z (externalsOf s)) (sym (given (t .receiver) (c .before .before .struct-told .given .1 .0 .1))) ∙ ap (isBelow _) (sym (c .before .before .before .externals .ensures .0)) ∙ sym (c .before .is-below .ensures) ∙ c .if2 .taken in
     sym (one-taken s old st (c .before .before .before .before .before .before .before .before .before .before .before .before .before .before .before .pre .1) (goesFrom (c .before .before .before .before .before .before .before .before .before .before .before .before .before .before .before .args .a) (c .before .before .before .before .before .before .before .before .before .before .before .before .before .before .before .args .r)) _ _ at (c .before .before .before .before .before .before .before .before .before .before .waiting-count .ensures) (c .before .before .before .before .before .before .before .before .before .if1 .left) (delivered s old)
-      ∙ ap (λ t. delivered s old t (withoutTelegram s st (c .before .before .before .before .before .before .before .before .before .before .before .before .oldest-external .result))) (sym is)
-      ∙ ap (delivered s old t) (sym gone)
-      ∙ handed-outside s old t (c .before .before .before .before .before .remove .last .0) far)
+    ∙ ap (λ t. delivered s old t (withoutTelegram s st (c .before .before .before .before .before .before .before .before .before .before .before .before .oldest-external .result))) (sym is)
+    ∙ ap (delivered s old t) (sym gone)
+    ∙ handed-outside s old t (c .before .before .before .before .before .remove .last .0) far)
 
 received-requires : tie.Need-received-requires
 received-requires c κs =
@@ -80,12 +80,13 @@ received-requires c κs =
     let l = c .before .before .before .before .before .before .before .before .before .before .if1 .left in
     let is : t ≡ telegramOf s st (c .before .before .before .before .before .before .before .before .before .before .before .before .before .oldest-external .result) = c .before .before .before .before .before .before .before .before .telegram-at .ensures s (c .before .before .before .before .before .before .before .before .before .before .before .before .before .before .before .before .pre .0 .state .whole) in
     let gone : c .before .before .before .before .before .before .remove .last .0 ≡ withoutTelegram s st (c .before .before .before .before .before .before .before .before .before .before .before .before .before .oldest-external .result) = c .before .before .before .before .before .before .remove .ensures s (c .before .before .before .before .before .before .before .before .before .before .before .before .before .before .before .before .pre .0 .state) in
-    let far : isBelow (t .receiver) (externalsOf s) ≡ false = ap (λ z. isBelow z (externalsOf s)) (sym (given (t .receiver) (c .before .before .before .struct-told .given .1 .0 .1))) ∙ ap (isBelow _) (sym (c .before .before .before .before .externals .ensures .0)) ∙ sym (c .before .before .is-below .ensures) ∙ c .before .if2 .left in
-    (record { directory = c .before .before .before .before .before .before .before .before .before .before .before .before .before .before .before .before .pre .0 .directory; passed = c .before .before .before .before .before .before .before .before .before .before .before .before .before .before .before .before .pre .0 .passed; state = taken-kept s old st (c .before .before .before .before .before .before .before .before .before .before .before .before .before .before .before .before .pre .1) p _ _ at n l (c .before .before .before .before .before .before .before .before .before .before .before .before .before .before .before .before .pre .0 .state) _ gone },
+    let far : isBelow (t .receiver) (externalsOf s) ≡ false = ap (λ z. isBelow z (externalsOf s)) (sym (given (t .receiver) (c .before .before .before .struct-told .given .1 .0 .1))) ∙ ap (isBelow _) (sym (c .before .before .before .before .externals .ensures .0)) ∙ sym (c .before .before .is-below .ensures) ∙ c .before .if2 .left in (
+      record { directory = c .before .before .before .before .before .before .before .before .before .before .before .before .before .before .before .before .pre .0 .directory; passed = c .before .before .before .before .before .before .before .before .before .before .before .before .before .before .before .before .pre .0 .passed; state = taken-kept s old st (c .before .before .before .before .before .before .before .before .before .before .before .before .before .before .before .before .pre .1) p _ _ at n l (c .before .before .before .before .before .before .before .before .before .before .before .before .before .before .before .before .pre .0 .state) _ gone },
       taken-length s old st (c .before .before .before .before .before .before .before .before .before .before .before .before .before .before .before .before .pre .1) p _ _ at n l (c .before .before .before .before .before .before .before .before .before .before .before .before .before .before .before .before .pre .0 .state) _ gone,
       subst (λ t. telegramFits s t ≡ true) (sym is) (taken-fits s old st (c .before .before .before .before .before .before .before .before .before .before .before .before .before .before .before .before .pre .1) p _ _ at n l (c .before .before .before .before .before .before .before .before .before .before .before .before .before .before .before .before .pre .0 .state)),
       subst (λ t. isInternal t ≡ false) (sym is) (outer s (c .before .before .before .before .before .before .before .before .before .before .before .before .before .before .before .before .pre .0 .passed) (c .before .before .before .before .before .before .before .before .before .before .before .before .before .before .before .before .args .a) (c .before .before .before .before .before .before .before .before .before .before .before .before .before .before .before .before .args .r) (telegramOf s st (c .before .before .before .before .before .before .before .before .before .before .before .before .before .oldest-external .result)) (taken-meets s old st (c .before .before .before .before .before .before .before .before .before .before .before .before .before .before .before .before .pre .1) p _ _ at n l)),
-      far)
+      far,
+    )
 
 same-length-3 : tie.Need-same-length-3
 same-length-3 c = search needs
@@ -103,8 +104,8 @@ returns-3 c =
     let gone : c .before .before .before .before .before .before .before .before .remove .last .0 ≡ withoutTelegram s st (c .before .before .before .before .before .before .before .before .before .before .before .before .before .before .before .oldest-external .result) = c .before .before .before .before .before .before .before .before .remove .ensures s (c .before .before .before .before .before .before .before .before .before .before .before .before .before .before .before .before .before .before .pre .0 .state) in
     c .before .received .ensures
     ∙ sym (one-taken s old st (c .before .before .before .before .before .before .before .before .before .before .before .before .before .before .before .before .before .before .pre .1) p _ _ at (c .before .before .before .before .before .before .before .before .before .before .before .before .before .waiting-count .ensures) (c .before .before .before .before .before .before .before .before .before .before .before .before .if1 .left) (delivered s old)
-      ∙ ap (λ t. delivered s old t (withoutTelegram s st (c .before .before .before .before .before .before .before .before .before .before .before .before .before .before .before .oldest-external .result))) (sym is)
-      ∙ ap (delivered s old t) (sym gone))
+    ∙ ap (λ t. delivered s old t (withoutTelegram s st (c .before .before .before .before .before .before .before .before .before .before .before .before .before .before .before .oldest-external .result))) (sym is)
+    ∙ ap (delivered s old t) (sym gone))
 
 pub delivers-spec : {M : Type 1} → statement M
 delivers-spec =

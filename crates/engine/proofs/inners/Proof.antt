@@ -129,10 +129,13 @@ event-body-requires c κs =
     let told = c .before .before .before .struct-told3 .given in
     let n : c .before .before .before .before .before .number2 .result ≡ natAbs (t .name) = c .before .before .before .before .before .number2 .ensures ∙ ap natAbs (given (t .name) (told .1 .1 .1 .0 .1)) in
     let read = data-read t (told .1 .1 .1 .1 .0 .1) (told .1 .1 .1 .1 .1 .0 .1) (told .1 .1 .1 .1 .1 .1 .0 .1) (told .1 .1 .1 .1 .1 .1 .1 .0 .1) in
-    let q : c .before .before .before .before .before .before .before .before .before .before .before .number .result ≡ natAbs (t .receiver) = c .before .before .before .before .before .before .before .before .before .before .before .number .ensures ∙ ap natAbs (given (t .receiver) (c .before .before .before .struct-told3 .given .1 .0 .1)) in
-    (c .before .before .before .before .before .before .before .before .before .before .before .before .before .before .before .before .before .before .before .before .before .before .before .before .pre .0 .directory, c .before .before .before .before .before .before .before .before .before .before .before .before .before .before .before .before .before .before .before .before .before .before .before .before .pre .0 .passed, taken-kept s old st (c .before .before .before .before .before .before .before .before .before .before .before .before .before .before .before .before .before .before .before .before .before .before .before .before .pre .1) (innerOf (c .before .before .before .before .before .before .before .before .before .before .before .before .before .before .before .before .before .before .before .before .before .before .before .before .args .r)) _ _ at (c .before .before .before .before .before .before .before .before .before .before .before .before .before .before .before .before .before .before .before .waiting-count .ensures) (c .before .before .before .before .before .before .before .before .before .before .before .before .before .before .before .before .before .before .if1 .left) (c .before .before .before .before .before .before .before .before .before .before .before .before .before .before .before .before .before .before .before .before .before .before .before .before .pre .0 .state) _ gone,
+    let q : c .before .before .before .before .before .before .before .before .before .before .before .number .result ≡ natAbs (t .receiver) = c .before .before .before .before .before .before .before .before .before .before .before .number .ensures ∙ ap natAbs (given (t .receiver) (c .before .before .before .struct-told3 .given .1 .0 .1)) in (
+      c .before .before .before .before .before .before .before .before .before .before .before .before .before .before .before .before .before .before .before .before .before .before .before .before .pre .0 .directory,
+      c .before .before .before .before .before .before .before .before .before .before .before .before .before .before .before .before .before .before .before .before .before .before .before .before .pre .0 .passed,
+      taken-kept s old st (c .before .before .before .before .before .before .before .before .before .before .before .before .before .before .before .before .before .before .before .before .before .before .before .before .pre .1) (innerOf (c .before .before .before .before .before .before .before .before .before .before .before .before .before .before .before .before .before .before .before .before .before .before .before .before .args .r)) _ _ at (c .before .before .before .before .before .before .before .before .before .before .before .before .before .before .before .before .before .before .before .waiting-count .ensures) (c .before .before .before .before .before .before .before .before .before .before .before .before .before .before .before .before .before .before .if1 .left) (c .before .before .before .before .before .before .before .before .before .before .before .before .before .before .before .before .before .before .before .before .before .before .before .before .pre .0 .state) _ gone,
       subst (Called _ _ _) (sym read) (reaction-inside s (c .before .before .before .before .before .before .before .before .before .before .before .before .before .before .before .before .before .before .before .before .before .before .before .before .pre .0 .passed) t fits within _ q _ (sym (c .before .before .before .before .before .before .before .before .before .before .chart-of .ensures) ∙ c .before .before .before .before .before .before .before .before .c .given .1) _ _ n (c .before .before .before .before .reaction-to .ensures)),
-      taken-length s old st (c .before .before .before .before .before .before .before .before .before .before .before .before .before .before .before .before .before .before .before .before .before .before .before .before .pre .1) (innerOf (c .before .before .before .before .before .before .before .before .before .before .before .before .before .before .before .before .before .before .before .before .before .before .before .before .args .r)) _ _ at (c .before .before .before .before .before .before .before .before .before .before .before .before .before .before .before .before .before .before .before .waiting-count .ensures) (c .before .before .before .before .before .before .before .before .before .before .before .before .before .before .before .before .before .before .if1 .left) (c .before .before .before .before .before .before .before .before .before .before .before .before .before .before .before .before .before .before .before .before .before .before .before .before .pre .0 .state) _ gone)
+      taken-length s old st (c .before .before .before .before .before .before .before .before .before .before .before .before .before .before .before .before .before .before .before .before .before .before .before .before .pre .1) (innerOf (c .before .before .before .before .before .before .before .before .before .before .before .before .before .before .before .before .before .before .before .before .before .before .before .before .args .r)) _ _ at (c .before .before .before .before .before .before .before .before .before .before .before .before .before .before .before .before .before .before .before .waiting-count .ensures) (c .before .before .before .before .before .before .before .before .before .before .before .before .before .before .before .before .before .before .if1 .left) (c .before .before .before .before .before .before .before .before .before .before .before .before .before .before .before .before .before .before .before .before .before .before .before .before .pre .0 .state) _ gone,
+    )
 
 same-length-3 : tie.Need-same-length-3
 same-length-3 c = c .st2 .given ∙ c .before .before .before .before .before .before .before .before .before .before .before .before .before .before .before .st .given
