@@ -247,5 +247,5 @@ cell-runs s e t st i c clock n =
       runs = one-word _ (running-below s e t st (cellAt i) (c .fits) clock n) n;
       value = w .0;
       period = w .1;
-      name = w .2
+      name = w .2;
     }

@@ -47,10 +47,10 @@ module _ (s : List ℕ) where
   module _ (st : List ℤ) (at : ℕ) (whole : length st ≡ stateLength s) (head : isBelow (wordOf st 0) 129 ≡ true) (behind : 8 ≤ at) (inside : at + 8 ≤ placeAt s 0) where
     set-onward : (z : ℤ) → After s (at + 8) st (set st (at + 1) z)
     set-onward z = record {
-        whole = length-set st (at + 1) z ∙ whole;
-        head = ap (λ (w : ℤ). isBelow w 129) (word-set-other st (at + 1) 0 z (λ q. omega arith)) ∙ head;
-        later = λ k l m. word-set-other st (at + 1) k z (λ q. omega arith)
-      }
+      whole = length-set st (at + 1) z ∙ whole;
+      head = ap (λ (w : ℤ). isBelow w 129) (word-set-other st (at + 1) 0 z (λ q. omega arith)) ∙ head;
+      later = λ k l m. word-set-other st (at + 1) k z (λ q. omega arith);
+    }
 
     put-onward : (ws : List ℤ) → length ws ≤ 8 → After s (at + 8) st (putWords st at ws)
     unfolding stateLength placeAt
@@ -59,7 +59,7 @@ module _ (s : List ℕ) where
         record {
           whole = length-put st at ws fit ∙ whole;
           head = ap (λ (w : ℤ). isBelow w 129) (word-put-before st at ws fit 0 (omega arith)) ∙ head;
-          later = λ k l m. word-put-behind st at ws fit k (omega arith)
+          later = λ k l m. word-put-behind st at ws fit k (omega arith);
         }
 
   module _ (st : List ℤ) (e at : ℕ) (whole : length st ≡ stateLength s) (head : isBelow (wordOf st 0) 129 ≡ true) (behind : 8 ≤ at) (inside : at + 8 ≤ placeAt s 0) where
@@ -134,8 +134,8 @@ module _ (s : List ℕ) where
       let f : cellAt i + 8 ≡ cellAt (i + 1) = omega arith in
       let g : suc i + n ≡ i + suc n = omega arith in
       then-onward (cellAt (i + 1)) (cellAt (i + suc n)) st (slicedCell s e (typeAt s d) (cellAt i) st) (slicedCells s e n (suc d) (suc i)) (omega arith)
-        (rw f at (cell-onward st e (cellAt i) w h (omega arith) (omega arith) (typeAt s d)))
-        (λ st′ a. rw g at (cells-onward e n (suc d) (suc i) st′ (a .whole) (a .head) (omega arith)))
+      (rw f at (cell-onward st e (cellAt i) w h (omega arith) (omega arith) (typeAt s d)))
+      (λ st′ a. rw g at (cells-onward e n (suc d) (suc i) st′ (a .whole) (a .head) (omega arith)))
 
   pub cells-after : (e n d i : ℕ) (st st′ : List ℤ) → length st ≡ stateLength s → isBelow (wordOf st 0) 129 ≡ true → i + n ≤ variablesOf s → slicedCells s e n d i st ≡ on st′ → After s (cellAt (i + n)) st st′
   cells-after e n d i st st′ w h l q = is-after (rw q at (cells-onward e n d i st w h l))
@@ -216,11 +216,11 @@ module _ (s : List ℕ) where
     pub element-now : (old st : List ℤ) → OfSheet s old → cell + chartVariables c .count ≤ variablesOf s → After s (cellAt cell) old st → Cells s (x + i) c st cell
     unfolding cellAt
     element-now old st o l a = rw head (record {
-        whole = a .whole;
-        head = a .head;
-        inside = l;
-        fits = λ j m. same-fits s (externalsOf s + i) _ (cell + j) old st (omega arith) (record { whole = a .whole; head = a .head; later = λ k n b. a .later k (omega arith) b }) (rw (first-number i cell q) at (cell-of s old o (externalsOf s + i) c p j m))
-      })
+      whole = a .whole;
+      head = a .head;
+      inside = l;
+      fits = λ j m. same-fits s (externalsOf s + i) _ (cell + j) old st (omega arith) (record { whole = a .whole; head = a .head; later = λ k n b. a .later k (omega arith) b }) (rw (first-number i cell q) at (cell-of s old o (externalsOf s + i) c p j m));
+    })
 
   pub element-next : (e n d cell : ℕ) (old st st′ : List ℤ) → cell + n ≤ variablesOf s → After s (cellAt cell) old st → slicedCells s e n d cell st ≡ on st′ → After s (cellAt (cell + n)) old st′
   unfolding cellAt

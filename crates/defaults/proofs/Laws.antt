@@ -69,13 +69,13 @@ module _ (s : List ℕ) (b : Record) (zs : List ℤ) where
 
   pub begun-more : (i : ℕ) (lo : List ℤ) (z : ℤ) → i < 16 → z ≡ localAt s b zs i → Begun i lo → Begun (i + 1) (set lo i z)
   begun-more i lo z l e h = record {
-      whole = length-set lo i z ∙ h .whole;
-      done = λ k m. elim (ℕ-discrete k i) [
-        | yes q ↦ rw q (getD-set-same lo i z (pos 0) (omega (arith, h .whole)) ∙ e)
-        | no q ↦ getD-set-other lo i k z (pos 0) q ∙ h .done k (omega arith)
-      ];
-      rest = λ k m n. getD-set-other lo i k z (pos 0) (λ q. omega arith) ∙ h .rest k (omega arith) n
-    }
+    whole = length-set lo i z ∙ h .whole;
+    done = λ k m. elim (ℕ-discrete k i) [
+      | yes q ↦ rw q (getD-set-same lo i z (pos 0) (omega (arith, h .whole)) ∙ e)
+      | no q ↦ getD-set-other lo i k z (pos 0) q ∙ h .done k (omega arith)
+    ];
+    rest = λ k m n. getD-set-other lo i k z (pos 0) (λ q. omega arith) ∙ h .rest k (omega arith) n;
+  }
 
   pub begun-all : (i : ℕ) (lo : List ℤ) → b .f4 + b .f6 ≤ i → Begun i lo → lo ≡ localsOf s b zs
   unfolding localsOf

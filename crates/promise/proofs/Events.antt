@@ -146,19 +146,19 @@ module _ (s : List ℕ) (ok : checkOf s ≡ Passed) where
   inner-kept : (st : List ℤ) → OfSheet s st → (r : ℤ) → EventKept s st (inner s st r)
   unfolding inner internalFits nameFits reactionAwaits isReaction
   inner-kept st o r = taking-kept s st o (innerOf r) _ (λ t st′ h p o′.
-    let same : t .receiver ≡ r = same-word _ _ (and-second _ _ p) in
-    let i = internal-part t h (and-first _ _ p) in
-    let bound : isBound s (natAbs r) ≡ true = subst (λ z. isBound s (natAbs z) ≡ true) same (and-first _ _ (and-second _ _ (and-second _ _ i))) in
-    let named = and-second _ _ (and-second _ _ (and-second _ _ i)) in
-    let fits : dataFit s (nameRange s (natAbs (t .name))) (datumOf t) ≡ true = and-second _ _ (and-second _ _ (and-first _ _ named)) in
-    let x = bound-element s ok (natAbs r) bound in
-    let c : chartOf s (natAbs r) ≡ Present (x .1) = element-chart s (natAbs r) (x .0) (x .1) (x .2) in
-    let awaits = subst (λ z. holds (chartOf s (natAbs z)) (λ c. hasReaction s c (natAbs (t .name))) ≡ true) same (and-second _ _ named) in
-    let d = reaction-there s (x .1) (natAbs (t .name)) (sym (holds-present _ (x .1) _ c) ∙ awaits) in
-    let f = where-found s _ (x .1) (d .0) (d .1) in
-    let three : role (d .0) ≡ internalReaction = eqb-true _ _ (and-first _ _ (f .1)) in
-    subst (λ g. EventKept s st (reacting s st (natAbs r) g t st′)) (sym (body-of s ok (natAbs r) (x .0) (x .1) (x .2) _ ∙ d .1))
-    (reacting-kept s ok (natAbs r) (x .0) (x .1) (x .2) (d .0) (f .0) t (eqb-true _ _ (and-second _ _ (f .1))) fits (rw three (and-true _ _ refl refl)) st st′ o′))
+      let same : t .receiver ≡ r = same-word _ _ (and-second _ _ p) in
+      let i = internal-part t h (and-first _ _ p) in
+      let bound : isBound s (natAbs r) ≡ true = subst (λ z. isBound s (natAbs z) ≡ true) same (and-first _ _ (and-second _ _ (and-second _ _ i))) in
+      let named = and-second _ _ (and-second _ _ (and-second _ _ i)) in
+      let fits : dataFit s (nameRange s (natAbs (t .name))) (datumOf t) ≡ true = and-second _ _ (and-second _ _ (and-first _ _ named)) in
+      let x = bound-element s ok (natAbs r) bound in
+      let c : chartOf s (natAbs r) ≡ Present (x .1) = element-chart s (natAbs r) (x .0) (x .1) (x .2) in
+      let awaits = subst (λ z. holds (chartOf s (natAbs z)) (λ c. hasReaction s c (natAbs (t .name))) ≡ true) same (and-second _ _ named) in
+      let d = reaction-there s (x .1) (natAbs (t .name)) (sym (holds-present _ (x .1) _ c) ∙ awaits) in
+      let f = where-found s _ (x .1) (d .0) (d .1) in
+      let three : role (d .0) ≡ internalReaction = eqb-true _ _ (and-first _ _ (f .1)) in
+      subst (λ g. EventKept s st (reacting s st (natAbs r) g t st′)) (sym (body-of s ok (natAbs r) (x .0) (x .1) (x .2) _ ∙ d .1))
+      (reacting-kept s ok (natAbs r) (x .0) (x .1) (x .2) (d .0) (f .0) t (eqb-true _ _ (and-second _ _ (f .1))) fits (rw three (and-true _ _ refl refl)) st st′ o′))
 
   -- ---- 5 Slice
 

@@ -47,5 +47,5 @@ pub promise : PassedKept
 promise s ok = record {
   start = start-kept s ok;
   event = λ old ev o. event-kept s ok old ev o;
-  list = λ lent a st e l z evs. list-kept s ok evs st (subst (StartKept s) e (start-kept s ok lent l) .1 z)
+  list = λ lent a st e l z evs. list-kept s ok evs st (subst (StartKept s) e (start-kept s ok lent l) .1 z);
 }

@@ -97,5 +97,5 @@ module _ (s : List ℕ) (ok : checkOf s ≡ Passed) where
   unfolding internalFits reactionAwaits
   one-reaction st o = record {
     waits = λ j l i. one-of _ _ (and-second _ _ (and-second _ _ (and-second _ _ (and-second _ _ (internal-part s ok _ (telegram-of s st o j l) i)))));
-    armed = λ e c j p l k t r. one-of e _ (clock-awaits s e _ st _ (running s e _ st _ (cell-of s st o e c p j l) k r) t)
+    armed = λ e c j p l k t r. one-of e _ (clock-awaits s e _ st _ (running s e _ st _ (cell-of s st o e c p j l) k r) t);
   }

@@ -140,34 +140,54 @@ module _ (s : List ℕ) where
     unfolding binaryType binaryVal
     and-gives q =
         let f : binaryType op y z ≡ given (isOf y Bool-type and isOf z Bool-type) (Expression Bool-type) = rw (binaryType, q) refl in
-        let a = asked _ _ (sym f ∙ e) in
-        (Bool-type, Bool-type, is-type y _ (and-first _ _ (a .0)), is-type z _ (and-second _ _ (a .0)), λ v v′ l k k′.
-        subst (λ u. Gives s u (binaryVal op v v′ l)) (one-type (a .1)) (rw (binaryVal, q) (met Bool-type _ _ (and-true _ _ (eq-eqb _ _ k) (eq-eqb _ _ k′)) (gives-bool (isOne (v .word) and isOne (v′ .word)) l))))
+        let a = asked _ _ (sym f ∙ e) in (
+          Bool-type,
+          Bool-type,
+          is-type y _ (and-first _ _ (a .0)),
+          is-type z _ (and-second _ _ (a .0)),
+          λ v v′ l k k′.
+              subst (λ u. Gives s u (binaryVal op v v′ l)) (one-type (a .1)) (rw (binaryVal, q) (met Bool-type _ _ (and-true _ _ (eq-eqb _ _ k) (eq-eqb _ _ k′)) (gives-bool (isOne (v .word) and isOne (v′ .word)) l))),
+        )
 
     equal-gives : eqb op 9 ≡ false → eqb op 10 ≡ true → Both op t y z
     unfolding binaryType binaryVal
     equal-gives p q =
         let f : binaryType op y z ≡ given (sameType y z) (Expression Bool-type) = rw (binaryType, p, q) refl in
         let a = asked _ _ (sym f ∙ e) in
-        let m = same-types y z (a .0) in
-        (m .0, m .0, m .1, m .2, λ v v′ l k k′.
-        subst (λ u. Gives s u (binaryVal op v v′ l)) (one-type (a .1)) (rw (binaryVal, p, q) (met Bool-type _ _ (eq-eqb _ _ (k ∙ sym k′)) (gives-bool (sameWord (v .word) (v′ .word)) l))))
+        let m = same-types y z (a .0) in (
+          m .0,
+          m .0,
+          m .1,
+          m .2,
+          λ v v′ l k k′.
+              subst (λ u. Gives s u (binaryVal op v v′ l)) (one-type (a .1)) (rw (binaryVal, p, q) (met Bool-type _ _ (eq-eqb _ _ (k ∙ sym k′)) (gives-bool (sameWord (v .word) (v′ .word)) l))),
+        )
 
     less-gives : eqb op 9 ≡ false → eqb op 10 ≡ false → eqb op 11 ≡ true → Both op t y z
     unfolding binaryType binaryVal
     less-gives p q r =
         let f : binaryType op y z ≡ given (isOf y Int-type and isOf z Int-type) (Expression Bool-type) = rw (binaryType, p, q, r) refl in
-        let a = asked _ _ (sym f ∙ e) in
-        (Int-type, Int-type, is-type y _ (and-first _ _ (a .0)), is-type z _ (and-second _ _ (a .0)), λ v v′ l k k′.
-        subst (λ u. Gives s u (binaryVal op v v′ l)) (one-type (a .1)) (rw (binaryVal, p, q, r) (met Bool-type _ _ (and-true _ _ (eq-eqb _ _ k) (eq-eqb _ _ k′)) (gives-bool (ltZ (v .word) (v′ .word)) l))))
+        let a = asked _ _ (sym f ∙ e) in (
+          Int-type,
+          Int-type,
+          is-type y _ (and-first _ _ (a .0)),
+          is-type z _ (and-second _ _ (a .0)),
+          λ v v′ l k k′.
+              subst (λ u. Gives s u (binaryVal op v v′ l)) (one-type (a .1)) (rw (binaryVal, p, q, r) (met Bool-type _ _ (and-true _ _ (eq-eqb _ _ k) (eq-eqb _ _ k′)) (gives-bool (ltZ (v .word) (v′ .word)) l))),
+        )
 
     arithmetic-gives : eqb op 9 ≡ false → eqb op 10 ≡ false → eqb op 11 ≡ false → Both op t y z
     unfolding binaryType binaryVal
     arithmetic-gives p q r =
         let f : binaryType op y z ≡ given (isOf y Int-type and isOf z Int-type) (Expression Int-type) = rw (binaryType, p, q, r) refl in
-        let a = asked _ _ (sym f ∙ e) in
-        (Int-type, Int-type, is-type y _ (and-first _ _ (a .0)), is-type z _ (and-second _ _ (a .0)), λ v v′ l k k′.
-        subst (λ u. Gives s u (binaryVal op v v′ l)) (one-type (a .1)) (rw (binaryVal, p, q, r) (met Int-type _ _ (and-true _ _ (eq-eqb _ _ k) (eq-eqb _ _ k′)) (gives-arithmetic op (v .word) (v′ .word) l))))
+        let a = asked _ _ (sym f ∙ e) in (
+          Int-type,
+          Int-type,
+          is-type y _ (and-first _ _ (a .0)),
+          is-type z _ (and-second _ _ (a .0)),
+          λ v v′ l k k′.
+              subst (λ u. Gives s u (binaryVal op v v′ l)) (one-type (a .1)) (rw (binaryVal, p, q, r) (met Int-type _ _ (and-true _ _ (eq-eqb _ _ k) (eq-eqb _ _ k′)) (gives-arithmetic op (v .word) (v′ .word) l))),
+        )
 
     pub binary-gives : Both op t y z
     binary-gives = go (eqb op 9) (eqb op 10) (eqb op 11) refl refl refl

@@ -67,7 +67,7 @@ module _ (s : List ℕ) (ok : checkOf s ≡ Passed) (x : Context) (placed : Plac
     unfolding localsOf
     fresh-locals = record {
       sixteen = list-length 16 0 _;
-      holds = λ i h. (let e : 0 + i ≡ i = omega arith in let w = list-word 16 0 (localAt s (x .body) zs) i (omega (arith, few)) in ap (inType s (typeAt s (variableAt (x .chart) (x .body) bodyVariable i))) (w ∙ ap (localAt s (x .body) zs) e) ∙ each i h)
+      holds = λ i h. (let e : 0 + i ≡ i = omega arith in let w = list-word 16 0 (localAt s (x .body) zs) i (omega (arith, few)) in ap (inType s (typeAt s (variableAt (x .chart) (x .body) bodyVariable i))) (w ∙ ap (localAt s (x .body) zs) e) ∙ each i h);
     }
 
   -- a value assigned to one of them
@@ -77,5 +77,5 @@ module _ (s : List ℕ) (ok : checkOf s ≡ Passed) (x : Context) (placed : Plac
     holds = λ i q. elim (ℕ-discrete i n) [
       | yes e ↦ (rw e (ap (inType s (typeAt s (variableAt (x .chart) (x .body) bodyVariable n))) (word-set lo n z (omega (arith, few, l .sixteen))) ∙ t))
       | no e ↦ ap (inType s (typeAt s (variableAt (x .chart) (x .body) bodyVariable i))) (word-set-other lo n i z e) ∙ l .holds i q
-    ]
+    ];
   }

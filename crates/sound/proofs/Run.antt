@@ -170,9 +170,9 @@ module _ (s : List ℕ) (ok : checkOf s ≡ Passed) where
       data-end : (first c : ℕ) (g : Range) (l : ℕ) → Lower (operands first c (g .count)) → dataMatch s f g r ≡ true → DataGive s g (g .count) 0 (dataFrom s (evalOf s x st lo) g r (g .count) 0 l)
       unfolding dataMatch
       data-end first c g l lower d = data-gives s g (evalOf s x st lo) r (g .count) 0 l (λ i m q.
-        let z : 0 + i ≡ i = omega arith in
-        let e = data-operand first c (g .count) i in
-        rw z (operand-gives (fieldOf r (4 + i)) (subst (λ m. ltb m n and treeShape s (x .chart) (x .body) k m ≡ true) e (lower (c + i) (omega arith))) (typeAt s (g .first + i)) m (all-at (g .count) (λ j. isOf (f (fieldOf r (4 + j))) (typeAt s (g .first + j))) d i q)))
+          let z : 0 + i ≡ i = omega arith in
+          let e = data-operand first c (g .count) i in
+          rw z (operand-gives (fieldOf r (4 + i)) (subst (λ m. ltb m n and treeShape s (x .chart) (x .body) k m ≡ true) e (lower (c + i) (omega arith))) (typeAt s (g .first + i)) m (all-at (g .count) (λ j. isOf (f (fieldOf r (4 + j))) (typeAt s (g .first + j))) d i q)))
 
       module _ (depth L : ℕ) (ih : Steps L) (whole : treeShape s (x .chart) (x .body) (suc k) n ≡ true) (typed : typeOf s (x .chart) (x .body) n ≡ Statement) where
         -- a statement below
@@ -212,9 +212,9 @@ module _ (s : List ℕ) (ok : checkOf s ≡ Passed) where
             let w : World = runOf s (depth + 1) (inBody x b) (root b) l st (localsOf s b zs) in
             either-ends s x (ltb depth 16) _ _
             (λ p. back s x (inBody x b) (w .ran) (w .st) lo (w .lo) (ih (depth + 1) (inBody x b) (root b) l 64 st (localsOf s b zs) q there o
-              (fresh-locals s ok (inBody x b) there zs (λ i h. let z : 0 + i ≡ i = omega arith in rw z at (v .1 i h)))
-              (body-tree s ok _ (x .chart) (placed .element .chart) b i)
-              (is-statement _ (and-second _ _ (and-second _ _ (and-second _ _ (body-static s ok _ (x .chart) (placed .element .chart) b i)))))) locals)
+            (fresh-locals s ok (inBody x b) there zs (λ i h. let z : 0 + i ≡ i = omega arith in rw z at (v .1 i h)))
+            (body-tree s ok _ (x .chart) (placed .element .chart) b i)
+            (is-statement _ (and-second _ _ (and-second _ _ (and-second _ _ (body-static s ok _ (x .chart) (placed .element .chart) b i)))))) locals)
             (λ p. (omega arith, omega arith))
 
         act-ends : (F : Form) (l : ℕ) → l ≤ L → formOf (operator r) ≡ F → fieldsShape s (x .chart) (x .body) r F ≡ true → Lower (operandsIn s (x .chart) r F) → typeIn s (x .chart) (x .body) f r F ≡ Statement → Good s x (runIn s x (runOf s) depth n r l st lo F)
@@ -247,8 +247,8 @@ module _ (s : List ℕ) (ok : checkOf s ≡ Passed) where
             record-ends s x _ (name .0) st lo _ (name .1)
             (name-ends l q shape d 1 0 l low (omega arith) _ (λ zs m v p.
             append-ends s x _ m st lo o locals (own-telegram s (x .element) (x .chart) there (r .f3) zs
-              (name-fits s ok (r .f3) internal (name .0) (name .1) (and-first _ _ (and-first _ _ t)) zs m v)
-              (awaited s ok (r .f3) internal (name .0) (name .1) (and-first _ _ (and-first _ _ t)) zs m v (x .element) (x .binding) (x .chart) (placed .element) (and-second _ _ (and-first _ _ t))))))
+            (name-fits s ok (r .f3) internal (name .0) (name .1) (and-first _ _ (and-first _ _ t)) zs m v)
+            (awaited s ok (r .f3) internal (name .0) (name .1) (and-first _ _ (and-first _ _ t)) zs m v (x .element) (x .binding) (x .chart) (placed .element) (and-second _ _ (and-first _ _ t))))))
         act-ends arm l q g h low e =
             let t = stated _ e in
             let shape = and-second _ _ h in
@@ -260,16 +260,16 @@ module _ (s : List ℕ) (ok : checkOf s ≡ Passed) where
             (value-ends s x _ Int-type l st lo _ (operand-gives _ (low 0 (omega arith)) _ l (and-first _ _ (and-second _ _ t))) (eval-left s x st lo _ l) (λ period m w p.
             name-ends l q shape d 2 1 m low (omega arith) _ (λ zs m′ v p′.
             armed-ends (r .f1) (ltb-true _ _ (and-first _ _ h)) (operator r) g (eqb-true _ _ (and-first _ _ t)) period w (r .f3) zs m′
-              (name-fits s ok (r .f3) internal (name .0) (name .1) (and-first _ _ (and-first _ _ i)) zs m′ v)
-              (awaited s ok (r .f3) internal (name .0) (name .1) (and-first _ _ (and-first _ _ i)) zs m′ v (x .element) (x .binding) (x .chart) (placed .element) (and-second _ _ (and-first _ _ i)))))))
+            (name-fits s ok (r .f3) internal (name .0) (name .1) (and-first _ _ (and-first _ _ i)) zs m′ v)
+            (awaited s ok (r .f3) internal (name .0) (name .1) (and-first _ _ (and-first _ _ i)) zs m′ v (x .element) (x .binding) (x .chart) (placed .element) (and-second _ _ (and-first _ _ i)))))))
         act-ends clockAct l q g h low e =
             let t = stated _ e in
             let v = and-first _ _ h in
             either-ends s x (eqb (operator r) 38) _ _
             (λ b. let k = subst (λ b. elim b [ true ↦ eqb (cellType s x (r .f1)) Timer-type | false ↦ isClock (cellType s x (r .f1)) ] ≡ true) b t in
-              provided-ends s x _ st lo _ (and-true _ _ v k) (started-kept s st o (x .element) (x .chart) there (r .f1) (ltb-true _ _ v) (eqb-true _ _ k) l lo, locals))
+            provided-ends s x _ st lo _ (and-true _ _ v k) (started-kept s st o (x .element) (x .chart) there (r .f1) (ltb-true _ _ v) (eqb-true _ _ k) l lo, locals))
             (λ b. let k = subst (λ b. elim b [ true ↦ eqb (cellType s x (r .f1)) Timer-type | false ↦ isClock (cellType s x (r .f1)) ] ≡ true) b t in
-              provided-ends s x _ st lo _ (and-true _ _ v k) (stopped-kept s st o (x .element) (x .chart) there (r .f1) (ltb-true _ _ v) k l lo, locals))
+            provided-ends s x _ st lo _ (and-true _ _ v k) (stopped-kept s st o (x .element) (x .chart) there (r .f1) (ltb-true _ _ v) k l lo, locals))
         act-ends call l q g h low e =
             let t = stated _ e in
             let p = held _ _ (and-first _ _ t) in

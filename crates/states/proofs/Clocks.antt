@@ -182,8 +182,8 @@ module _ (s : List ℕ) (e t : ℕ) (st : List ℤ) (at : ℕ) (st′ : List ℤ
           rw (runningClock, q) (and-true _ _ (and-first _ _ w) (and-true _ _ (ap fits32 (tail 2 (omega arith) (omega arith)) ∙ and-first _ _ (and-second _ _ w)) (and-true _ _ (and-second _ _ (and-second _ _ w)) (zero-from st′ at st at 2 tail ∙ timer-zeros s e t st at h q))))
       go false q =
           named-runs s e t st′ at q (ap (valueFits t (wordOf st′ (at + 1))) (tail 2 (omega arith) (omega arith)) ∙ v)
-            (name-same s internal _ _ _ _ (tail 3 (omega arith) (omega arith)) (λ j l. let f : at + 4 + j ≡ at + (4 + j) = omega arith in rw f (tail (4 + j) (omega arith) (omega arith))) ∙ clock-name s e t st at h q)
-            (ap (reactionAwaits s e) (tail 3 (omega arith) (omega arith)) ∙ clock-awaits s e t st at h q)
+          (name-same s internal _ _ _ _ (tail 3 (omega arith) (omega arith)) (λ j l. let f : at + 4 + j ≡ at + (4 + j) = omega arith in rw f (tail (4 + j) (omega arith) (omega arith))) ∙ clock-name s e t st at h q)
+          (ap (reactionAwaits s e) (tail 3 (omega arith) (omega arith)) ∙ clock-awaits s e t st at h q)
 
   pub clock-on : isClock t ≡ true → isZero (wordOf st′ at) ≡ false → isBelow (wordOf st′ at) 2 ≡ true → valueFits t (wordOf st′ (at + 1)) (wordOf st (at + 2)) ≡ true → cellFits s e t st′ at ≡ true
   clock-on c z b v = clock-fits s e t st′ at c z b (runs-on v)
@@ -194,8 +194,8 @@ pub clock-telegram : (s : List ℕ) (e t : ℕ) (c : Record) (st : List ℤ) (at
 unfolding nameFits
 clock-telegram s e t c st at p h n =
     own-telegram s e c p (natAbs (wordOf st (at + 3))) zs
-      (name-same s internal (pos (natAbs (wordOf st (at + 3)))) (wordOf st (at + 3)) (λ j. getD zs j (pos 0)) (λ j. wordOf st (at + 4 + j)) (sym name) same ∙ clock-name s e t st at h n)
-      (ap (reactionAwaits s e) (sym name) ∙ clock-awaits s e t st at h n)
+    (name-same s internal (pos (natAbs (wordOf st (at + 3)))) (wordOf st (at + 3)) (λ j. getD zs j (pos 0)) (λ j. wordOf st (at + 4 + j)) (sym name) same ∙ clock-name s e t st at h n)
+    (ap (reactionAwaits s e) (sym name) ∙ clock-awaits s e t st at h n)
   where
     zs : List ℤ
     zs = wordOf st (at + 4) ∷ wordOf st (at + 5) ∷ wordOf st (at + 6) ∷ wordOf st (at + 7) ∷ []

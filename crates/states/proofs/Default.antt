@@ -116,16 +116,16 @@ module _ (s : List ℕ) (ok : checkOf s ≡ Passed) where
   all-word zero i m x y l a b q h = absurd (omega arith)
   all-word (suc n) i m x y l a b q h = elim (decLt i m) [
     | no here ↦
-      (let e : m ≡ i = omega arith in
-      let q′ : x < 8 * variablesBound s i = (rw e at q) in
-      let h′ : y + 8 * sumBelow i (variablesBound s) ≡ 8 * sumBelow i (variablesBound s) + x = (rw e at h) in
-      let f : y ≡ x = omega arith in
-      rw (e, f) (word-front (elementCells s (externalsOf s + i)) (cellsFrom s n (suc (externalsOf s + i))) x (omega (arith, element-length i (omega arith)))))
+        (let e : m ≡ i = omega arith in
+        let q′ : x < 8 * variablesBound s i = (rw e at q) in
+        let h′ : y + 8 * sumBelow i (variablesBound s) ≡ 8 * sumBelow i (variablesBound s) + x = (rw e at h) in
+        let f : y ≡ x = omega arith in
+        rw (e, f) (word-front (elementCells s (externalsOf s + i)) (cellsFrom s n (suc (externalsOf s + i))) x (omega (arith, element-length i (omega arith)))))
     | yes later ↦
-      (let len = element-length i (omega arith) in
-      let rise = sum-rises (variablesBound s) i m later in
-      let f : y ≡ 8 * variablesBound s i + (y - 8 * variablesBound s i) = omega arith in
-      rw (next i, f) (word-rest (elementCells s (externalsOf s + i)) (cellsFrom s n (externalsOf s + (i + 1))) (8 * variablesBound s i) (y - 8 * variablesBound s i) len
+        (let len = element-length i (omega arith) in
+        let rise = sum-rises (variablesBound s) i m later in
+        let f : y ≡ 8 * variablesBound s i + (y - 8 * variablesBound s i) = omega arith in
+        rw (next i, f) (word-rest (elementCells s (externalsOf s + i)) (cellsFrom s n (externalsOf s + (i + 1))) (8 * variablesBound s i) (y - 8 * variablesBound s i) len
         ∙ all-word n (i + 1) m x (y - 8 * variablesBound s i) (omega arith) (omega arith) (omega arith) q (omega (arith, sum-more i (variablesBound s)))))
   ]
 
@@ -195,9 +195,9 @@ module _ (s : List ℕ) (ok : checkOf s ≡ Passed) where
 
   pub default-of-sheet : OfSheet s (defaultState s)
   default-of-sheet = record {
-      whole = default-length;
-      head = default-head;
-      cells = cells-fit s (defaultState s) bound-chart default-fits;
-      telegrams = telegrams-fit s (defaultState s) 0 nothing-waits (λ j l. absurd (omega arith));
-      unused = rest-unused s (defaultState s) 0 nothing-waits (λ n a l. place-zero n l)
-    }
+    whole = default-length;
+    head = default-head;
+    cells = cells-fit s (defaultState s) bound-chart default-fits;
+    telegrams = telegrams-fit s (defaultState s) 0 nothing-waits (λ j l. absurd (omega arith));
+    unused = rest-unused s (defaultState s) 0 nothing-waits (λ n a l. place-zero n l);
+  }

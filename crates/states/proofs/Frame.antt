@@ -69,14 +69,14 @@ module _ (st : List ℤ) (at : ℕ) (st′ : List ℤ) (at′ : ℕ) (h : Same s
   running-same s e t =
       both _ _ _ _ (ap fits32 (h 1 (omega arith))) (both _ _ _ _ (ap fits32 (h 2 (omega arith)))
       (either (eqb t Timer-type) _ _ _ _
-        (both _ _ _ _ (ap (leZ (pos 0)) (h 1 (omega arith))) (zero-same 2))
-        (both _ _ _ _
-          (either (eqb t Timeout-type) _ _ _ _
-            (both _ _ _ _ (ap (leZ (pos 1)) (h 1 (omega arith))) (ap (λ (z : ℤ). leZ z (wordOf st (at + 2))) (h 1 (omega arith)) ∙ ap (leZ (wordOf st′ (at′ + 1))) (h 2 (omega arith))))
-            (both _ _ _ _ (ap (leZ (pos 0)) (h 1 (omega arith))) (ap (λ (z : ℤ). ltZ z (wordOf st (at + 2))) (h 1 (omega arith)) ∙ ap (ltZ (wordOf st′ (at′ + 1))) (h 2 (omega arith)))))
-          (both _ _ _ _
-            (name-same s internal _ _ _ _ (h 3 (omega arith)) (λ j l. later-same 4 j (omega arith)))
-            (ap (reactionAwaits s e) (h 3 (omega arith)))))))
+      (both _ _ _ _ (ap (leZ (pos 0)) (h 1 (omega arith))) (zero-same 2))
+      (both _ _ _ _
+      (either (eqb t Timeout-type) _ _ _ _
+      (both _ _ _ _ (ap (leZ (pos 1)) (h 1 (omega arith))) (ap (λ (z : ℤ). leZ z (wordOf st (at + 2))) (h 1 (omega arith)) ∙ ap (leZ (wordOf st′ (at′ + 1))) (h 2 (omega arith))))
+      (both _ _ _ _ (ap (leZ (pos 0)) (h 1 (omega arith))) (ap (λ (z : ℤ). ltZ z (wordOf st (at + 2))) (h 1 (omega arith)) ∙ ap (ltZ (wordOf st′ (at′ + 1))) (h 2 (omega arith)))))
+      (both _ _ _ _
+      (name-same s internal _ _ _ _ (h 3 (omega arith)) (λ j l. later-same 4 j (omega arith)))
+      (ap (reactionAwaits s e) (h 3 (omega arith)))))))
 
   clock-same : (s : List ℕ) (e t : ℕ) → clockCell s e t st at ≡ clockCell s e t st′ at′
   unfolding clockCell

@@ -72,12 +72,12 @@ module _ (s : List ℕ) (st : List ℤ) (o : OfSheet s st) (e : ℕ) (c : Record
     pub cell-kept : cellFits s e kind st′ cell ≡ true → OfSheet s st′
     unfolding telegramOf
     cell-kept fits = record {
-        whole = whole ∙ o .whole;
-        head = head-kept;
-        cells = cells-fit s st′ (has-chart s st o) each;
-        telegrams = telegrams-fit s st′ (waiting st) waiting-kept (λ n m. ap (telegramFits s) (telegram-same st′ (placeAt s n) st (placeAt s n) (place-kept n)) ∙ telegram-of s st o n m);
-        unused = rest-unused s st′ (waiting st) waiting-kept (λ n m q. zero-same st′ (placeAt s n) st (placeAt s n) (place-kept n) 0 ∙ unused-of s st o n m q)
-      }
+      whole = whole ∙ o .whole;
+      head = head-kept;
+      cells = cells-fit s st′ (has-chart s st o) each;
+      telegrams = telegrams-fit s st′ (waiting st) waiting-kept (λ n m. ap (telegramFits s) (telegram-same st′ (placeAt s n) st (placeAt s n) (place-kept n)) ∙ telegram-of s st o n m);
+      unused = rest-unused s st′ (waiting st) waiting-kept (λ n m q. zero-same st′ (placeAt s n) st (placeAt s n) (place-kept n) 0 ∙ unused-of s st o n m q);
+    }
       where
         each : (e′ : ℕ) (c′ : Record) → chartOf s e′ ≡ Present c′ → (j′ : ℕ) → j′ < chartVariables c′ .count → cellFits s e′ (typeAt s (chartVariables c′ .first + j′)) st′ (cellAt (firstCell s e′ + j′)) ≡ true
         each e′ c′ p′ j′ l′ = elim (ℕ-discrete (firstCell s e′ + j′) (firstCell s e + j)) [
@@ -90,14 +90,14 @@ module _ (s : List ℕ) (st : List ℤ) (o : OfSheet s st) (e : ℕ) (c : Record
   cell-put ws n fits =
       let inside : cell + length ws ≤ length st = omega (arith, cell-in-state) in
       cell-kept (putWords st cell ws) (length-put st cell ws inside) (word-put-before st cell ws inside) (λ i m. word-put-behind st cell ws inside i (omega arith))
-        (cell-same (putWords st cell ws) cell ws 0 (λ k m. let z : 0 + k ≡ k = omega arith in rw z (word-put-in st cell ws inside k (omega arith))) s e kind ∙ fits)
+      (cell-same (putWords st cell ws) cell ws 0 (λ k m. let z : 0 + k ≡ k = omega arith in rw z (word-put-in st cell ws inside k (omega arith))) s e kind ∙ fits)
 
   -- a value assigned
   pub data-set : (z : ℤ) → isClock kind ≡ false → inType s kind z ≡ true → OfSheet s (set st cell z)
   unfolding cellFits
   data-set z n t =
       cell-kept (set st cell z) (length-set st cell z) (λ i m. word-set-other st cell i z (λ q. omega arith)) (λ i m. word-set-other st cell i z (λ q. omega arith))
-        (rw (cellFits, n) (and-true _ _ (ap (inType s kind) (word-set st cell z (omega (arith, cell-in-state))) ∙ t) (zero-from (set st cell z) cell st cell 1 (λ k m q. word-set-other st cell (cell + k) z (λ q. omega arith)) ∙ and-second _ _ (rw (cellFits, n) at (cell-of s st o e c p j l)))))
+      (rw (cellFits, n) (and-true _ _ (ap (inType s kind) (word-set st cell z (omega (arith, cell-in-state))) ∙ t) (zero-from (set st cell z) cell st cell 1 (λ k m q. word-set-other st cell (cell + k) z (λ q. omega arith)) ∙ and-second _ _ (rw (cellFits, n) at (cell-of s st o e c p j l)))))
 
 -- ---- telegrams
 
@@ -114,31 +114,31 @@ cells-of s st o st′ h = cells-fit s st′ (has-chart s st o) (λ e c p j l. ce
 pub telegram-kept : (s : List ℕ) (st : List ℤ) → OfSheet s st → (t : Telegram) → waiting st < places → telegramFits s t ≡ true → OfSheet s (withTelegram s st t)
 unfolding placeAt
 telegram-kept s st o t room fits = record {
-    whole = with-length s st t (o .whole) room ∙ o .whole;
-    head = head-of s st o (withTelegram s st t) (waiting st + 1) (with-head s st t (o .whole) room) (omega arith) (λ i p l. with-before s st t (o .whole) room i p (omega arith));
-    cells = cells-of s st o (withTelegram s st t) (λ i p l. with-before s st t (o .whole) room i p (omega arith));
-    telegrams = telegrams-fit s (withTelegram s st t) (waiting st + 1) (with-waiting s st t (o .whole) room) (λ j l. elim (decLt j (waiting st)) [
-      | yes q ↦ ap (telegramFits s) (with-earlier s st t (o .whole) room j q) ∙ telegram-of s st o j q
-      | no q ↦ (let e : j ≡ waiting st = omega arith in rw e (ap (telegramFits s) (with-last s st t (o .whole) room) ∙ fits))
-    ]);
-    unused = rest-unused s (withTelegram s st t) (waiting st + 1) (with-waiting s st t (o .whole) room) (λ j m l. zero-same (withTelegram s st t) (placeAt s j) st (placeAt s j) (λ k n. with-behind s st t (o .whole) room (placeAt s j + k) (omega arith)) 0 ∙ unused-of s st o j (omega arith) l)
-  }
+  whole = with-length s st t (o .whole) room ∙ o .whole;
+  head = head-of s st o (withTelegram s st t) (waiting st + 1) (with-head s st t (o .whole) room) (omega arith) (λ i p l. with-before s st t (o .whole) room i p (omega arith));
+  cells = cells-of s st o (withTelegram s st t) (λ i p l. with-before s st t (o .whole) room i p (omega arith));
+  telegrams = telegrams-fit s (withTelegram s st t) (waiting st + 1) (with-waiting s st t (o .whole) room) (λ j l. elim (decLt j (waiting st)) [
+    | yes q ↦ ap (telegramFits s) (with-earlier s st t (o .whole) room j q) ∙ telegram-of s st o j q
+    | no q ↦ (let e : j ≡ waiting st = omega arith in rw e (ap (telegramFits s) (with-last s st t (o .whole) room) ∙ fits))
+  ]);
+  unused = rest-unused s (withTelegram s st t) (waiting st + 1) (with-waiting s st t (o .whole) room) (λ j m l. zero-same (withTelegram s st t) (placeAt s j) st (placeAt s j) (λ k n. with-behind s st t (o .whole) room (placeAt s j + k) (omega arith)) 0 ∙ unused-of s st o j (omega arith) l);
+}
 
 pub removed-kept : (s : List ℕ) (st : List ℤ) → OfSheet s st → (j : ℕ) → j < waiting st → OfSheet s (withoutTelegram s st j)
 unfolding placeAt
 removed-kept s st o j here = record {
-    whole = without-length s st j (o .whole) here limit ∙ o .whole;
-    head = head-of s st o (withoutTelegram s st j) (waiting st - 1) (without-head s st j (o .whole) here limit) (omega (arith, limit)) (λ i p l. without-before s st j (o .whole) here limit i p (omega arith));
-    cells = cells-of s st o (withoutTelegram s st j) (λ i p l. without-before s st j (o .whole) here limit i p (omega arith));
-    telegrams = telegrams-fit s (withoutTelegram s st j) (waiting st - 1) (without-waiting s st j (o .whole) here limit) (λ k l. elim (decLt k j) [
-      | yes q ↦ ap (telegramFits s) (without-earlier s st j (o .whole) here limit k q) ∙ telegram-of s st o k (omega arith)
-      | no q ↦ ap (telegramFits s) (without-later s st j (o .whole) here limit k (omega arith) (omega (arith, limit))) ∙ telegram-of s st o (k + 1) (omega arith)
-    ]);
-    unused = rest-unused s (withoutTelegram s st j) (waiting st - 1) (without-waiting s st j (o .whole) here limit) (λ k m l. elim (decLt (k + 1) places) [
-      | yes q ↦ zero-same (withoutTelegram s st j) (placeAt s k) st (placeAt s (k + 1)) (without-closed s st j (o .whole) here limit k (omega arith) q) 0 ∙ unused-of s st o (k + 1) (omega arith) q
-      | no q ↦ (let e : k ≡ 127 = omega arith in rw e (zeros (withoutTelegram s st j) (placeAt s 127) 0 (λ i a b. without-last s st j (o .whole) here limit i b)))
-    ])
-  }
+  whole = without-length s st j (o .whole) here limit ∙ o .whole;
+  head = head-of s st o (withoutTelegram s st j) (waiting st - 1) (without-head s st j (o .whole) here limit) (omega (arith, limit)) (λ i p l. without-before s st j (o .whole) here limit i p (omega arith));
+  cells = cells-of s st o (withoutTelegram s st j) (λ i p l. without-before s st j (o .whole) here limit i p (omega arith));
+  telegrams = telegrams-fit s (withoutTelegram s st j) (waiting st - 1) (without-waiting s st j (o .whole) here limit) (λ k l. elim (decLt k j) [
+    | yes q ↦ ap (telegramFits s) (without-earlier s st j (o .whole) here limit k q) ∙ telegram-of s st o k (omega arith)
+    | no q ↦ ap (telegramFits s) (without-later s st j (o .whole) here limit k (omega arith) (omega (arith, limit))) ∙ telegram-of s st o (k + 1) (omega arith)
+  ]);
+  unused = rest-unused s (withoutTelegram s st j) (waiting st - 1) (without-waiting s st j (o .whole) here limit) (λ k m l. elim (decLt (k + 1) places) [
+    | yes q ↦ zero-same (withoutTelegram s st j) (placeAt s k) st (placeAt s (k + 1)) (without-closed s st j (o .whole) here limit k (omega arith) q) 0 ∙ unused-of s st o (k + 1) (omega arith) q
+    | no q ↦ (let e : k ≡ 127 = omega arith in rw e (zeros (withoutTelegram s st j) (placeAt s 127) 0 (λ i a b. without-last s st j (o .whole) here limit i b)))
+  ]);
+}
   where
     limit : waiting st ≤ places
     limit = waiting-limit s st o

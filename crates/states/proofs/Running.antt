@@ -34,8 +34,8 @@ module _ (s : List ℕ) (st : List ℤ) (o : OfSheet s st) (e : ℕ) (c : Record
     pub value-set : (z : ℤ) → valueFits kind z (wordOf st (cell + 2)) ≡ true → OfSheet s (set st (cell + 1) z)
     value-set z v =
         cell-kept s st o e c p j l (set st (cell + 1) z) (length-set st (cell + 1) z) (λ i m. word-set-other st (cell + 1) i z (λ q. omega arith)) (λ i m. word-set-other st (cell + 1) i z (λ q. omega arith))
-          (clock-on s e kind st cell (set st (cell + 1) z) is-running (λ k m n. word-set-other st (cell + 1) (cell + k) z (λ q. omega arith)) clock (ap isZero first ∙ runs) (ap (λ (w : ℤ). isBelow w 2) first ∙ running-below s e kind st cell (cell-of s st o e c p j l) clock runs)
-            (ap (λ (w : ℤ). valueFits kind w (wordOf st (cell + 2))) (word-set st (cell + 1) z (omega (arith, cell-in-state s st o e c p j l))) ∙ v))
+        (clock-on s e kind st cell (set st (cell + 1) z) is-running (λ k m n. word-set-other st (cell + 1) (cell + k) z (λ q. omega arith)) clock (ap isZero first ∙ runs) (ap (λ (w : ℤ). isBelow w 2) first ∙ running-below s e kind st cell (cell-of s st o e c p j l) clock runs)
+        (ap (λ (w : ℤ). valueFits kind w (wordOf st (cell + 2))) (word-set st (cell + 1) z (omega (arith, cell-in-state s st o e c p j l))) ∙ v))
       where
         first : wordOf (set st (cell + 1) z) cell ≡ wordOf st cell
         first = word-set-other st (cell + 1) cell z (λ q. omega arith)
@@ -50,4 +50,4 @@ module _ (s : List ℕ) (st : List ℤ) (o : OfSheet s st) (e : ℕ) (c : Record
         let first : wordOf (putWords st cell ws) cell ≡ pos 1 = (rw f at (word-put-in st cell ws inside 0 (omega arith))) in
         let second : wordOf (putWords st cell ws) (cell + 1) ≡ period -ℤ pos 1 = word-put-in st cell ws inside 1 (omega arith) in
         cell-kept s st o e c p j l (putWords st cell ws) (length-put st cell ws inside) (word-put-before st cell ws inside) (λ i m. word-put-behind st cell ws inside i (omega arith))
-          (clock-on s e kind st cell (putWords st cell ws) is-running (λ k m n. word-put-behind st cell ws inside (cell + k) (omega arith)) clock (ap isZero first) (ap (λ (w : ℤ). isBelow w 2) first) (ap (λ (w : ℤ). valueFits kind w (wordOf st (cell + 2))) second ∙ ap (valueFits kind (period -ℤ pos 1)) q ∙ v))
+        (clock-on s e kind st cell (putWords st cell ws) is-running (λ k m n. word-put-behind st cell ws inside (cell + k) (omega arith)) clock (ap isZero first) (ap (λ (w : ℤ). isBelow w 2) first) (ap (λ (w : ℤ). valueFits kind w (wordOf st (cell + 2))) second ∙ ap (valueFits kind (period -ℤ pos 1)) q ∙ v))

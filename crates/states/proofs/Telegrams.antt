@@ -51,11 +51,11 @@ pub own-telegram : (s : List ℕ) (e : ℕ) (c : Record) → chartOf s e ≡ Pre
 unfolding internalFits isBelow
 own-telegram s e c p n zs h a =
     internal-fits s (telegram (pos e) (pos e) (negsuc 0) n zs) (lt-ltb e (componentsOf s) (element-below s e c p)) (lt-ltb e (componentsOf s) (element-below s e c p)) (and-true true true refl refl)
-      (and-true (leb e e) _ (le-leb e e (omega arith)) (and-true (leb e e) _ (le-leb e e (omega arith)) (and-true _ _ (element-bound s e c p) (and-true _ _ (name-same s internal (pos n) (pos n) (datumOf (telegram (pos e) (pos e) (negsuc 0) n zs)) (λ j. getD zs j (pos 0)) refl (same-data (telegram (pos e) (pos e) (negsuc 0) n zs) zs refl refl refl refl) ∙ h) a))))
+    (and-true (leb e e) _ (le-leb e e (omega arith)) (and-true (leb e e) _ (le-leb e e (omega arith)) (and-true _ _ (element-bound s e c p) (and-true _ _ (name-same s internal (pos n) (pos n) (datumOf (telegram (pos e) (pos e) (negsuc 0) n zs)) (λ j. getD zs j (pos 0)) refl (same-data (telegram (pos e) (pos e) (negsuc 0) n zs) zs refl refl refl refl) ∙ h) a))))
 
 -- an external telegram of a bound element
 pub sent-telegram : (s : List ℕ) (e : ℕ) (c : Record) → chartOf s e ≡ Present c → (receiver port : ℤ) (n : ℕ) (zs : List ℤ) → isBelow receiver (componentsOf s) ≡ true → isBelow port (portsOf s) ≡ true → nameFits s external (pos n) (λ j. getD zs j (pos 0)) ≡ true → telegramFits s (telegram (pos e) receiver port n zs) ≡ true
 unfolding isBelow
 sent-telegram s e c p receiver port n zs a b h =
     external-fits s (telegram (pos e) receiver port n zs) (lt-ltb e (componentsOf s) (element-below s e c p)) a (false-and (ltb e (externalsOf s)) _ (le-ltb e (externalsOf s) (element-from s e c p))) b
-      (name-same s external (pos n) (pos n) (datumOf (telegram (pos e) receiver port n zs)) (λ j. getD zs j (pos 0)) refl (same-data (telegram (pos e) receiver port n zs) zs refl refl refl refl) ∙ h)
+    (name-same s external (pos n) (pos n) (datumOf (telegram (pos e) receiver port n zs)) (λ j. getD zs j (pos 0)) refl (same-data (telegram (pos e) receiver port n zs) zs refl refl refl refl) ∙ h)

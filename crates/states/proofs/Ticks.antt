@@ -78,7 +78,7 @@ module _ (s : List ℕ) (st : List ℤ) (o : OfSheet s st) (e : ℕ) (c : Record
           let f : cell + 0 ≡ cell = omega arith in
           let first : wordOf (withTelegram s st own) cell ≡ wordOf st cell = (rw f at (cell-word room 0 (omega arith))) in
           put-again s (withTelegram s st own) o₁ e c p j l clock (ap isZero first ∙ runs) (wordOf st (cell + 2)) (cell-word room 2 (omega arith))
-            (cycler-fits kind _ _ (period-int s e kind st cell (is-running s st o e c p j l clock runs)) named q (cycler-again (wordOf st (cell + 1)) (wordOf st (cell + 2)) (cycler-runs s e kind st cell (is-running s st o e c p j l clock runs) named q))))
+          (cycler-fits kind _ _ (period-int s e kind st cell (is-running s st o e c p j l clock runs)) named q (cycler-again (wordOf st (cell + 1)) (wordOf st (cell + 2)) (cycler-runs s e kind st cell (is-running s st o e c p j l clock runs) named q))))
 
     tick-timer : eqb kind Timer-type ≡ true → SliceKept s (ticks s e kind cell st)
     unfolding ticks
@@ -138,9 +138,9 @@ module _ (s : List ℕ) where
   cells-sliced e c p zero j l st o = o
   cells-sliced e c p (suc n) j l st o =
       then-kept s _ _ (cell-sliced s st o e c p j (omega arith)) (λ st′ o′.
-        let d : suc (chartVariables c .first + j) ≡ chartVariables c .first + suc j = omega arith in
-        let i : suc (firstCell s e + j) ≡ firstCell s e + suc j = omega arith in
-        rw (d, i) (cells-sliced e c p n (suc j) (omega arith) st′ o′))
+      let d : suc (chartVariables c .first + j) ≡ chartVariables c .first + suc j = omega arith in
+      let i : suc (firstCell s e + j) ≡ firstCell s e + suc j = omega arith in
+      rw (d, i) (cells-sliced e c p n (suc j) (omega arith) st′ o′))
 
   element-sliced : (e : ℕ) (st : List ℤ) → OfSheet s st → SliceKept s (slicedElement s e st)
   unfolding slicedElement

@@ -132,7 +132,13 @@ fn datum_fits(
     ensures { λ b. ⌜ b ≡ datumFits (now (sheet .entry)) g j (wordOf (now (st .entry)) i) ⌝ }
 {
     if j < g.count {
-        return value_at(sheet, directory, types::type_at(sheet, directory, g.first + j), st, i);
+        return value_at(
+            sheet,
+            directory,
+            types::type_at(sheet, directory, g.first + j),
+            st,
+            i,
+        );
     }
     tests::zero_at(st, i)
 }
@@ -164,7 +170,13 @@ pub fn name_fits(sheet: &[u8], directory: &[usize; 16], class: u16, st: &[i32], 
     if !types::has_class(sheet, directory, n, class) {
         return false;
     }
-    data_fit(sheet, directory, types::name_range(sheet, directory, n), st, at + 1)
+    data_fit(
+        sheet,
+        directory,
+        types::name_range(sheet, directory, n),
+        st,
+        at + 1,
+    )
 }
 
 // ---- reactions
