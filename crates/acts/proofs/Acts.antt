@@ -18,6 +18,7 @@ use Rattle.sheet.specs.declared.Found.the-variants.{Present, Absent}
 use Rattle.sheet.specs.Names.{names, chartVariables, bodyParameters, bodyLocals}
 use Rattle.sheet.specs.Sheet.{recordOf}
 use Rattle.sheet.proofs.All.{and-first, and-second}
+use Rattle.store.specs.Changed.{changedTo}
 use Rattle.laris.specs.declared.Ran.{Ran}
 use Rattle.laris.specs.declared.Ran.the-variants.{Done, Refused, Stuck}
 use Rattle.laris.specs.declared.Telegram.{Telegram}
@@ -27,7 +28,7 @@ use Rattle.laris.specs.Forms.{assign, clockAct, arm}
 use Rattle.laris.specs.Shape.{variablesAt, nameShape}
 use Rattle.laris.specs.Types.{clockOf}
 use Rattle.laris.specs.Values.{isBound, firstCell}
-use Rattle.laris.specs.State.{cellAt, placeAt, stateLength, waiting, putWords, withTelegram}
+use Rattle.laris.specs.State.{cellAt, placeAt, stateLength, putWords, on, off, appended}
 use Rattle.laris.specs.Valid.{OfSheet}
 use Rattle.laris.specs.Check.{checkOf}
 use Rattle.laris.specs.Eval.{Context, boolWord, variableAtCell}
@@ -175,13 +176,14 @@ module _ (s w : List ℕ) (st lo : List ℤ) (n : ℕ) (r : Record) where
 -- ---- a telegram appended
 
 module _ (s : List ℕ) (t : Telegram) (l : ℕ) (st lo : List ℤ) where
-  pub append-full : 128 ≤ waiting st → world (Refused 8 l) st lo ≡ append s t l st lo
-  unfolding append
-  append-full h = rw (append, le-ltb (waiting st) 128 h) refl
+  pub append-done : (n : ℕ) (st′ : List ℤ) → appended s st t ≡ changedTo n st′ → n ≡ 0 → world (Done l) st′ lo ≡ append s t l st lo
+  unfolding append changedTo
+  append-done n st′ e h = sym (ap (λ r. elim r as (λ r. World) [ on st′ ↦ world (Done l) st′ lo | off n ↦ world (Refused n l) st lo ]) (e ∙ ap (λ n. changedTo n st′) h))
 
-  pub append-room : waiting st < 128 → world (Done l) (withTelegram s st t) lo ≡ append s t l st lo
-  unfolding append
-  append-room h = rw (append, lt-ltb (waiting st) 128 h) refl
+  pub append-refused : (n : ℕ) (st′ : List ℤ) → appended s st t ≡ changedTo n st′ → (n ≡ 0 → ⊥) → st′ ≡ st → world (Refused n l) st′ lo ≡ append s t l st lo
+  unfolding append changedTo
+  append-refused zero st′ e h q = absurd (h refl)
+  append-refused (suc n) st′ e h q = ap (λ st. world (Refused (suc n) l) st lo) q ∙ sym (ap (λ r. elim r as (λ r. World) [ on st′ ↦ world (Done l) st′ lo | off n ↦ world (Refused n l) st lo ]) e)
 
 -- ---- arming
 

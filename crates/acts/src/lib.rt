@@ -116,16 +116,16 @@ pub fn gather(
     Ran::Done { left: l }
 }
 
-// "128 telegrams wait and one more is appended": 8.
+// "Sends append"
 fn append(st: &mut [i32], t: Telegram, left: u32) -> Ran
     requires { ⌜ Laid (now st) ⌝ }
     ensures { λ r. ⌜ ((s : List ℕ) (lo : List ℤ) → length (now (st .entry)) ≡ stateLength s → world r (now (st .exit)) lo ≡ appendOf s t left (now (st .entry)) lo) ⌝ }
 {
-    if 128 <= store::waiting_count(st) {
-        return Ran::Refused { number: 8, left };
+    let number = store::append(st, t);
+    if number == 0 {
+        return Ran::Done { left };
     }
-    store::append(st, t);
-    Ran::Done { left }
+    Ran::Refused { number, left }
 }
 
 // A telegram of the element, with name record a and the data of a node.

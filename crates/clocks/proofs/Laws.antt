@@ -15,16 +15,17 @@ use mir.Val.{ofZ, toZ}
 use borrow.Author.Tests.{ltb-true, lt-ltb, le-ltb, le-leb, lt-leb, eq-eqb, ne-eqb}
 use Rattle.sheet.specs.Names.{Timer-type, Timeout-type, isClock}
 use Rattle.sheet.proofs.All.{true-false, and-true, and-first, and-second, false-and, and-false, all-at}
+use Rattle.laris.proofs.Appending.{appended-room, appending}
 use Rattle.laris.specs.Values.{fits32, isBelow, isZero}
-use Rattle.laris.specs.State.{places, cellAt, placeAt, stateLength, wordOf, waiting, putWords, withTelegram}
+use Rattle.laris.specs.State.{places, cellAt, placeAt, stateLength, wordOf, waiting, putWords, withTelegram, Changed, on, off, appended}
 use Rattle.laris.specs.Valid.{nameFits, zeroWords, runningClock}
 use Rattle.laris.specs.Eval.{sameWord}
-use Rattle.laris.specs.Play.{Sliced, on, off, thenSlice, fires, ticks, slicedCell}
+use Rattle.laris.specs.Play.{thenSlice, clockTelegram, fires, ticks, slicedCell}
 use Rattle.states.proofs.Words.{with-length, with-before}
 use Rattle.states.proofs.Clocks.{running, running-below, timer-runs, timeout-runs, cycler-runs, timer-int}
 use Rattle.store.specs.Laid.{Laid}
 use Rattle.store.proofs.Laws.{given}
-use Rattle.clocks.specs.Sliced.{slicedTo, clockTelegram, fired}
+use Rattle.store.specs.Changed.{changedTo}
 use Rattle.clocks.specs.Running.{Running, Cell}
 
 -- ---- words
@@ -59,30 +60,30 @@ number-back (negsuc k) h = absurd (true≢false (sym h))
 
 -- ---- what a number says
 
-pub then-refused : (r : Sliced) (n : ℕ) (st st′ : List ℤ) (K : List ℤ → Sliced) → r ≡ slicedTo n st → (n ≡ 0 → ⊥) → thenSlice r K ≡ slicedTo n st′
-unfolding slicedTo thenSlice
+pub then-refused : (r : Changed) (n : ℕ) (st st′ : List ℤ) (K : List ℤ → Changed) → r ≡ changedTo n st → (n ≡ 0 → ⊥) → thenSlice r K ≡ changedTo n st′
+unfolding changedTo thenSlice
 then-refused r zero st st′ K e h = absurd (h refl)
 then-refused r (suc n) st st′ K e h = rw e refl
 
-pub then-done : (r : Sliced) (n : ℕ) (st : List ℤ) (K : List ℤ → Sliced) → r ≡ slicedTo n st → n ≡ 0 → thenSlice r K ≡ K st
-unfolding slicedTo thenSlice
+pub then-done : (r : Changed) (n : ℕ) (st : List ℤ) (K : List ℤ → Changed) → r ≡ changedTo n st → n ≡ 0 → thenSlice r K ≡ K st
+unfolding changedTo thenSlice
 then-done r n st K e h = rw (e, h) refl
 
-pub goes-on : (r : Sliced) (n : ℕ) (st : List ℤ) → r ≡ slicedTo n st → n ≡ 0 → r ≡ on st
-unfolding slicedTo
+pub goes-on : (r : Changed) (n : ℕ) (st : List ℤ) → r ≡ changedTo n st → n ≡ 0 → r ≡ on st
+unfolding changedTo
 goes-on r n st e h = rw (e, h) refl
 
 pub on-words : (a b : List ℤ) → on a ≡ on b → a ≡ b
 on-words a b e = ap words e
   where
-    words : Sliced → List ℤ
+    words : Changed → List ℤ
     words (on st) = st
     words (off n) = a
 
 pub on-off : (a : List ℤ) (n : ℕ) → off n ≡ on a → ⊥
 on-off a n e = true-false {b = true} refl (ap refusal (sym e))
   where
-    refusal : Sliced → Bool
+    refusal : Changed → Bool
     refusal (on st) = true
     refusal (off n) = false
 
@@ -92,36 +93,16 @@ pub laid : (st : List ℤ) (at : ℕ) → Running st at → Laid st
 laid st at r = record { long = let l = r .inside in omega arith; head = r .head }
 
 module _ (s : List ℕ) (e at : ℕ) (st : List ℤ) where
-  pub fired-full : 128 ≤ waiting st → fired s e at st ≡ off 8
-  unfolding fired
-  fired-full l = rw (fired, le-ltb (waiting st) 128 l) refl
-
-  pub fired-on : waiting st < 128 → fired s e at st ≡ on (withTelegram s st (clockTelegram e st at))
-  unfolding fired
-  fired-on l = rw (fired, lt-ltb (waiting st) 128 l) refl
-
-  fires-fired : (ws : List ℤ) → fires s e at ws st ≡ thenSlice (fired s e at st) (λ st′. on (putWords st′ at ws))
-  unfolding fires fired thenSlice
-  fires-fired ws = go (ltb (waiting st) places) refl
-    where
-      go : (b : Bool) → ltb (waiting st) places ≡ b → fires s e at ws st ≡ thenSlice (fired s e at st) (λ st′. on (putWords st′ at ws))
-      go true q = rw (fires, fired, q) refl
-      go false q = rw (fires, fired, q) refl
+  abbrev fired : Changed
+  fired = appended s st (clockTelegram e st at)
 
   -- it lies behind the cells
-  pub fired-word : length st ≡ stateLength s → Running st at → (st′ : List ℤ) → fired s e at st ≡ on st′ → (wordOf st′ at ≡ pos 1) × (length st′ ≡ length st)
+  pub fired-word : length st ≡ stateLength s → Running st at → (st′ : List ℤ) → fired ≡ on st′ → (wordOf st′ at ≡ pos 1) × (length st′ ≡ length st)
   unfolding stateLength placeAt
-  fired-word whole r st′ f = go (ltb (waiting st) 128) refl
-    where
-      go : (b : Bool) → ltb (waiting st) 128 ≡ b → (wordOf st′ at ≡ pos 1) × (length st′ ≡ length st)
-      go true q =
-          let room : waiting st < 128 = ltb-true _ _ q in
-          let same : withTelegram s st (clockTelegram e st at) ≡ st′ = on-words _ _ (sym (fired-on room) ∙ f) in
-          rw (sym same) (with-before s st (clockTelegram e st at) whole room at (let l = r .behind in omega arith) (let l = r .inside in omega arith) ∙ r .runs, with-length s st (clockTelegram e st at) whole room)
-      go false q = absurd (on-off st′ 8 (sym (fired-full (full q)) ∙ f))
-        where
-          full : ltb (waiting st) 128 ≡ false → 128 ≤ waiting st
-          full q = elim (decLt (waiting st) 128) [ yes l ↦ absurd (true-false (lt-ltb _ _ l) q) | no l ↦ omega arith ]
+  fired-word whole r st′ = appending s st (clockTelegram e st at) (λ x. x ≡ on st′ → (wordOf st′ at ≡ pos 1) × (length st′ ≡ length st))
+      (λ room f.
+        rw (sym (on-words _ _ f)) (with-before s st (clockTelegram e st at) whole room at (let l = r .behind in omega arith) (let l = r .inside in omega arith) ∙ r .runs, with-length s st (clockTelegram e st at) whole room))
+      (λ f. absurd (on-off st′ 8 f))
 
 -- the two words of a Cycler that fires; the first is 1 already
 pub put-two : (st : List ℤ) (at : ℕ) (z : ℤ) → at + 2 ≤ length st → wordOf st at ≡ pos 1 → putWords st at (pos 1 ∷ z ∷ []) ≡ set st (at + 1) z
@@ -146,17 +127,17 @@ module _ (s : List ℕ) (e at : ℕ) (st : List ℤ) where
   unfolding ticks
   timeout-goes q = rw (ticks, q) refl
 
-  pub timeout-fires : sameWord (wordOf st (at + 1)) (pos 1) ≡ true → ticks s e 5 at st ≡ thenSlice (fired s e at st) (λ st′. on (putWords st′ at (replicate 8 (pos 0))))
-  unfolding ticks
-  timeout-fires q = rw (ticks, q) (fires-fired s e at st (replicate 8 (pos 0)))
+  pub timeout-fires : sameWord (wordOf st (at + 1)) (pos 1) ≡ true → ticks s e 5 at st ≡ thenSlice (appended s st (clockTelegram e st at)) (λ st′. on (putWords st′ at (replicate 8 (pos 0))))
+  unfolding ticks fires
+  timeout-fires q = rw (ticks, q) refl
 
   pub cycler-goes : isZero (wordOf st (at + 1)) ≡ false → ticks s e 6 at st ≡ on (set st (at + 1) (wordOf st (at + 1) -ℤ pos 1))
   unfolding ticks
   cycler-goes q = rw (ticks, q) refl
 
-  pub cycler-fires : isZero (wordOf st (at + 1)) ≡ true → ticks s e 6 at st ≡ thenSlice (fired s e at st) (λ st′. on (putWords st′ at (pos 1 ∷ (wordOf st (at + 2) -ℤ pos 1) ∷ [])))
-  unfolding ticks
-  cycler-fires q = rw (ticks, q) (fires-fired s e at st (pos 1 ∷ (wordOf st (at + 2) -ℤ pos 1) ∷ []))
+  pub cycler-fires : isZero (wordOf st (at + 1)) ≡ true → ticks s e 6 at st ≡ thenSlice (appended s st (clockTelegram e st at)) (λ st′. on (putWords st′ at (pos 1 ∷ (wordOf st (at + 2) -ℤ pos 1) ∷ [])))
+  unfolding ticks fires
+  cycler-fires q = rw (ticks, q) refl
 
 -- ---- a cell
 

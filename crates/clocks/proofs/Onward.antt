@@ -12,18 +12,19 @@ use Rattle.sheet.specs.declared.Record.{Record}
 use Rattle.sheet.specs.declared.Found.the-variants.{Present}
 use Rattle.sheet.specs.All.{_and_}
 use Rattle.sheet.specs.Names.{chartVariables, Timer-type, Timeout-type, isClock}
+use Rattle.laris.proofs.Appending.{appending}
+use Rattle.laris.specs.declared.Telegram.{Telegram}
 use Rattle.laris.specs.Fields.{sumBelow, typeAt, externalsOf}
 use Rattle.laris.specs.Shape.{variablesBound, variablesOf}
 use Rattle.laris.specs.Values.{isBelow, isZero, chartOf, firstCell}
-use Rattle.laris.specs.State.{places, cellAt, placeAt, stateLength, wordOf, waiting, putWords, withTelegram}
+use Rattle.laris.specs.State.{places, cellAt, placeAt, stateLength, wordOf, waiting, putWords, withTelegram, Changed, on, off}
 use Rattle.laris.specs.Valid.{cellFits, headFits, OfSheet}
 use Rattle.laris.specs.Eval.{sameWord}
-use Rattle.laris.specs.Play.{Sliced, on, off, thenSlice, fires, ticks, slicedCell, slicedCells, slicedElement, slicedFrom}
+use Rattle.laris.specs.Play.{thenSlice, clockTelegram, fires, ticks, slicedCell, slicedCells, slicedElement, slicedFrom}
 use Rattle.sheet.proofs.All.{and-first}
 use Rattle.states.proofs.Words.{word-set-other, length-put, word-put-before, word-put-behind, with-length, with-head, with-before}
 use Rattle.states.proofs.Frame.{cell-same}
 use Rattle.states.proofs.Parts.{cell-of}
-use Rattle.clocks.specs.Sliced.{clockTelegram}
 use Rattle.clocks.specs.Running.{Cell, Cells}
 
 -- as long as the sheet's states, at most 128 waiting, and from a word on up to the places as before
@@ -32,7 +33,7 @@ pub record After (s : List ℕ) (from : ℕ) (old st : List ℤ) : Type 0 where
   pub head : isBelow (wordOf st 0) 129 ≡ true
   pub later : (k : ℕ) → from ≤ k → k < placeAt s 0 → wordOf st k ≡ wordOf old k
 
-abbrev pub Onward : List ℕ → ℕ → List ℤ → Sliced → Type 0
+abbrev pub Onward : List ℕ → ℕ → List ℤ → Changed → Type 0
 Onward s from old (on st) = After s from old st
 Onward s from old (off n) = Unit {0}
 
@@ -63,20 +64,18 @@ module _ (s : List ℕ) where
         }
 
   module _ (st : List ℤ) (e at : ℕ) (whole : length st ≡ stateLength s) (head : isBelow (wordOf st 0) 129 ≡ true) (behind : 8 ≤ at) (inside : at + 8 ≤ placeAt s 0) where
+    abbrev t : Telegram
+    t = clockTelegram e st at
+
     fires-onward : (ws : List ℤ) → length ws ≤ 8 → Onward s (at + 8) st (fires s e at ws st)
-    unfolding fires placeAt isBelow
-    fires-onward ws n = go (ltb (waiting st) places) refl
-      where
-        go : (b : Bool) → ltb (waiting st) places ≡ b → Onward s (at + 8) st (fires s e at ws st)
-        go true q =
-            let room : waiting st < places = ltb-true (waiting st) places q in
-            let t = clockTelegram e st at in
-            let f : fires s e at ws st ≡ on (putWords (withTelegram s st t) at ws) = rw (fires, q) refl in
-            let long : length (withTelegram s st t) ≡ stateLength s = with-length s st t whole room ∙ whole in
-            let first : isBelow (wordOf (withTelegram s st t) 0) 129 ≡ true = ap (λ (w : ℤ). isBelow w 129) (with-head s st t whole room) ∙ lt-ltb (waiting st + 1) 129 (omega arith) in
-            let sent : After s (at + 8) st (withTelegram s st t) = record { whole = long; head = first; later = λ k l m. with-before s st t whole room k (omega arith) (omega arith) } in
-            rw f (after-more (at + 8) (at + 8) st (withTelegram s st t) (putWords (withTelegram s st t) at ws) (omega arith) sent (put-onward (withTelegram s st t) at long first behind inside ws n))
-        go false q = let f : fires s e at ws st ≡ off 8 = rw (fires, q) refl in rw f tt
+    unfolding fires thenSlice placeAt isBelow
+    fires-onward ws n = appending s st t (λ r. Onward s (at + 8) st (thenSlice r (λ st′. on (putWords st′ at ws))))
+        (λ room.
+          let long : length (withTelegram s st t) ≡ stateLength s = with-length s st t whole room ∙ whole in
+          let first : isBelow (wordOf (withTelegram s st t) 0) 129 ≡ true = ap (λ (w : ℤ). isBelow w 129) (with-head s st t whole room) ∙ lt-ltb (waiting st + 1) 129 (omega arith) in
+          let sent : After s (at + 8) st (withTelegram s st t) = record { whole = long; head = first; later = λ k l m. with-before s st t whole room k (omega arith) (omega arith) } in
+          after-more (at + 8) (at + 8) st (withTelegram s st t) (putWords (withTelegram s st t) at ws) (omega arith) sent (put-onward (withTelegram s st t) at long first behind inside ws n))
+        tt
 
     ticks-onward : (t : ℕ) → Onward s (at + 8) st (ticks s e t at st)
     unfolding ticks
@@ -118,11 +117,11 @@ module _ (s : List ℕ) where
       is-after : Onward s (cellAt i + 8) st (on st′) → After s (cellAt i + 8) st st′
       is-after a = a
 
-  onward-more : (from from′ : ℕ) (a b : List ℤ) (r : Sliced) → from ≤ from′ → After s from a b → Onward s from′ b r → Onward s from′ a r
+  onward-more : (from from′ : ℕ) (a b : List ℤ) (r : Changed) → from ≤ from′ → After s from a b → Onward s from′ b r → Onward s from′ a r
   onward-more from from′ a b (on c) l h k = after-more from from′ a b c l h k
   onward-more from from′ a b (off n) l h k = tt
 
-  then-onward : (from from′ : ℕ) (st : List ℤ) (r : Sliced) (K : List ℤ → Sliced) → from ≤ from′ → Onward s from st r → ((st′ : List ℤ) → After s from st st′ → Onward s from′ st′ (K st′)) → Onward s from′ st (thenSlice r K)
+  then-onward : (from from′ : ℕ) (st : List ℤ) (r : Changed) (K : List ℤ → Changed) → from ≤ from′ → Onward s from st r → ((st′ : List ℤ) → After s from st st′ → Onward s from′ st′ (K st′)) → Onward s from′ st (thenSlice r K)
   unfolding thenSlice
   then-onward from from′ st (on st′) K l h k = onward-more from from′ st st′ (K st′) l h (k st′ h)
   then-onward from from′ st (off n) K l h k = tt
@@ -210,7 +209,7 @@ module _ (s : List ℕ) where
         let f : n - i ≡ suc (n - (i + 1)) = omega arith in
         let a : suc (externalsOf s + i) ≡ externalsOf s + (i + 1) = omega arith in
         let own : slicedElement s (externalsOf s + i) st ≡ slicedCells s (x + i) (chartVariables c .count) (chartVariables c .first) cell st = rw (slicedElement, p, first-number i cell q, head) refl in
-        (rw a at (from-next (n - (i + 1)) (n - i) (externalsOf s + i) st f)) ∙ ap (λ (r : Sliced). thenSlice r (slicedFrom s (n - (i + 1)) (externalsOf s + (i + 1)))) own
+        (rw a at (from-next (n - (i + 1)) (n - i) (externalsOf s + i) st f)) ∙ ap (λ (r : Changed). thenSlice r (slicedFrom s (n - (i + 1)) (externalsOf s + (i + 1)))) own
 
     -- its cells hold what they held
     pub element-now : (old st : List ℤ) → OfSheet s old → cell + chartVariables c .count ≤ variablesOf s → After s (cellAt cell) old st → Cells s (x + i) c st cell

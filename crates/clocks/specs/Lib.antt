@@ -1,2 +1,1 @@
-pub mod Sliced
 pub mod Running

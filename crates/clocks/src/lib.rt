@@ -11,16 +11,16 @@ ghost use Rattle.sheet.specs.Sheet.{directoryOf, countOf};
 ghost use Rattle.laris.specs.declared.Checked.the-variants.{Passed};
 ghost use Rattle.laris.specs.Fields.{typeAt, externalsOf};
 ghost use Rattle.laris.specs.Check.{checkOf};
-ghost use Rattle.laris.specs.State.{cellAt, stateLength};
+ghost use Rattle.laris.specs.State.{cellAt, stateLength, appended};
 ghost use Rattle.laris.specs.Valid.{OfSheet};
-ghost use Rattle.laris.specs.Play.{ticks, slicedCell, slicedCells, slicedFrom};
-ghost use Rattle.clocks.specs.Sliced.{slicedTo, fired};
+ghost use Rattle.laris.specs.Play.{clockTelegram, ticks, slicedCell, slicedCells, slicedFrom};
+ghost use Rattle.store.specs.Changed.{changedTo};
 ghost use Rattle.clocks.specs.Running.{Running, Cell, Cells};
 
 // "plus 1, or 6 at 2,147,483,647"
 fn tick_timer(st: &mut [i32], at: usize) -> u8
     requires { ⌜ Running (now st) at ⌝ }
-    ensures { λ n. ⌜ ((s : List ℕ) (e : ℕ) → ticks s e 4 at (now (st .entry)) ≡ slicedTo n (now (st .exit))) ⌝ }
+    ensures { λ n. ⌜ ((s : List ℕ) (e : ℕ) → ticks s e 4 at (now (st .entry)) ≡ changedTo n (now (st .exit))) ⌝ }
 {
     let value = st[at + 1];
     if value == 2147483647 {
@@ -30,14 +30,11 @@ fn tick_timer(st: &mut [i32], at: usize) -> u8
     0
 }
 
-// A clock's telegram is appended: 8 where 128 wait.
+// A clock's telegram is appended.
 fn fire(st: &mut [i32], e: usize, at: usize) -> u8
     requires { ⌜ Running (now st) at × (e < 64) ⌝ }
-    ensures { λ n. ⌜ ((s : List ℕ) → length (now (st .entry)) ≡ stateLength s → fired s e at (now (st .entry)) ≡ slicedTo n (now (st .exit))) ⌝ }
+    ensures { λ n. ⌜ ((s : List ℕ) → length (now (st .entry)) ≡ stateLength s → appended s (now (st .entry)) (clockTelegram e (now (st .entry)) at) ≡ changedTo n (now (st .exit))) ⌝ }
 {
-    if 128 <= store::waiting_count(st) {
-        return 8;
-    }
     let telegram = Telegram {
         sender: e as i32,
         receiver: e as i32,
@@ -48,14 +45,13 @@ fn fire(st: &mut [i32], e: usize, at: usize) -> u8
         d2: st[at + 6],
         d3: st[at + 7],
     };
-    store::append(st, telegram);
-    0
+    store::append(st, telegram)
 }
 
 // "at 1 its telegram is appended and it stops, otherwise minus 1"
 fn tick_timeout(st: &mut [i32], e: usize, at: usize) -> u8
     requires { ⌜ Running (now st) at × (e < 64) ⌝ }
-    ensures { λ n. ⌜ ((s : List ℕ) → length (now (st .entry)) ≡ stateLength s → ticks s e 5 at (now (st .entry)) ≡ slicedTo n (now (st .exit))) ⌝ }
+    ensures { λ n. ⌜ ((s : List ℕ) → length (now (st .entry)) ≡ stateLength s → ticks s e 5 at (now (st .entry)) ≡ changedTo n (now (st .exit))) ⌝ }
 {
     let value = st[at + 1];
     if value != 1 {
@@ -73,7 +69,7 @@ fn tick_timeout(st: &mut [i32], e: usize, at: usize) -> u8
 // "at 0 its telegram is appended and value becomes period − 1, otherwise minus 1"
 fn tick_cycler(st: &mut [i32], e: usize, at: usize) -> u8
     requires { ⌜ Running (now st) at × (e < 64) ⌝ }
-    ensures { λ n. ⌜ ((s : List ℕ) → length (now (st .entry)) ≡ stateLength s → ticks s e 6 at (now (st .entry)) ≡ slicedTo n (now (st .exit))) ⌝ }
+    ensures { λ n. ⌜ ((s : List ℕ) → length (now (st .entry)) ≡ stateLength s → ticks s e 6 at (now (st .entry)) ≡ changedTo n (now (st .exit))) ⌝ }
 {
     let value = st[at + 1];
     if value != 0 {
@@ -100,7 +96,7 @@ fn slice_cell(
     i: usize,
 ) -> u8
     requires { ⌜ (now directory ≡ directoryOf (now sheet)) × (e < 64) × (i < 512) × Cell (now sheet) e (typeAt (now sheet) d) (now st) i ⌝ }
-    ensures { λ n. ⌜ slicedCell (now (sheet .entry)) e (typeAt (now (sheet .entry)) d) (cellAt i) (now (st .entry)) ≡ slicedTo n (now (st .exit)) ⌝ }
+    ensures { λ n. ⌜ slicedCell (now (sheet .entry)) e (typeAt (now (sheet .entry)) d) (cellAt i) (now (st .entry)) ≡ changedTo n (now (st .exit)) ⌝ }
 {
     let at = 8 + 8 * i;
     if st[at] == 0 {
@@ -129,7 +125,7 @@ fn slice_cells(
     cell: usize,
 ) -> u8
     requires { ⌜ (now directory ≡ directoryOf (now sheet)) × (e < 64) × (cell + chartVariables c .count ≤ 512) × Cells (now sheet) e c (now st) cell ⌝ }
-    ensures { λ n. ⌜ slicedCells (now (sheet .entry)) e (chartVariables c .count) (chartVariables c .first) cell (now (st .entry)) ≡ slicedTo n (now (st .exit)) ⌝ }
+    ensures { λ n. ⌜ slicedCells (now (sheet .entry)) e (chartVariables c .count) (chartVariables c .first) cell (now (st .entry)) ≡ changedTo n (now (st .exit)) ⌝ }
 {
     let count = c.f3 as usize;
     let mut j: usize = 0;
@@ -146,7 +142,7 @@ fn slice_cells(
 // A slice: 0 with the state after it, or 6 or 8 with a state that is of no use.
 pub fn slice(sheet: &[u8], directory: &[usize; 16], st: &mut [i32]) -> u8
     requires { ⌜ (now directory ≡ directoryOf (now sheet)) × (checkOf (now sheet) ≡ Passed) × OfSheet (now sheet) (now st) ⌝ }
-    ensures { λ n. ⌜ slicedFrom (now (sheet .entry)) (countOf (now (sheet .entry)) bindings) (externalsOf (now (sheet .entry))) (now (st .entry)) ≡ slicedTo n (now (st .exit)) ⌝ }
+    ensures { λ n. ⌜ slicedFrom (now (sheet .entry)) (countOf (now (sheet .entry)) bindings) (externalsOf (now (sheet .entry))) (now (st .entry)) ≡ changedTo n (now (st .exit)) ⌝ }
 {
     let first = fields::field_at(sheet, directory, 0, 0, 1);
     let count = reader::count_in(directory, 7);

@@ -25,9 +25,9 @@ use Rattle.laris.specs.Forms.{Form, literal, read, unary, binary, clock, skip, 
 use Rattle.laris.specs.Shape.{variablesAt, constantOf}
 use Rattle.laris.specs.Types.{clockOf}
 use Rattle.laris.specs.Values.{fits32, isZero, inType}
-use Rattle.laris.specs.State.{places, waiting}
+use Rattle.laris.specs.State.{Changed, on, off, appended}
 use Rattle.laris.specs.Eval.{Context, andThen, needs, onRecord, intOut, quotient, remainder, dividing, notVal, intVal, binaryVal, literalValue, within, ofType, parameterVal, readAs, readVal, clockVal, evalIn, evalStep, lowerEval, evalF, evalOf}
-use Rattle.laris.specs.Run.{World, goOn, thenValue, withRecord, provided, Data, given, refused, stuck, before, nextDatum, dataFrom, thenData, telegram, localsOf, append, armed, clockSet, Runs, fewer, inBody, assigned, assignOf, nameDataOf, externalSendOf, internalSendOf, cellType, isVariable, armOf, clockActOf, entered, callOf, choiceOf, runIn, runStep, runF, runOf}
+use Rattle.laris.specs.Run.{World, goOn, thenValue, withRecord, provided, Data, given, refused, stuck, before, nextDatum, dataFrom, thenData, telegram, localsOf, append, armed, clockSet, Runs, fewer, inBody, assigned, assignOf, nameDataOf, externalSendOf, internalSendOf, cellType, isVariable, armOf, clockActOf, entered, callOf, choiceOf, runIn, runStep, runF, runOf, world, openCalls}
 
 -- ---- expressions
 
@@ -237,7 +237,11 @@ provided-in false st lo w l p = tt
 
 append-in : (s : List ℕ) (t : Telegram) (l : ℕ) (st lo : List ℤ) → RanWithin (suc l) (append s t l st lo .ran)
 unfolding append
-append-in s t l st lo = eitherRan (ltb (waiting st) places) _ _ (suc l) (le-refl (suc l)) (next l)
+append-in s t l st lo = go (appended s st t)
+  where
+    go : (r : Changed) → RanWithin (suc l) (elim r as (λ r. World) [ on st′ ↦ world (ran.Done l) st′ lo | off n ↦ world (ran.Refused n l) st lo ] .ran)
+    go (on st′) = le-refl (suc l)
+    go (off n) = next l
 
 armed-in : (cell t : ℕ) (period : ℤ) (name : ℕ) (zs : List ℤ) (l : ℕ) (st lo : List ℤ) → RanWithin (suc l) (armed cell t period name zs l st lo .ran)
 unfolding armed
@@ -308,7 +312,7 @@ module _ (s : List ℕ) (x : Context) where
 
     entered-in : (depth : ℕ) (b : Record) (zs : List ℤ) (l : ℕ) (st lo : List ℤ) → RanWithin (suc l) (entered s x f depth b zs l st lo .ran)
     unfolding entered
-    entered-in depth b zs l st lo = eitherRan (ltb depth 16) _ _ (suc l) (again (depth + 1) (inBody x b) (root b) l (suc l) st (localsOf s b zs) (next l)) (next l)
+    entered-in depth b zs l st lo = eitherRan (ltb depth openCalls) _ _ (suc l) (again (depth + 1) (inBody x b) (root b) l (suc l) st (localsOf s b zs) (next l)) (next l)
 
     call-in : (depth : ℕ) (r : Record) (l : ℕ) (st lo : List ℤ) → RanWithin (suc l) (callOf s x f depth r l st lo .ran)
     unfolding callOf

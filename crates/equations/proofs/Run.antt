@@ -19,7 +19,7 @@ use Rattle.laris.specs.declared.Ran.the-variants.{Done, Refused, Stuck}
 use Rattle.laris.specs.Forms.{Form, literal, read, unary, binary, clock, skip, assign, externalSend, internalSend, arm, clockAct, call, choice, loop, sequence, unknown, formOf, calledBody}
 use Rattle.laris.specs.Values.{isZero}
 use Rattle.laris.specs.Eval.{Context, evalOf}
-use Rattle.laris.specs.Run.{World, world, goOn, thenRun, thenValue, withRecord, Data, given, refused, stuck, dataFrom, thenData, localsOf, Runs, fewer, inBody, entered, callOf, choiceOf, runIn, runStep, runF, runOf}
+use Rattle.laris.specs.Run.{World, world, goOn, thenRun, thenValue, withRecord, Data, given, refused, stuck, dataFrom, thenData, localsOf, Runs, fewer, inBody, entered, callOf, choiceOf, runIn, runStep, runF, runOf, openCalls}
 use Rattle.equations.proofs.Left.{Within, DataWithin, RanWithin, eval-left, data-left, run-left}
 
 -- what runs the parts matters with fewer steps left only
@@ -77,7 +77,7 @@ module _ (s : List ℕ) (x : Context) (depth l : ℕ) where
 
   free-entered : (b : Record) (zs : List ℤ) (m : ℕ) (st lo : List ℤ) → m ≤ l → entered s x guarded depth b zs m st lo ≡ entered s x (runOf s) depth b zs m st lo
   unfolding entered
-  free-entered b zs m st lo h = same-choice (ltb depth 16) _ _ _ _ (ap (λ w. world (w .ran) (w .st) lo) (free (depth + 1) (inBody x b) (root b) m st (localsOf s b zs) h)) refl
+  free-entered b zs m st lo h = same-choice (ltb depth openCalls) _ _ _ _ (ap (λ w. world (w .ran) (w .st) lo) (free (depth + 1) (inBody x b) (root b) m st (localsOf s b zs) h)) refl
 
   free-call : (r : Record) (st lo : List ℤ) → callOf s x guarded depth r l st lo ≡ callOf s x (runOf s) depth r l st lo
   unfolding callOf

@@ -1,4 +1,5 @@
 pub mod Forms
 pub mod Fields
 pub mod Types
+pub mod Appending
 pub mod Samples

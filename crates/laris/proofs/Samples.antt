@@ -15,11 +15,11 @@ use Rattle.laris.specs.Types.{given, isOf, isStatement, sameType, litera
 use Rattle.laris.specs.Static.{noClocks, nameStatic, sameTypes, reactionStatic, roleStatic, bodyStatic, hasRole, bodiesWith, sameReaction, noTwin, bodiesStatic, chartStatic, constantStatic, constantsStatic, bindingStatic, recordStatic, sectionStatic, static}
 use Rattle.laris.specs.Check.{nodesShape, sectionsShape, shape, checkOf, checkNumber}
 use Rattle.laris.specs.Values.{fits32, isBelow, isZero, membersOf, inType, defaultOf, isBound, bindingOf, chartOf, firstCell}
-use Rattle.laris.specs.State.{cellAt, placeAt, stateLength, wordOf, waiting, setWaiting, telegramIn, telegramOf, putWords, withTelegram, withoutTelegram}
+use Rattle.laris.specs.State.{cellAt, placeAt, stateLength, wordOf, waiting, setWaiting, telegramIn, telegramOf, putWords, withTelegram, appended, withoutTelegram}
 use Rattle.laris.specs.Valid.{dataFit, nameFits, reactionAwaits, zeroWords, runningClock, clockCell, cellFits, elementFits, internalFits, externalFits, telegramFits, headFits, cellsFit, waitingFit, unusedZero, contentFits}
 use Rattle.laris.specs.Eval.{val, andThen, needs, onRecord, intOut, quotient, remainder, dividing, notVal, intVal, binaryVal, literalValue, within, ofType, parameterVal, variableAtCell, readAs, readVal, clockVal, evalIn, evalStep, lowerEval, evalF, evalOf}
 use Rattle.laris.specs.Run.{goOn, thenValue, withRecord, provided, before, nextDatum, dataFrom, thenData, localAt, listFrom, localsOf, append, armed, clockSet, fewer, assigned, assignOf, nameDataOf, externalSendOf, internalSendOf, armOf, clockActOf, entered, callOf, choiceOf, runIn, runStep, runF, runOf}
-use Rattle.laris.specs.Play.{Outcome, ended, stuck, answer, limitOf, bodyFrom, bodyWhere, ranBody, elementBody, eventEnd, defaultCell, defaultCells, elementCells, cellsFrom, defaultState, startNext, startFrom, started, oldestFrom, oldest, taking, brought, reacting, panicking, outside, delivered, deliver, corrupt, inner, thenSlice, fires, ticks, slicedCell, slicedCells, slicedElement, slicedFrom, sliceEnd, slice, restZero, wellFormed, isEvent, happens, ifPassed, startCall, eventCall}
+use Rattle.laris.specs.Play.{Outcome, ended, stuck, answer, limitOf, bodyFrom, bodyWhere, ranBody, elementBody, eventEnd, defaultCell, defaultCells, elementCells, cellsFrom, defaultState, startNext, startFrom, started, oldestFrom, oldest, taking, brought, reacting, panicking, outside, delivered, deliver, corrupt, inner, thenSlice, fires, ticks, slicedCell, slicedCells, slicedElement, slicedFrom, changeEnd, slice, restZero, wellFormed, isEvent, happens, ifPassed, startCall, eventCall}
 use Rattle.laris.specs.declared.Out.{Out}
 use Rattle.laris.specs.declared.Out.the-variants.{Val, Refused}
 use Rattle.laris.specs.declared.Handed.the-variants.{Nothing}
@@ -133,7 +133,7 @@ mod-zero l = refl
 -- ---- start and events, with every definition open
 
 start : List (List ℕ) → Outcome
-unfolding check fits32 isBelow isZero membersOf inType defaultOf isBound bindingOf chartOf firstCell cellAt placeAt stateLength wordOf waiting setWaiting telegramIn telegramOf putWords withTelegram withoutTelegram dataFit nameFits reactionAwaits zeroWords runningClock clockCell cellFits elementFits internalFits externalFits telegramFits headFits cellsFit waitingFit unusedZero contentFits andThen needs onRecord intOut quotient remainder dividing notVal intVal binaryVal literalValue within ofType parameterVal variableAtCell readAs readVal clockVal evalIn evalStep lowerEval evalF evalOf goOn thenValue withRecord provided before nextDatum dataFrom thenData localAt listFrom localsOf append armed clockSet fewer assigned assignOf nameDataOf externalSendOf internalSendOf armOf clockActOf entered callOf choiceOf runIn runStep runF runOf limitOf bodyFrom bodyWhere ranBody elementBody eventEnd defaultCell defaultCells elementCells cellsFrom defaultState startNext startFrom started oldestFrom oldest taking brought reacting panicking outside delivered deliver corrupt inner thenSlice fires ticks slicedCell slicedCells slicedElement slicedFrom sliceEnd slice restZero wellFormed isEvent happens ifPassed startCall eventCall
+unfolding check fits32 isBelow isZero membersOf inType defaultOf isBound bindingOf chartOf firstCell cellAt placeAt stateLength wordOf waiting setWaiting telegramIn telegramOf putWords withTelegram appended withoutTelegram dataFit nameFits reactionAwaits zeroWords runningClock clockCell cellFits elementFits internalFits externalFits telegramFits headFits cellsFit waitingFit unusedZero contentFits andThen needs onRecord intOut quotient remainder dividing notVal intVal binaryVal literalValue within ofType parameterVal variableAtCell readAs readVal clockVal evalIn evalStep lowerEval evalF evalOf goOn thenValue withRecord provided before nextDatum dataFrom thenData localAt listFrom localsOf append armed clockSet fewer assigned assignOf nameDataOf externalSendOf internalSendOf armOf clockActOf entered callOf choiceOf runIn runStep runF runOf limitOf bodyFrom bodyWhere ranBody elementBody eventEnd defaultCell defaultCells elementCells cellsFrom defaultState startNext startFrom started oldestFrom oldest taking brought reacting panicking outside delivered deliver corrupt inner thenSlice fires ticks slicedCell slicedCells slicedElement slicedFrom changeEnd slice restZero wellFormed isEvent happens ifPassed startCall eventCall
 start ss = startCall (sheetOf ss) (replicate (stateLength (sheetOf ss)) (pos 0))
 
 -- a call of event; the state lent for the result is all zeros

@@ -24,7 +24,7 @@ use Rattle.laris.specs.declared.Ran.the-variants.{Done, Refused, Stuck}
 use Rattle.laris.specs.Fields.{holds, numberOr0, typeAt, componentsOf, externalsOf, portsOf}
 use Rattle.laris.specs.Types.{reactsTo, nameRange}
 use Rattle.laris.specs.Values.{isBelow, isZero, defaultOf, isBound, bindingOf, chartOf, firstCell}
-use Rattle.laris.specs.State.{places, cellAt, stateLength, wordOf, waiting, telegramOf, putWords, withTelegram, withoutTelegram}
+use Rattle.laris.specs.State.{places, cellAt, stateLength, wordOf, waiting, telegramOf, putWords, Changed, on, off, appended, withoutTelegram}
 use Rattle.laris.specs.Valid.{dataFit, nameFits, datumOf, isInternal, contentFits}
 use Rattle.laris.specs.Eval.{Context, sameWord}
 use Rattle.laris.specs.Run.{World, localsOf, listFrom, telegram, runOf}
@@ -154,9 +154,14 @@ panicking s old e st = bodyEvent s old e (elementBody s e hasPanic) [] st
 
 -- ---- the five kinds
 
+-- an event that runs no body has no steps; refused, it leaves a copy of the old state
+unfoldable pub changeEnd : List ℤ → Changed → Outcome
+changeEnd old (on st) = ended (answer 0 0 Nothing) st
+changeEnd old (off n) = ended (answer n 0 Nothing) old
+
 -- 1: "external s sends to bound r on port p external name n; appended"
 unfoldable pub outside : List ℕ → List ℤ → Telegram → Outcome
-outside s st t = elim (ltb (waiting st) places) [ true ↦ ended (answer 0 0 Nothing) (withTelegram s st t) | false ↦ ended (answer 8 0 Nothing) st ]
+outside s st t = changeEnd st (appended s st t)
 
 -- 2: "If r is external it is handed outside. If bound, the reaction for its port and name runs, or without one the panic body."
 unfoldable pub delivered : List ℕ → List ℤ → Telegram → List ℤ → Outcome
@@ -182,24 +187,20 @@ inner s st r = taking s st (innerOf r) (λ t st′. reacting s st (natAbs r) (el
 
 -- 5: "clocks in state order, stopped ones passed over"
 
-pub data Sliced : Type 0 where
-  on : List ℤ → Sliced
-  off : ℕ → Sliced
-
-unfoldable pub thenSlice : Sliced → (List ℤ → Sliced) → Sliced
+unfoldable pub thenSlice : Changed → (List ℤ → Changed) → Changed
 thenSlice (on st) K = K st
 thenSlice (off n) K = off n
 
--- the telegram of a clock is appended, then the clock's words are set
-unfoldable pub fires : List ℕ → ℕ → ℕ → List ℤ → List ℤ → Sliced
-fires s e at ws st =
-    elim (ltb (waiting st) places) [
-      | true ↦ on (putWords (withTelegram s st (telegram (pos e) (pos e) (negsuc 0) (natAbs (wordOf st (at + 3))) (wordOf st (at + 4) ∷ wordOf st (at + 5) ∷ wordOf st (at + 6) ∷ wordOf st (at + 7) ∷ []))) at ws)
-      | false ↦ off 8
-    ]
+-- the telegram of a clock of element e
+abbrev pub clockTelegram : ℕ → List ℤ → ℕ → Telegram
+clockTelegram e st at = telegram (pos e) (pos e) (negsuc 0) (natAbs (wordOf st (at + 3))) (wordOf st (at + 4) ∷ wordOf st (at + 5) ∷ wordOf st (at + 6) ∷ wordOf st (at + 7) ∷ [])
+
+-- it is appended, then the clock's words are set
+unfoldable pub fires : List ℕ → ℕ → ℕ → List ℤ → List ℤ → Changed
+fires s e at ws st = thenSlice (appended s st (clockTelegram e st at)) (λ st′. on (putWords st′ at ws))
 
 -- "Timer: plus 1, or 6 at 2,147,483,647. Timeout: at 1 its telegram is appended and it stops, otherwise minus 1. Cycler: at 0 its telegram is appended and value becomes period − 1, otherwise minus 1."
-unfoldable pub ticks : List ℕ → ℕ → ℕ → ℕ → List ℤ → Sliced
+unfoldable pub ticks : List ℕ → ℕ → ℕ → ℕ → List ℤ → Changed
 ticks s e t at st =
     elim (eqb t Timer-type) [
       | true ↦ elim (sameWord (wordOf st (at + 1)) (pos 2147483647)) [ true ↦ off 6 | false ↦ on (set st (at + 1) (wordOf st (at + 1) +ℤ pos 1)) ]
@@ -209,27 +210,23 @@ ticks s e t at st =
       ]
     ]
 
-unfoldable pub slicedCell : List ℕ → ℕ → ℕ → ℕ → List ℤ → Sliced
+unfoldable pub slicedCell : List ℕ → ℕ → ℕ → ℕ → List ℤ → Changed
 slicedCell s e t at st = elim (isClock t and not (isZero (wordOf st at))) [ true ↦ ticks s e t at st | false ↦ on st ]
 
 -- n variables of element e, of declaration d and cell i on
-unfoldable pub slicedCells : List ℕ → ℕ → ℕ → ℕ → ℕ → List ℤ → Sliced
+unfoldable pub slicedCells : List ℕ → ℕ → ℕ → ℕ → ℕ → List ℤ → Changed
 slicedCells s e zero d i st = on st
 slicedCells s e (suc n) d i st = thenSlice (slicedCell s e (typeAt s d) (cellAt i) st) (slicedCells s e n (suc d) (suc i))
 
-unfoldable pub slicedElement : List ℕ → ℕ → List ℤ → Sliced
+unfoldable pub slicedElement : List ℕ → ℕ → List ℤ → Changed
 slicedElement s e st = elim (chartOf s e) [ Present c ↦ slicedCells s e (chartVariables c .count) (chartVariables c .first) (firstCell s e) st | Absent ↦ on st ]
 
-unfoldable pub slicedFrom : List ℕ → ℕ → ℕ → List ℤ → Sliced
+unfoldable pub slicedFrom : List ℕ → ℕ → ℕ → List ℤ → Changed
 slicedFrom s zero e st = on st
 slicedFrom s (suc n) e st = thenSlice (slicedElement s e st) (slicedFrom s n (suc e))
 
-unfoldable pub sliceEnd : List ℤ → Sliced → Outcome
-sliceEnd old (on st) = ended (answer 0 0 Nothing) st
-sliceEnd old (off n) = ended (answer n 0 Nothing) old
-
 unfoldable pub slice : List ℕ → List ℤ → Outcome
-slice s st = sliceEnd st (slicedFrom s (countOf s bindings) (externalsOf s) st)
+slice s st = changeEnd st (slicedFrom s (countOf s bindings) (externalsOf s) st)
 
 -- ---- events: "nine words: kind, s, r, p, n, four data"
 

@@ -25,7 +25,7 @@ use Rattle.laris.specs.Forms.{Form, literal, read, unary, binary, clock,
 use Rattle.laris.specs.Shape.{variablesAt}
 use Rattle.laris.specs.Types.{variableAt, clockOf}
 use Rattle.laris.specs.Values.{isZero, defaultOf}
-use Rattle.laris.specs.State.{places, waiting, putWords, withTelegram}
+use Rattle.laris.specs.State.{on, off, putWords, appended}
 use Rattle.laris.specs.Eval.{Context, variableAtCell, evalOf}
 
 -- how a statement ended, and the state and the body's variables then
@@ -112,9 +112,9 @@ localsOf s b zs = listFrom 16 0 (localAt s b zs)
 
 -- ---- acts
 
--- "128 telegrams wait and one more is appended": 8
+-- "Sends append"
 unfoldable pub append : List ℕ → Telegram → ℕ → List ℤ → List ℤ → World
-append s t l st lo = elim (ltb (waiting st) places) [ true ↦ world (Done l) (withTelegram s st t) lo | false ↦ world (Refused 8 l) st lo ]
+append s t l st lo = elim (appended s st t) [ on st′ ↦ world (Done l) st′ lo | off n ↦ world (Refused n l) st lo ]
 
 -- the words of an armed clock; "period below 1": 7. "Arming a Timeout sets its value to the period, a Cycler's to 0"
 unfoldable pub armed : ℕ → ℕ → ℤ → ℕ → List ℤ → ℕ → List ℤ → List ℤ → World
@@ -127,6 +127,10 @@ armed cell t period name zs l st lo =
 -- "starting a Timer sets 0"; a stopped clock is all zero
 unfoldable pub clockSet : ℕ → ℤ → ℕ → List ℤ → List ℤ → World
 clockSet cell running l st lo = world (Done l) (putWords st cell (running ∷ replicate 7 (pos 0))) lo
+
+-- "up to 16 calls may be open"
+abbrev pub openCalls : ℕ
+openCalls = 16
 
 -- open calls, the context, node, steps left, state, body's variables
 abbrev pub Runs : Type 0
@@ -194,7 +198,7 @@ module _ (s : List ℕ) (x : Context) where
   -- "a 17th open call": 9. The called body has variables of its own
   unfoldable pub entered : Runs → ℕ → Record → List ℤ → ℕ → List ℤ → List ℤ → World
   entered f depth b zs l st lo =
-      elim (ltb depth 16) [
+      elim (ltb depth openCalls) [
         | true ↦ (let w = f (depth + 1) (inBody x b) (root b) l st (localsOf s b zs) in world (w .ran) (w .st) lo)
         | false ↦ world (Refused 9 l) st lo
       ]

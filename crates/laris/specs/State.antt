@@ -54,6 +54,15 @@ putWords st at ws = take at st ++ ws ++ drop (at + length ws) st
 unfoldable pub withTelegram : List ℕ → List ℤ → Telegram → List ℤ
 withTelegram s st t = setWaiting (putWords st (placeAt s (waiting st)) (wordsOf t)) (waiting st + 1)
 
+-- what a change of the state comes to: the new state, or the number of its refusal
+pub data Changed : Type 0 where
+  on : List ℤ → Changed
+  off : ℕ → Changed
+
+-- "128 telegrams wait and one more is appended": 8. Sends, Outside and slices all append by this
+unfoldable pub appended : List ℕ → List ℤ → Telegram → Changed
+appended s st t = elim (ltb (waiting st) places) [ true ↦ on (withTelegram s st t) | false ↦ off 8 ]
+
 -- telegram j "is removed, later ones close up"; "unused ones zero"
 unfoldable pub withoutTelegram : List ℕ → List ℤ → ℕ → List ℤ
 withoutTelegram s st j = setWaiting (take (placeAt s j) st ++ drop (placeAt s (j + 1)) st ++ replicate 8 (pos 0)) (waiting st - 1)

@@ -1,44 +1,40 @@
 -- Every event on a state of the sheet keeps it so, and is not stuck.
-use Prim.Native.Nat.{ℕ, zero, suc, _+_, _-_, _<_, _≤_}
+use Prim.Native.Nat.{ℕ, zero, suc, _+_, _-_, _<_}
 use mathlib.Core.Path.{_≡_, refl, sym, ap, subst, _∙_}
-use mathlib.Core.List.{List, [], _∷_}
-use mathlib.Core.Logic.{_⊎_, inl, inr}
+use mathlib.Core.List.{List}
+use mathlib.Core.Logic.{inl, inr}
 use mathlib.Core.Bool.{Bool, true, false, not}
 use native.Mathlib.Omega.{arith}
 use lib.ListN.{length}
 use lib.Dec.{ltb, leb, eqb}
 use lib.IntN.{ℤ, pos, negsuc, natAbs}
-use lib.Signed.{leZ, ltZ}
 use borrow.Author.Tests.{ltb-true, ltb-false, leb-true, eqb-true, lt-ltb, le-leb, eq-eqb, not-true}
-use Rattle.sheet.specs.declared.Record.{Record}
 use Rattle.sheet.specs.declared.Found.{Found}
 use Rattle.sheet.specs.declared.Found.the-variants.{Present, Absent}
 use Rattle.sheet.specs.All.{_and_}
-use Rattle.sheet.specs.Names.{bindings, external, internal, role, externalReaction, internalReaction, reactionName}
-use Rattle.sheet.specs.Sheet.{countOf}
-use Rattle.sheet.proofs.All.{true-false, not-so, and-first, and-second, and-true, and-false}
+use Rattle.sheet.specs.Names.{external, internal, role, externalReaction, internalReaction}
+use Rattle.sheet.proofs.All.{true-false, and-first, and-second, and-true, and-false}
 use Rattle.laris.specs.declared.Checked.the-variants.{Passed}
 use Rattle.laris.specs.declared.Telegram.{Telegram}
 use Rattle.laris.specs.declared.Handed.the-variants.{Nothing, Outside}
 use Rattle.laris.specs.Fields.{holds, componentsOf, externalsOf, portsOf}
 use Rattle.laris.specs.Shape.{isReaction}
-use Rattle.laris.specs.Types.{nameRange, reactsTo, hasReaction}
+use Rattle.laris.specs.Types.{nameRange, hasReaction}
 use Rattle.laris.specs.Values.{isBelow, isZero, isBound, chartOf}
-use Rattle.laris.specs.State.{places, stateLength, wordOf, waiting, telegramOf, withTelegram, withoutTelegram}
+use Rattle.laris.specs.State.{stateLength, wordOf, waiting, telegramOf, withoutTelegram, Changed, on, off, appended}
 use Rattle.laris.specs.Valid.{dataFit, nameFits, reactionAwaits, datumOf, isInternal, internalFits, externalFits, telegramFits, contentFits, OfSheet}
 use Rattle.laris.specs.Eval.{sameWord}
-use Rattle.laris.specs.Play.{Outcome, ended, stuck, answer, bodyWhere, reactsOn, elementBody, oldestFrom, oldest, goesFrom, innerOf, taking, reacting, panicking, outside, delivered, deliver, corrupt, inner, Sliced, on, off, slicedFrom, sliceEnd, slice, restZero, boundWord, wellFormed, isEvent, telegramOfEvent, happens, turnedDown, ifPassed, eventCall}
+use Rattle.laris.specs.Play.{Outcome, ended, stuck, answer, reactsOn, elementBody, oldestFrom, oldest, goesFrom, innerOf, taking, reacting, panicking, outside, delivered, deliver, corrupt, inner, slice, restZero, boundWord, wellFormed, isEvent, telegramOfEvent, happens, turnedDown, ifPassed, eventCall, changeEnd}
 use Rattle.laris.specs.Check.{checkOf}
 use Rattle.laris.proofs.Fields.{holds-present}
-use Rattle.passed.specs.Places.{InChart, Element}
-use Rattle.passed.proofs.Records.{held, externals-components}
+use Rattle.passed.proofs.Records.{externals-components}
 use Rattle.passed.proofs.Charts.{bound-element, element-chart, where-found, reaction-there}
 use Rattle.states.proofs.Frame.{name-same}
-use Rattle.states.proofs.Parts.{below-abs, below-pos, content-of, of-content, telegram-of}
-use Rattle.states.proofs.Kept.{telegram-kept, removed-kept}
+use Rattle.states.proofs.Parts.{of-content, telegram-of}
+use Rattle.states.proofs.Kept.{removed-kept, ChangeKept, appended-kept}
 use Rattle.states.proofs.Telegrams.{external-fits}
-use Rattle.states.proofs.Ticks.{SliceKept, slice-kept}
-use Rattle.promise.specs.Promise.{OneOf, EventKept}
+use Rattle.states.proofs.Ticks.{slice-kept}
+use Rattle.promise.specs.Promise.{EventKept}
 use Rattle.promise.proofs.Bodies.{body-of, reacting-kept, panicking-kept}
 
 -- ---- words
@@ -95,15 +91,18 @@ module _ (s : List ℕ) (ok : checkOf s ≡ Passed) where
   unfolding telegramFits
   internal-part t h i = rw i at (and-second _ _ (and-second _ _ h))
 
+  -- ---- events that run no body
+
+  change-end : (old : List ℤ) (r : Changed) → ChangeKept s r → EventKept s old (changeEnd old r)
+  unfolding changeEnd
+  change-end old (on st) h = (inl refl, λ z. h, λ n. absurd (n refl))
+  change-end old (off n) h = (inr (omega arith, omega arith), λ z. absurd (omega (arith, h .0)), λ k. refl)
+
   -- ---- 1 Outside
 
   outside-kept : (st : List ℤ) → OfSheet s st → (t : Telegram) → telegramFits s t ≡ true → EventKept s st (outside s st t)
   unfolding outside
-  outside-kept st o t h = go (ltb (waiting st) places) refl
-    where
-      go : (b : Bool) → ltb (waiting st) places ≡ b → EventKept s st (elim b [ true ↦ ended (answer 0 0 Nothing) (withTelegram s st t) | false ↦ ended (answer 8 0 Nothing) st ])
-      go true q = (inl refl, λ z. telegram-kept s st o t (ltb-true _ _ q) h, λ n. absurd (n refl))
-      go false q = (inr (omega arith, omega arith), λ z. absurd (omega arith), λ n. refl)
+  outside-kept st o t h = change-end st _ (appended-kept s st o t h)
 
   -- ---- 2 Deliver
 
@@ -162,15 +161,9 @@ module _ (s : List ℕ) (ok : checkOf s ≡ Passed) where
 
   -- ---- 5 Slice
 
-  slice-end : (old : List ℤ) (r : Sliced) → SliceKept s r → EventKept s old (sliceEnd old r)
-  unfolding sliceEnd
-  slice-end old (on st) h = (inl refl, λ z. h, λ n. absurd (n refl))
-  slice-end old (off n) (inl h) = (inr (omega arith, omega arith), λ z. absurd (omega arith), λ k. refl)
-  slice-end old (off n) (inr h) = (inr (omega arith, omega arith), λ z. absurd (omega arith), λ k. refl)
-
   slice-ends : (st : List ℤ) → OfSheet s st → EventKept s st (slice s st)
   unfolding slice
-  slice-ends st o = slice-end st _ (slice-kept s st o)
+  slice-ends st o = change-end st _ (slice-kept s st o)
 
   -- ---- a well formed event
 

@@ -33,7 +33,7 @@ use Rattle.laris.specs.Values.{fits32, isZero, inType, chartOf, firstCell}
 use Rattle.laris.specs.State.{cellAt}
 use Rattle.laris.specs.Valid.{nameFits, reactionAwaits, OfSheet}
 use Rattle.laris.specs.Eval.{Context, variableAtCell, evalOf}
-use Rattle.laris.specs.Run.{World, world, goOn, thenRun, thenValue, withRecord, provided, given as had, dataFrom, thenData, datum, telegram, localsOf, append, armed, clockSet, inBody, assigned, assignOf, nameDataOf, externalSendOf, internalSendOf, cellType, isVariable, armOf, clockActOf, entered, callOf, choiceOf, runIn, runOf}
+use Rattle.laris.specs.Run.{World, world, goOn, thenRun, thenValue, withRecord, provided, given as had, dataFrom, thenData, datum, telegram, localsOf, append, armed, clockSet, inBody, assigned, assignOf, nameDataOf, externalSendOf, internalSendOf, cellType, isVariable, armOf, clockActOf, entered, callOf, choiceOf, runIn, runOf, openCalls}
 use Rattle.laris.specs.Check.{checkOf}
 use Rattle.laris.proofs.Fields.{holds-present, number-present}
 use Rattle.laris.proofs.Types.{lower-type}
@@ -210,7 +210,7 @@ module _ (s : List ℕ) (ok : checkOf s ≡ Passed) where
         entered-ends b i zs l l′ v q =
             let there : Placed s (inBody x b) = record { element = placed .element; body = i } in
             let w : World = runOf s (depth + 1) (inBody x b) (root b) l st (localsOf s b zs) in
-            either-ends s x (ltb depth 16) _ _
+            either-ends s x (ltb depth openCalls) _ _
             (λ p. back s x (inBody x b) (w .ran) (w .st) lo (w .lo) (ih (depth + 1) (inBody x b) (root b) l 64 st (localsOf s b zs) q there o
             (fresh-locals s ok (inBody x b) there zs (λ i h. let z : 0 + i ≡ i = omega arith in rw z at (v .1 i h)))
             (body-tree s ok _ (x .chart) (placed .element .chart) b i)

@@ -1,13 +1,11 @@
 -- How parts of a statement follow each other: each keeps what `Ends` says.
-use Prim.Native.Nat.{ℕ, zero, suc, _+_, _<_, _≤_}
-use mathlib.Core.Path.{_≡_, refl, sym, ap, subst, _∙_}
-use mathlib.Core.List.{List, []}
+use Prim.Native.Nat.{ℕ, _<_, _≤_}
+use mathlib.Core.Path.{_≡_, refl, sym, ap, subst}
+use mathlib.Core.List.{List}
 use mathlib.Core.Bool.{Bool, true, false}
-use native.Mathlib.Omega.{arith}
-use lib.Dec.{ltb, eqb}
-use lib.IntN.{ℤ, pos}
-use lib.Signed.{leZ}
-use borrow.Author.Tests.{ltb-true, eqb-true, eq-eqb}
+use lib.Dec.{eqb}
+use lib.IntN.{ℤ}
+use borrow.Author.Tests.{eq-eqb}
 use Rattle.sheet.specs.declared.Record.{Record}
 use Rattle.sheet.specs.declared.Range.{Range}
 use Rattle.sheet.specs.declared.Found.{Found}
@@ -19,13 +17,13 @@ use Rattle.laris.specs.declared.Ran.{Ran}
 use Rattle.laris.specs.declared.Ran.the-variants.{Done, Refused, Stuck}
 use Rattle.laris.specs.declared.Telegram.{Telegram}
 use Rattle.laris.specs.Values.{inType}
-use Rattle.laris.specs.State.{places, waiting}
+use Rattle.laris.specs.State.{Changed, on, off, appended}
 use Rattle.laris.specs.Valid.{telegramFits, OfSheet}
 use Rattle.laris.specs.Eval.{Context}
-use Rattle.laris.specs.Run.{World, world, goOn, thenRun, thenValue, withRecord, provided, Data, given, refused, stuck, thenData, append}
+use Rattle.laris.specs.Run.{World, world, goOn, thenValue, withRecord, provided, Data, given, refused, stuck, thenData, append}
 use Rattle.equations.proofs.Left.{Within, DataWithin, RanWithin}
 use Rattle.passed.specs.Places.{Locals}
-use Rattle.states.proofs.Kept.{telegram-kept}
+use Rattle.states.proofs.Kept.{ChangeKept, appended-kept}
 use Rattle.sound.specs.Gives.{Gives, DataGive, Ends, Refusal}
 
 module _ (s : List ℕ) (x : Context) where
@@ -72,10 +70,14 @@ module _ (s : List ℕ) (x : Context) where
   either-ends true w w′ h k = h refl
   either-ends false w w′ h k = k refl
 
-  -- "128 telegrams wait and one more is appended": 8
+  -- "Sends append"
   pub append-ends : (t : Telegram) (l : ℕ) (st lo : List ℤ) → OfSheet s st → Locals s x lo → telegramFits s t ≡ true → Good (append s t l st lo)
   unfolding append
-  append-ends t l st lo o k h = either-ends (ltb (waiting st) places) _ _ (λ q. (telegram-kept s st o t (ltb-true _ _ q) h, k)) (λ q. (omega arith, omega arith))
+  append-ends t l st lo o k h = go (appended s st t) (appended-kept s st o t h)
+    where
+      go : (r : Changed) → ChangeKept s r → Good (elim r as (λ r. World) [ on st′ ↦ world (Done l) st′ lo | off n ↦ world (Refused n l) st lo ])
+      go (on st′) q = (q, k)
+      go (off n) q = q
 
   -- done with a state that is kept, or refused
   pub kept-ends : (b : Bool) (l k : ℕ) (st st′ lo : List ℤ) → OfSheet s ((elim b as (λ b. World) [ true ↦ world (Done l) st′ lo | false ↦ world (Refused k l) st lo ]) .st) → Locals s x lo → Refusal k → Good (elim b [ true ↦ world (Done l) st′ lo | false ↦ world (Refused k l) st lo ])

@@ -26,7 +26,7 @@ use Rattle.laris.specs.declared.Typed.the-variants.{Statement}
 use Rattle.laris.specs.Static.{bodyStatic}
 use Rattle.laris.specs.Values.{inType}
 use Rattle.laris.specs.Eval.{Context, evalOf}
-use Rattle.laris.specs.Run.{World, world, given, datum, localAt, listFrom, localsOf, inBody, entered, runOf}
+use Rattle.laris.specs.Run.{World, world, given, datum, localAt, listFrom, localsOf, inBody, entered, runOf, openCalls}
 use Rattle.equations.proofs.Left.{DataWithin, data-left}
 use Rattle.passed.specs.Places.{Placed, Locals}
 use Rattle.passed.proofs.Records.{present-below, body-shape}
@@ -130,18 +130,18 @@ module _ (s : List ℕ) (b : Record) (few : b .f4 ≤ 4) (zs : List ℤ) where
 
   pub entered-four : (y : Context) (depth l : ℕ) (st lo : List ℤ) → entered s y (runOf s) depth b (fourWords zs) l st lo ≡ entered s y (runOf s) depth b zs l st lo
   unfolding entered
-  entered-four y depth l st lo = ap (λ ls. elim (ltb depth 16) as (λ t. World) [ true ↦ world (runOf s (depth + 1) (inBody y b) (root b) l st ls .ran) (runOf s (depth + 1) (inBody y b) (root b) l st ls .st) lo | false ↦ world (Refused 9 l) st lo ]) locals-four
+  entered-four y depth l st lo = ap (λ ls. elim (ltb depth openCalls) as (λ t. World) [ true ↦ world (runOf s (depth + 1) (inBody y b) (root b) l st ls .ran) (runOf s (depth + 1) (inBody y b) (root b) l st ls .st) lo | false ↦ world (Refused 9 l) st lo ]) locals-four
 
 -- ---- the body entered
 
 module _ (s : List ℕ) (y : Context) (depth : ℕ) (b : Record) (zs : List ℤ) (l : ℕ) (st lo : List ℤ) where
-  pub too-deep : 16 ≤ depth → world (Refused 9 l) st lo ≡ entered s y (runOf s) depth b zs l st lo
+  pub too-deep : openCalls ≤ depth → world (Refused 9 l) st lo ≡ entered s y (runOf s) depth b zs l st lo
   unfolding entered
-  too-deep h = rw (entered, le-ltb depth 16 h) refl
+  too-deep h = rw (entered, le-ltb depth openCalls h) refl
 
-  pub body-runs : depth < 16 → (o : Ran) (st′ lo′ : List ℤ) → world o st′ lo′ ≡ runOf s (depth + 1) (inBody y b) (root b) l st (localsOf s b zs) → world o st′ lo ≡ entered s y (runOf s) depth b zs l st lo
+  pub body-runs : depth < openCalls → (o : Ran) (st′ lo′ : List ℤ) → world o st′ lo′ ≡ runOf s (depth + 1) (inBody y b) (root b) l st (localsOf s b zs) → world o st′ lo ≡ entered s y (runOf s) depth b zs l st lo
   unfolding entered
-  body-runs h o st′ lo′ e = rw (entered, lt-ltb depth 16 h) (ap (λ v. world (v .ran) (v .st) lo) e)
+  body-runs h o st′ lo′ e = rw (entered, lt-ltb depth openCalls h) (ap (λ v. world (v .ran) (v .st) lo) e)
 
 -- the six numbers inside
 abbrev pub innerOf : List ℕ → ℕ → List ℕ

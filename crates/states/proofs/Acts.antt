@@ -4,30 +4,21 @@ use mathlib.Core.Path.{_≡_, refl}
 use mathlib.Core.List.{List, _∷_}
 use mathlib.Core.Bool.{Bool, true, false}
 use lib.ListN.{getD, replicate}
-use lib.Dec.{ltb, eqb}
+use lib.Dec.{eqb}
 use lib.IntN.{ℤ, pos}
 use lib.Signed.{leZ}
-use borrow.Author.Tests.{ltb-true, eqb-true}
+use borrow.Author.Tests.{eqb-true}
 use Rattle.sheet.specs.declared.Record.{Record}
 use Rattle.sheet.specs.declared.Found.the-variants.{Present}
 use Rattle.sheet.specs.Names.{internal, chartVariables, chartVariable, bodyVariable, Timer-type, isClock}
-use Rattle.laris.specs.declared.Telegram.{Telegram}
 use Rattle.laris.specs.Fields.{typeAt}
 use Rattle.laris.specs.Values.{fits32, inType, chartOf, firstCell}
-use Rattle.laris.specs.State.{places, cellAt, waiting}
-use Rattle.laris.specs.Valid.{nameFits, reactionAwaits, telegramFits, OfSheet}
+use Rattle.laris.specs.State.{cellAt}
+use Rattle.laris.specs.Valid.{nameFits, reactionAwaits, OfSheet}
 use Rattle.laris.specs.Eval.{Context, variableAtCell}
-use Rattle.laris.specs.Run.{append, armed, clockSet, assigned}
-use Rattle.states.proofs.Kept.{cell-put, data-set, telegram-kept}
+use Rattle.laris.specs.Run.{armed, clockSet, assigned}
+use Rattle.states.proofs.Kept.{cell-put, data-set}
 use Rattle.states.proofs.Clocks.{stopped-fits, started-fits, armed-fits, armed-value}
-
-pub append-kept : (s : List ℕ) (st : List ℤ) → OfSheet s st → (t : Telegram) → telegramFits s t ≡ true → (l : ℕ) (lo : List ℤ) → OfSheet s (append s t l st lo .st)
-unfolding append
-append-kept s st o t h l lo = go (ltb (waiting st) places) refl
-  where
-    go : (b : Bool) → ltb (waiting st) places ≡ b → OfSheet s (append s t l st lo .st)
-    go true q = rw (append, q) (telegram-kept s st o t (ltb-true (waiting st) places q) h)
-    go false q = rw (append, q) o
 
 -- the variable j of element e
 module _ (s : List ℕ) (st : List ℤ) (o : OfSheet s st) (e : ℕ) (c : Record) (p : chartOf s e ≡ Present c) (j : ℕ) (m : j < chartVariables c .count) where

@@ -12,16 +12,22 @@ use Rattle.sheet.specs.declared.Record.{Record}
 use Rattle.sheet.specs.declared.Found.the-variants.{Present}
 use Rattle.sheet.specs.Names.{chartVariables, isClock}
 use Rattle.sheet.proofs.All.{and-first, and-second, and-true}
+use Rattle.laris.proofs.Appending.{appending}
 use Rattle.laris.specs.declared.Telegram.{Telegram}
 use Rattle.laris.specs.Fields.{typeAt, numberOr0}
 use Rattle.laris.specs.Values.{isBelow, inType, chartOf, firstCell}
-use Rattle.laris.specs.State.{places, cellAt, placeAt, stateLength, wordOf, waiting, telegramOf, putWords, withTelegram, withoutTelegram}
+use Rattle.laris.specs.State.{places, cellAt, placeAt, stateLength, wordOf, waiting, telegramOf, putWords, withTelegram, withoutTelegram, Changed, on, off, appended}
 use Rattle.laris.specs.Valid.{cellFits, telegramFits, headFits, cellsFit, OfSheet}
 use Rattle.laris.proofs.Fields.{number-present}
 use Rattle.states.proofs.Frame.{Same, zero-from, zero-same, telegram-same, cell-same}
 use Rattle.states.proofs.Words.{length-put, word-put-in, word-put-before, word-put-behind, word-set, word-set-other, with-length, with-head, with-waiting, with-before, with-behind, with-last, with-earlier, without-length, without-head, without-waiting, without-before, without-last, without-closed, without-earlier, without-later}
 use Rattle.states.proofs.Elements.{element-cells, cells-apart}
 use Rattle.states.proofs.Parts.{zeros, waiting-limit, head-zero, has-chart, cell-of, telegram-of, unused-of, cells-fit, telegrams-fit, rest-unused}
+
+-- a change leaves a state of the sheet, or is refused
+abbrev pub ChangeKept : List ℕ → Changed → Type 0
+ChangeKept s (on st) = OfSheet s st
+ChangeKept s (off n) = (6 ≤ n) × (n ≤ 10)
 
 -- ---- a cell
 
@@ -123,6 +129,9 @@ telegram-kept s st o t room fits = record {
   ]);
   unused = rest-unused s (withTelegram s st t) (waiting st + 1) (with-waiting s st t (o .whole) room) (λ j m l. zero-same (withTelegram s st t) (placeAt s j) st (placeAt s j) (λ k n. with-behind s st t (o .whole) room (placeAt s j + k) (omega arith)) 0 ∙ unused-of s st o j (omega arith) l);
 }
+
+pub appended-kept : (s : List ℕ) (st : List ℤ) → OfSheet s st → (t : Telegram) → telegramFits s t ≡ true → ChangeKept s (appended s st t)
+appended-kept s st o t fits = appending s st t (ChangeKept s) (λ room. telegram-kept s st o t room fits) (omega arith, omega arith)
 
 pub removed-kept : (s : List ℕ) (st : List ℤ) → OfSheet s st → (j : ℕ) → j < waiting st → OfSheet s (withoutTelegram s st j)
 unfolding placeAt

@@ -1,15 +1,14 @@
--- A time slice leaves a state of the sheet, or is refused with 6 or 8.
+-- A time slice leaves a state of the sheet, or is refused.
 use Prim.Native.Nat.{ℕ, zero, suc, _+_, _<_, _≤_}
 use mathlib.Core.Path.{_≡_, refl, ap, _∙_}
-use mathlib.Core.Logic.{_⊎_, inl, inr}
 use mathlib.Core.List.{List, [], _∷_}
 use mathlib.Core.Bool.{Bool, true, false, not}
 use native.Mathlib.Omega.{arith}
 use lib.ListN.{set, replicate}
-use lib.Dec.{ltb, eqb}
-use lib.IntN.{ℤ, pos, negsuc, natAbs, _+ℤ_, _-ℤ_}
+use lib.Dec.{eqb}
+use lib.IntN.{ℤ, pos, _+ℤ_, _-ℤ_}
 use lib.Signed.{leZ}
-use borrow.Author.Tests.{ltb-true, not-true}
+use borrow.Author.Tests.{not-true}
 use Rattle.sheet.specs.declared.Record.{Record}
 use Rattle.sheet.specs.declared.Found.{Found}
 use Rattle.sheet.specs.declared.Found.the-variants.{Present, Absent}
@@ -17,25 +16,20 @@ use Rattle.sheet.specs.All.{_and_}
 use Rattle.sheet.specs.Names.{bindings, chartVariables, Timer-type, Timeout-type, isClock}
 use Rattle.sheet.specs.Sheet.{countOf}
 use Rattle.sheet.proofs.All.{and-first, and-second}
+use Rattle.laris.proofs.Appending.{appending}
 use Rattle.laris.specs.declared.Telegram.{Telegram}
 use Rattle.laris.specs.Fields.{typeAt, externalsOf}
 use Rattle.laris.specs.Values.{isZero, chartOf, firstCell}
-use Rattle.laris.specs.State.{places, cellAt, placeAt, wordOf, waiting, putWords, withTelegram}
+use Rattle.laris.specs.State.{places, cellAt, placeAt, wordOf, waiting, putWords, withTelegram, Changed, on, off}
 use Rattle.laris.specs.Valid.{OfSheet}
 use Rattle.laris.specs.Eval.{sameWord}
-use Rattle.laris.specs.Run.{telegram}
-use Rattle.laris.specs.Play.{Sliced, on, off, thenSlice, fires, ticks, slicedCell, slicedCells, slicedElement, slicedFrom}
+use Rattle.laris.specs.Play.{thenSlice, fires, ticks, slicedCell, slicedCells, slicedElement, slicedFrom, clockTelegram}
 use Rattle.states.proofs.Words.{with-before}
-use Rattle.states.proofs.Kept.{cell-inside, cell-put, telegram-kept}
+use Rattle.states.proofs.Kept.{cell-inside, cell-put, telegram-kept, ChangeKept}
 use Rattle.states.proofs.Running.{is-running, value-set, put-again}
 use Rattle.states.proofs.Clocks.{timer-value, timer-int, timeout-value, cycler-value, cycler-again, timer-fits, timeout-fits, cycler-fits, value-int, period-int, timer-runs, timeout-runs, cycler-runs, clock-telegram, stopped-fits}
 
--- the state after is of the sheet, or the slice is refused
-abbrev pub SliceKept : List ℕ → Sliced → Type 0
-SliceKept s (on st) = OfSheet s st
-SliceKept s (off n) = (n ≡ 6) ⊎ (n ≡ 8)
-
-pub then-kept : (s : List ℕ) (r : Sliced) (K : List ℤ → Sliced) → SliceKept s r → ((st : List ℤ) → OfSheet s st → SliceKept s (K st)) → SliceKept s (thenSlice r K)
+pub then-kept : (s : List ℕ) (r : Changed) (K : List ℤ → Changed) → ChangeKept s r → ((st : List ℤ) → OfSheet s st → ChangeKept s (K st)) → ChangeKept s (thenSlice r K)
 unfolding thenSlice
 then-kept s (on st) K h k = k st h
 then-kept s (off n) K h k = h
@@ -52,40 +46,33 @@ module _ (s : List ℕ) (st : List ℤ) (o : OfSheet s st) (e : ℕ) (c : Record
     -- a clock's telegram is appended, then its words are set
     module _ (named : eqb kind Timer-type ≡ false) where
       abbrev own : Telegram
-      own = telegram (pos e) (pos e) (negsuc 0) (natAbs (wordOf st (cell + 3))) (wordOf st (cell + 4) ∷ wordOf st (cell + 5) ∷ wordOf st (cell + 6) ∷ wordOf st (cell + 7) ∷ [])
+      own = clockTelegram e st cell
 
-      fires-kept : (ws : List ℤ) → (waiting st < places → OfSheet s (withTelegram s st own) → OfSheet s (putWords (withTelegram s st own) cell ws)) → SliceKept s (fires s e cell ws st)
-      unfolding fires
-      fires-kept ws h = go (ltb (waiting st) places) refl
-        where
-          go : (b : Bool) → ltb (waiting st) places ≡ b → SliceKept s (fires s e cell ws st)
-          go true q =
-              let room : waiting st < places = ltb-true (waiting st) places q in
-              let f : fires s e cell ws st ≡ on (putWords (withTelegram s st own) cell ws) = rw (fires, q) refl in
-              rw f (h room (telegram-kept s st o own room (clock-telegram s e kind c st cell p (is-running s st o e c p j l clock runs) named)))
-          go false q = let f : fires s e cell ws st ≡ off 8 = rw (fires, q) refl in rw f (inr refl)
+      fires-kept : (ws : List ℤ) → (waiting st < places → OfSheet s (withTelegram s st own) → OfSheet s (putWords (withTelegram s st own) cell ws)) → ChangeKept s (fires s e cell ws st)
+      unfolding fires thenSlice
+      fires-kept ws h = appending s st own (λ r. ChangeKept s (thenSlice r (λ st′. on (putWords st′ cell ws)))) (λ room. h room (telegram-kept s st o own room (clock-telegram s e kind c st cell p (is-running s st o e c p j l clock runs) named))) (omega arith, omega arith)
 
       -- the telegram lies behind the cells
       cell-word : waiting st < places → (k : ℕ) → k < 8 → wordOf (withTelegram s st own) (cell + k) ≡ wordOf st (cell + k)
       unfolding placeAt cellAt
       cell-word room k m = with-before s st own (o .whole) room (cell + k) (omega arith) (omega (arith, cell-inside s st o e c p j l))
 
-      stop-kept : SliceKept s (fires s e cell (replicate 8 (pos 0)) st)
+      stop-kept : ChangeKept s (fires s e cell (replicate 8 (pos 0)) st)
       stop-kept = fires-kept (replicate 8 (pos 0)) (λ room o₁. cell-put s (withTelegram s st own) o₁ e c p j l (replicate 8 (pos 0)) refl (stopped-fits s e kind clock))
 
-      again-kept : eqb kind Timeout-type ≡ false → SliceKept s (fires s e cell (pos 1 ∷ (wordOf st (cell + 2) -ℤ pos 1) ∷ []) st)
+      again-kept : eqb kind Timeout-type ≡ false → ChangeKept s (fires s e cell (pos 1 ∷ (wordOf st (cell + 2) -ℤ pos 1) ∷ []) st)
       again-kept q = fires-kept (pos 1 ∷ (wordOf st (cell + 2) -ℤ pos 1) ∷ []) (λ room o₁.
           let f : cell + 0 ≡ cell = omega arith in
           let first : wordOf (withTelegram s st own) cell ≡ wordOf st cell = (rw f at (cell-word room 0 (omega arith))) in
           put-again s (withTelegram s st own) o₁ e c p j l clock (ap isZero first ∙ runs) (wordOf st (cell + 2)) (cell-word room 2 (omega arith))
           (cycler-fits kind _ _ (period-int s e kind st cell (is-running s st o e c p j l clock runs)) named q (cycler-again (wordOf st (cell + 1)) (wordOf st (cell + 2)) (cycler-runs s e kind st cell (is-running s st o e c p j l clock runs) named q))))
 
-    tick-timer : eqb kind Timer-type ≡ true → SliceKept s (ticks s e kind cell st)
+    tick-timer : eqb kind Timer-type ≡ true → ChangeKept s (ticks s e kind cell st)
     unfolding ticks
     tick-timer a = go (sameWord (wordOf st (cell + 1)) (pos 2147483647)) refl
       where
-        go : (b : Bool) → sameWord (wordOf st (cell + 1)) (pos 2147483647) ≡ b → SliceKept s (ticks s e kind cell st)
-        go true q = let f : ticks s e kind cell st ≡ off 6 = rw (ticks, a, q) refl in rw f (inl refl)
+        go : (b : Bool) → sameWord (wordOf st (cell + 1)) (pos 2147483647) ≡ b → ChangeKept s (ticks s e kind cell st)
+        go true q = let f : ticks s e kind cell st ≡ off 6 = rw (ticks, a, q) refl in rw f (omega arith, omega arith)
         go false q =
             let f : ticks s e kind cell st ≡ on (set st (cell + 1) (wordOf st (cell + 1) +ℤ pos 1)) = rw (ticks, a, q) refl in
             let running = is-running s st o e c p j l clock runs in
@@ -93,47 +80,47 @@ module _ (s : List ℕ) (st : List ℤ) (o : OfSheet s st) (e : ℕ) (c : Record
             let from : leZ (pos 0) w ≡ true = timer-runs s e kind st cell running a in
             rw f (value-set s st o e c p j l clock runs _ (timer-fits kind _ _ (period-int s e kind st cell running) a (timer-int w (value-int s e kind st cell running) from q) (timer-value w from)))
 
-    tick-timeout : eqb kind Timer-type ≡ false → eqb kind Timeout-type ≡ true → SliceKept s (ticks s e kind cell st)
+    tick-timeout : eqb kind Timer-type ≡ false → eqb kind Timeout-type ≡ true → ChangeKept s (ticks s e kind cell st)
     unfolding ticks
     tick-timeout a b = go (sameWord (wordOf st (cell + 1)) (pos 1)) refl
       where
-        go : (t : Bool) → sameWord (wordOf st (cell + 1)) (pos 1) ≡ t → SliceKept s (ticks s e kind cell st)
+        go : (t : Bool) → sameWord (wordOf st (cell + 1)) (pos 1) ≡ t → ChangeKept s (ticks s e kind cell st)
         go true q = let f : ticks s e kind cell st ≡ fires s e cell (replicate 8 (pos 0)) st = rw (ticks, a, b, q) refl in rw f (stop-kept a)
         go false q =
             let f : ticks s e kind cell st ≡ on (set st (cell + 1) (wordOf st (cell + 1) -ℤ pos 1)) = rw (ticks, a, b, q) refl in
             rw f (value-set s st o e c p j l clock runs _ (timeout-fits kind _ _ (period-int s e kind st cell (is-running s st o e c p j l clock runs)) a b (timeout-value (wordOf st (cell + 1)) (wordOf st (cell + 2)) (timeout-runs s e kind st cell (is-running s st o e c p j l clock runs) a b) q)))
 
-    tick-cycler : eqb kind Timer-type ≡ false → eqb kind Timeout-type ≡ false → SliceKept s (ticks s e kind cell st)
+    tick-cycler : eqb kind Timer-type ≡ false → eqb kind Timeout-type ≡ false → ChangeKept s (ticks s e kind cell st)
     unfolding ticks
     tick-cycler a b = go (isZero (wordOf st (cell + 1))) refl
       where
-        go : (t : Bool) → isZero (wordOf st (cell + 1)) ≡ t → SliceKept s (ticks s e kind cell st)
+        go : (t : Bool) → isZero (wordOf st (cell + 1)) ≡ t → ChangeKept s (ticks s e kind cell st)
         go true q = let f : ticks s e kind cell st ≡ fires s e cell (pos 1 ∷ (wordOf st (cell + 2) -ℤ pos 1) ∷ []) st = rw (ticks, a, b, q) refl in rw f (again-kept a b)
         go false q =
             let f : ticks s e kind cell st ≡ on (set st (cell + 1) (wordOf st (cell + 1) -ℤ pos 1)) = rw (ticks, a, b, q) refl in
             rw f (value-set s st o e c p j l clock runs _ (cycler-fits kind _ _ (period-int s e kind st cell (is-running s st o e c p j l clock runs)) a b (cycler-value (wordOf st (cell + 1)) (wordOf st (cell + 2)) (cycler-runs s e kind st cell (is-running s st o e c p j l clock runs) a b) q)))
 
-    tick-kept : SliceKept s (ticks s e kind cell st)
+    tick-kept : ChangeKept s (ticks s e kind cell st)
     tick-kept = go (eqb kind Timer-type) (eqb kind Timeout-type) refl refl
       where
-        go : (a b : Bool) → eqb kind Timer-type ≡ a → eqb kind Timeout-type ≡ b → SliceKept s (ticks s e kind cell st)
+        go : (a b : Bool) → eqb kind Timer-type ≡ a → eqb kind Timeout-type ≡ b → ChangeKept s (ticks s e kind cell st)
         go true b p q = tick-timer p
         go false true p q = tick-timeout p q
         go false false p q = tick-cycler p q
 
   -- "stopped ones passed over"
-  cell-sliced : SliceKept s (slicedCell s e kind cell st)
+  cell-sliced : ChangeKept s (slicedCell s e kind cell st)
   unfolding slicedCell
   cell-sliced = go (isClock kind and not (isZero (wordOf st cell))) refl
     where
-      go : (b : Bool) → isClock kind and not (isZero (wordOf st cell)) ≡ b → SliceKept s (slicedCell s e kind cell st)
+      go : (b : Bool) → isClock kind and not (isZero (wordOf st cell)) ≡ b → ChangeKept s (slicedCell s e kind cell st)
       go true q = let f : slicedCell s e kind cell st ≡ ticks s e kind cell st = rw (slicedCell, q) refl in rw f (tick-kept (and-first _ _ q) (not-true _ (and-second _ _ q)))
       go false q = let f : slicedCell s e kind cell st ≡ on st = rw (slicedCell, q) refl in rw f o
 
 -- ---- cells, elements, all
 
 module _ (s : List ℕ) where
-  cells-sliced : (e : ℕ) (c : Record) → chartOf s e ≡ Present c → (n j : ℕ) → j + n ≤ chartVariables c .count → (st : List ℤ) → OfSheet s st → SliceKept s (slicedCells s e n (chartVariables c .first + j) (firstCell s e + j) st)
+  cells-sliced : (e : ℕ) (c : Record) → chartOf s e ≡ Present c → (n j : ℕ) → j + n ≤ chartVariables c .count → (st : List ℤ) → OfSheet s st → ChangeKept s (slicedCells s e n (chartVariables c .first + j) (firstCell s e + j) st)
   unfolding slicedCells
   cells-sliced e c p zero j l st o = o
   cells-sliced e c p (suc n) j l st o =
@@ -142,11 +129,11 @@ module _ (s : List ℕ) where
       let i : suc (firstCell s e + j) ≡ firstCell s e + suc j = omega arith in
       rw (d, i) (cells-sliced e c p n (suc j) (omega arith) st′ o′))
 
-  element-sliced : (e : ℕ) (st : List ℤ) → OfSheet s st → SliceKept s (slicedElement s e st)
+  element-sliced : (e : ℕ) (st : List ℤ) → OfSheet s st → ChangeKept s (slicedElement s e st)
   unfolding slicedElement
   element-sliced e st o = go (chartOf s e) refl
     where
-      go : (f : Found) → chartOf s e ≡ f → SliceKept s (slicedElement s e st)
+      go : (f : Found) → chartOf s e ≡ f → ChangeKept s (slicedElement s e st)
       go (Present c) p =
           let f : slicedElement s e st ≡ slicedCells s e (chartVariables c .count) (chartVariables c .first) (firstCell s e) st = rw (slicedElement, p) refl in
           let d : chartVariables c .first + 0 ≡ chartVariables c .first = omega arith in
@@ -154,10 +141,10 @@ module _ (s : List ℕ) where
           rw f (rw (d, i) at (cells-sliced e c p (chartVariables c .count) 0 (omega arith) st o))
       go Absent p = let f : slicedElement s e st ≡ on st = rw (slicedElement, p) refl in rw f o
 
-  elements-sliced : (n e : ℕ) (st : List ℤ) → OfSheet s st → SliceKept s (slicedFrom s n e st)
+  elements-sliced : (n e : ℕ) (st : List ℤ) → OfSheet s st → ChangeKept s (slicedFrom s n e st)
   unfolding slicedFrom
   elements-sliced zero e st o = o
   elements-sliced (suc n) e st o = then-kept s _ _ (element-sliced e st o) (elements-sliced n (suc e))
 
-pub slice-kept : (s : List ℕ) (st : List ℤ) → OfSheet s st → SliceKept s (slicedFrom s (countOf s bindings) (externalsOf s) st)
+pub slice-kept : (s : List ℕ) (st : List ℤ) → OfSheet s st → ChangeKept s (slicedFrom s (countOf s bindings) (externalsOf s) st)
 slice-kept s st o = elements-sliced s (countOf s bindings) (externalsOf s) st o

@@ -79,9 +79,9 @@ place-fits st l n j at e b q = omega (arith, waiting-limit st l, l .long)
 
 -- ---- a telegram appended
 
-pub appended : (s : List ℕ) (st : List ℤ) (t : Telegram) (n at : ℕ) → n ≡ waiting st → at ≡ placeAt s n → set (putWords st at (wordsOf t)) 0 (pos (n + 1)) ≡ withTelegram s st t
+pub last-put : (s : List ℕ) (st : List ℤ) (t : Telegram) (n at : ℕ) → n ≡ waiting st → at ≡ placeAt s n → set (putWords st at (wordsOf t)) 0 (pos (n + 1)) ≡ withTelegram s st t
 unfolding withTelegram setWaiting
-appended s st t n at e q = rw (q, e) refl
+last-put s st t n at e q = rw (q, e) refl
 
 -- ---- tests of words, which go by the bits
 

@@ -6,10 +6,11 @@ ghost use mathlib.Core.List.{List, [], _∷_};
 ghost use Prim.Native.Nat.{ℕ, _+_, _*_, _-_, _<_, _≤_};
 ghost use lib.IntN.{pos};
 ghost use lib.ListN.{length, set, replicate, getD};
-ghost use Rattle.laris.specs.State.{placeAt, stateLength, waiting, telegramIn, telegramOf, putWords, withTelegram, withoutTelegram};
+ghost use Rattle.laris.specs.State.{placeAt, stateLength, waiting, telegramIn, telegramOf, putWords, withTelegram, appended, withoutTelegram};
 ghost use Rattle.laris.specs.Valid.{OfSheet};
 ghost use Rattle.laris.specs.Play.{goesFrom, innerOf, oldest};
 ghost use Rattle.store.specs.Laid.{Laid};
+ghost use Rattle.store.specs.Changed.{changedTo};
 
 // One word.
 pub fn set_word(st: &mut [i32], at: usize, z: i32)
@@ -87,8 +88,8 @@ pub fn put_words(
     st[at + 7] = w7;
 }
 
-// "Sends append"
-pub fn append(st: &mut [i32], t: Telegram)
+// A telegram after the last one that waits.
+fn put_last(st: &mut [i32], t: Telegram)
     requires { ⌜ Laid (now st) × (waiting (now st) < 128) ⌝ }
     ensures { λ _. ⌜ ((s : List ℕ) → length (now (st .entry)) ≡ stateLength s → now (st .exit) ≡ withTelegram s (now (st .entry)) t) ⌝ }
 {
@@ -107,6 +108,18 @@ pub fn append(st: &mut [i32], t: Telegram)
         t.d3,
     );
     set_word(st, 0, (n + 1) as i32);
+}
+
+// "128 telegrams wait and one more is appended": 8, and the state stays as it was. Otherwise 0.
+pub fn append(st: &mut [i32], t: Telegram) -> u8
+    requires { ⌜ Laid (now st) ⌝ }
+    ensures { λ n. ⌜ ((s : List ℕ) → length (now (st .entry)) ≡ stateLength s → appended s (now (st .entry)) t ≡ changedTo n (now (st .exit))) × ((n ≡ 0 → ⊥) → now (st .exit) ≡ now (st .entry)) ⌝ }
+{
+    if 128 <= waiting_count(st) {
+        return 8;
+    }
+    put_last(st, t);
+    0
 }
 
 // A clock's words.

@@ -1,44 +1,29 @@
 -- The kinds of event, as an engine plays them.
-use Prim.Native.Nat.{ℕ, zero, suc, _+_, _-_, _<_, _≤_}
-use mathlib.Core.Path.{_≡_, refl, sym, ap, subst, _∙_, fun-ext}
+use Prim.Native.Nat.{ℕ, zero, suc, _-_, _<_, _≤_}
+use mathlib.Core.Path.{_≡_, refl, ap, _∙_, fun-ext}
 use mathlib.Core.List.{List, [], _∷_}
 use mathlib.Core.Bool.{Bool, true, false}
-use native.Mathlib.Omega.{arith}
-use lib.ListN.{length, getD}
-use lib.Dec.{ltb, leb, eqb}
-use lib.IntN.{ℤ, pos, negsuc, natAbs}
+use lib.ListN.{length}
+use lib.Dec.{ltb, eqb}
+use lib.IntN.{ℤ, pos, natAbs}
 use borrow.Author.Tests.{lt-ltb, le-ltb, eq-eqb, ne-eqb}
 use Rattle.sheet.specs.declared.Record.{Record}
-use Rattle.sheet.specs.declared.Found.{Found}
 use Rattle.sheet.specs.declared.Found.the-variants.{Present, Absent}
 use Rattle.sheet.specs.All.{_and_}
-use Rattle.sheet.specs.Names.{bodies, chartBodies, bodyParameters, root}
-use Rattle.sheet.specs.Sheet.{recordOf}
-use Rattle.sheet.proofs.All.{and-true, true-and, false-and, and-false}
-use Rattle.laris.specs.declared.Checked.{Checked}
+use Rattle.sheet.specs.Names.{bodies, bodyParameters, root}
+use Rattle.sheet.proofs.All.{and-true, false-and, and-false}
 use Rattle.laris.specs.declared.Checked.the-variants.{Passed, Shape, Static}
 use Rattle.laris.specs.declared.Telegram.{Telegram}
 use Rattle.laris.specs.declared.Handed.the-variants.{Nothing, Outside}
 use Rattle.laris.specs.Fields.{holds, externalsOf}
 use Rattle.laris.specs.Values.{isBelow, bindingOf, chartOf}
-use Rattle.laris.specs.State.{places, stateLength, wordOf, waiting, telegramOf, withTelegram, withoutTelegram}
-use Rattle.laris.specs.Valid.{contentFits, OfSheet}
+use Rattle.laris.specs.State.{stateLength, wordOf, waiting, telegramOf, withoutTelegram}
+use Rattle.laris.specs.Valid.{contentFits}
 use Rattle.laris.specs.Eval.{sameWord}
 use Rattle.laris.specs.declared.Ran.the-variants.{Stuck}
-use Rattle.laris.specs.Eval.{Context}
 use Rattle.laris.specs.Run.{World, runOf, datum, localAt, listFrom, localsOf}
-use Rattle.laris.specs.Play.{Outcome, ended, stuck, answer, limitOf, bodyWhere, hasPanic, isInitial, reactsOn, ranBody, elementBody, eventEnd, bodyEvent, oldest, goesFrom, innerOf, taking, brought, reacting, panicking, outside, delivered, deliver, corrupt, inner, isEvent, telegramOfEvent, slice, happens, turnedDown, ifPassed, started, startCall, eventCall}
+use Rattle.laris.specs.Play.{Outcome, ended, answer, limitOf, bodyWhere, hasPanic, isInitial, reactsOn, ranBody, elementBody, eventEnd, bodyEvent, oldest, taking, brought, reacting, panicking, outside, delivered, deliver, corrupt, inner, isEvent, telegramOfEvent, slice, happens, turnedDown, ifPassed, started, startCall, eventCall}
 use Rattle.laris.specs.Check.{checkOf}
-
--- ---- 1 Outside
-
-pub outside-room : (s : List ℕ) (st : List ℤ) (t : Telegram) → waiting st < places → outside s st t ≡ ended (answer 0 0 Nothing) (withTelegram s st t)
-unfolding outside
-outside-room s st t h = rw (outside, lt-ltb (waiting st) places h) refl
-
-pub outside-full : (s : List ℕ) (st : List ℤ) (t : Telegram) → places ≤ waiting st → outside s st t ≡ ended (answer 8 0 Nothing) st
-unfolding outside
-outside-full s st t h = rw (outside, le-ltb (waiting st) places h) refl
 
 -- ---- the oldest telegram that meets a test
 

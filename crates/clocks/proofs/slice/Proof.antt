@@ -9,7 +9,7 @@ use Rattle.laris.specs.State.{cellAt}
 use Rattle.laris.specs.Play.{slicedFrom}
 use Rattle.passed.proofs.Records.{variables-limit, components-limit, elements-bound}
 use Rattle.defaults.proofs.State.{bound-there, bound-chart, bound-inside, bound-next}
-use Rattle.clocks.specs.Sliced.{slicedTo}
+use Rattle.store.specs.Changed.{changedTo}
 use Rattle.clocks.proofs.Laws.{then-refused, then-done, goes-on}
 use Rattle.clocks.proofs.Onward.{After, after-first, from-first, from-here, from-none, element-now, element-next}
 use Rattle.clocks.proofs.slice.Statement.{statement}
@@ -83,7 +83,7 @@ same-length-3 : tie.Need-same-length-3 Inv-loop μ-loop
 same-length-3 c = c .before .loop .inv .4 .whole ∙ sym (c .before .before .before .before .before .pre .2 .whole)
 
 returns-3 : tie.Need-returns-3 Inv-loop μ-loop
-unfolding slicedTo
+unfolding changedTo
 returns-3 c = let l = c .loop-test .left in let n = c .before .loop .inv .2 in c .before .loop .inv .5 ∙ from-none _ _ _ _ _ (omega arith)
 
 pub slice-spec : {M : Type 1} → statement M

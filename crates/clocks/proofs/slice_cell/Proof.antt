@@ -6,7 +6,7 @@ use lib.IntN.{pos}
 use borrow.Author.Needs.{needs}
 use Rattle.laris.specs.State.{cellAt, placeAt, stateLength, wordOf}
 use Rattle.laris.specs.Play.{ticks}
-use Rattle.clocks.specs.Sliced.{slicedTo}
+use Rattle.store.specs.Changed.{changedTo}
 use Rattle.clocks.proofs.Laws.{bits-zero, bits-some, cell-stopped, cell-data, cell-ticks, no-clock, cell-runs, is-clock}
 use Rattle.clocks.proofs.slice_cell.Statement.{statement}
 use Rattle.clocks.proofs.slice_cell.Tie as tie
@@ -25,7 +25,7 @@ unfolding placeAt stateLength
 slice-copy-out-if1 c = let l = c .before .pre .3 .inside in let m = c .before .pre .3 .whole in omega arith
 
 returns : tie.Need-returns
-unfolding slicedTo cellAt wordOf
+unfolding changedTo cellAt wordOf
 returns c = cell-stopped _ _ _ _ _ (bits-zero (getD (c .before .before .before .args .st .now) (8 + 8 * c .before .before .before .args .i) (pos 0)) (c .before .if12 .given) (c .if1 .taken))
 
 type-at-requires : tie.Need-type-at-requires
@@ -65,7 +65,7 @@ unfolding cellAt wordOf
 returns-4 c = cell-ticks _ _ _ _ _ (is-clock 6 _ (c .before .before .before .before .before .before .type-at .ensures) (c .before .before .before .if4 .taken) (omega arith) (omega arith)) (bits-some (getD (c .before .before .before .before .before .before .before .before .before .before .args .st .now) (8 + 8 * c .before .before .before .before .before .before .before .before .before .before .args .i) (pos 0)) (c .before .before .before .before .before .before .before .before .if12 .given) (c .before .before .before .before .before .before .before .if1 .left)) ∙ ap (λ k. ticks (c .before .before .before .before .before .before .before .before .before .before .args .sheet .now) (c .before .before .before .before .before .before .before .before .before .before .args .e) k (8 + 8 * c .before .before .before .before .before .before .before .before .before .before .args .i) (c .before .before .before .before .before .before .before .before .before .before .args .st .now)) (sym (c .before .before .before .before .before .before .type-at .ensures) ∙ c .before .before .before .if4 .taken) ∙ c .before .tick-cycler .ensures _ (c .before .before .before .before .before .before .before .before .before .before .pre .3 .whole)
 
 returns-5 : tie.Need-returns-5
-unfolding slicedTo
+unfolding changedTo
 returns-5 c = cell-data _ _ _ _ _ (no-clock _ (λ q. c .before .before .if2 .left (c .before .before .before .type-at .ensures ∙ q)) (λ q. c .before .if3 .left (c .before .before .before .type-at .ensures ∙ q)) (λ q. c .if4 .left (c .before .before .before .type-at .ensures ∙ q)))
 
 pub slice-cell-spec : {M : Type 1} → statement M

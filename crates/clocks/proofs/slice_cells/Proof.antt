@@ -4,7 +4,7 @@ use mathlib.Core.Path.{_≡_, sym, _∙_}
 use borrow.Author.Needs.{needs}
 use Rattle.laris.specs.State.{cellAt}
 use Rattle.laris.specs.Play.{slicedCells}
-use Rattle.clocks.specs.Sliced.{slicedTo}
+use Rattle.store.specs.Changed.{changedTo}
 use Rattle.clocks.proofs.Laws.{then-refused, then-done, goes-on}
 use Rattle.clocks.proofs.Onward.{After, pass-first, pass-next, cells-first, cells-here, cells-none, cell-now}
 use Rattle.clocks.proofs.slice_cells.Statement.{statement}
@@ -53,7 +53,7 @@ same-length-2 : tie.Need-same-length-2 Inv-loop μ-loop
 same-length-2 c = c .before .loop .inv .1 .whole ∙ sym (c .before .before .before .before .pre .3 .whole)
 
 returns-2 : tie.Need-returns-2 Inv-loop μ-loop
-unfolding slicedTo
+unfolding changedTo
 returns-2 c = c .before .loop .inv .2 ∙ cells-none _ _ _ _ _ _ _ (c .loop-test .left)
 
 pub slice-cells-spec : {M : Type 1} → statement M

@@ -5,9 +5,9 @@ use lib.ListN.{getD, set}
 use lib.IntN.{ℤ, pos, _-ℤ_}
 use borrow.Author.Needs.{needs}
 use Rattle.laris.specs.State.{wordOf}
-use Rattle.laris.specs.Play.{on}
+use Rattle.laris.specs.State.{on}
 use Rattle.store.proofs.Laws.{given}
-use Rattle.clocks.specs.Sliced.{slicedTo}
+use Rattle.store.specs.Changed.{changedTo}
 use Rattle.clocks.proofs.Laws.{last-int, one-less, bits-zero, bits-some, then-refused, then-done, goes-on, fired-word, put-two, cycler-goes, cycler-fires}
 use Rattle.clocks.proofs.tick_cycler.Statement.{statement}
 use Rattle.clocks.proofs.tick_cycler.Tie as tie
@@ -38,7 +38,7 @@ same-length : tie.Need-same-length
 same-length c = search needs
 
 returns : tie.Need-returns
-unfolding slicedTo wordOf
+unfolding changedTo wordOf
 returns c = λ s e. let w = getD (c .before .before .args .st .now) (c .before .before .args .at + 1) (pos 0) in cycler-goes s _ _ _ (bits-some w (c .before .value .given) (c .if1 .taken)) ∙ ap (λ (z : ℤ). on (set (c .before .before .args .st .now) (c .before .before .args .at + 1) z)) (sym (one-less w (c .before .value .given) (c .before .before .pre .0 .value)))
 
 add-period : tie.Need-add-period
@@ -74,7 +74,7 @@ same-length-3 : tie.Need-same-length-3
 same-length-3 c = search needs
 
 returns-3 : tie.Need-returns-3
-unfolding slicedTo wordOf
+unfolding changedTo wordOf
 returns-3 c = λ s e.
     let w = getD (c .before .before .before .before .before .before .before .before .before .before .args .st .now) (c .before .before .before .before .before .before .before .before .before .before .args .at + 2) (pos 0) in
     let f = fired-word s _ _ _ e (c .before .before .before .before .before .before .before .before .before .before .pre .0) _ (goes-on _ _ _ (c .before .before .before .before .before .fire .ensures s e) (c .before .before .before .if2 .left)) in

@@ -5,9 +5,9 @@ use lib.ListN.{getD, set}
 use lib.IntN.{ℤ, pos}
 use borrow.Author.Needs.{needs}
 use Rattle.laris.specs.State.{wordOf}
-use Rattle.laris.specs.Play.{on}
+use Rattle.laris.specs.State.{on}
 use Rattle.store.proofs.Laws.{given, bits-same, bits-differ}
-use Rattle.clocks.specs.Sliced.{slicedTo}
+use Rattle.store.specs.Changed.{changedTo}
 use Rattle.clocks.proofs.Laws.{last-int, one-less, then-refused, then-done, timeout-goes, timeout-fires}
 use Rattle.clocks.proofs.tick_timeout.Statement.{statement}
 use Rattle.clocks.proofs.tick_timeout.Tie as tie
@@ -38,7 +38,7 @@ same-length : tie.Need-same-length
 same-length c = search needs
 
 returns : tie.Need-returns
-unfolding slicedTo wordOf
+unfolding changedTo wordOf
 returns c = λ s e. let w = getD (c .before .before .args .st .now) (c .before .before .args .at + 1) (pos 0) in let q = bits-differ {z = w} {w = pos 1} (record { sfits = c .before .value .given }) (record { sfits = omega arith }) (c .if1 .taken) in timeout-goes s _ _ _ q ∙ ap (λ (z : ℤ). on (set (c .before .before .args .st .now) (c .before .before .args .at + 1) z)) (sym (one-less w (c .before .value .given) (c .before .before .pre .0 .value)))
 
 fire-requires : tie.Need-fire-requires
@@ -58,7 +58,7 @@ same-length-3 : tie.Need-same-length-3
 same-length-3 c = search needs
 
 returns-3 : tie.Need-returns-3
-unfolding slicedTo wordOf
+unfolding changedTo wordOf
 returns-3 c = λ s e. timeout-fires s _ _ _ (bits-same {z = getD (c .before .before .before .before .before .before .before .before .before .args .st .now) (c .before .before .before .before .before .before .before .before .before .args .at + 1) (pos 0)} {w = pos 1} (record { sfits = c .before .before .before .before .before .before .before .before .value .given }) (record { sfits = omega arith }) (c .before .before .before .before .before .before .before .if1 .left)) ∙ then-done _ _ _ _ (c .before .before .before .before .before .fire .ensures s e) (c .before .before .before .if2 .left) ∙ ap on (sym (c .before .set-clock .ensures))
 
 pub tick-timeout-spec : {M : Type 1} → statement M

@@ -5,7 +5,7 @@ use lib.IntN.{pos, _+ℤ_}
 use borrow.Author.Needs.{needs}
 use Rattle.laris.specs.State.{wordOf}
 use Rattle.store.proofs.Laws.{given, bits-same, bits-differ}
-use Rattle.clocks.specs.Sliced.{slicedTo}
+use Rattle.store.specs.Changed.{changedTo}
 use Rattle.clocks.proofs.Laws.{next-int, timer-last, timer-goes}
 use Rattle.clocks.proofs.tick_timer.Statement.{statement}
 use Rattle.clocks.proofs.tick_timer.Tie as tie
@@ -20,7 +20,7 @@ slice-copy-out-value : tie.Need-slice-copy-out-value
 slice-copy-out-value c = search needs
 
 returns : tie.Need-returns
-unfolding slicedTo wordOf
+unfolding changedTo wordOf
 returns c = λ s e. timer-last s e _ _ (bits-same {z = getD (c .before .before .args .st .now) (c .before .before .args .at + 1) (pos 0)} {w = pos 2147483647} (record { sfits = c .before .value .given }) (record { sfits = omega arith }) (c .if1 .taken))
 
 add-st : tie.Need-add-st
@@ -40,7 +40,7 @@ same-length : tie.Need-same-length
 same-length c = search needs
 
 returns-2 : tie.Need-returns-2
-unfolding slicedTo wordOf
+unfolding changedTo wordOf
 returns-2 c = λ s e. let w = getD (c .before .before .args .st .now) (c .before .before .args .at + 1) (pos 0) in let q = bits-differ {z = w} {w = pos 2147483647} (record { sfits = c .before .value .given }) (record { sfits = omega arith }) (c .if1 .left) in rw (given w (c .before .value .given), given (w +ℤ pos 1) (next-int w (c .before .value .given) (c .before .before .pre .value) q)) (timer-goes s e _ _ q)
 
 pub tick-timer-spec : {M : Type 1} → statement M

@@ -1,52 +1,33 @@
-use Prim.Native.Nat.{_+_}
-use mathlib.Core.Path.{_≡_, ap, _∙_}
+use mathlib.Core.Path.{refl, sym, ap, _∙_}
 use native.Mathlib.Omega.{arith}
-use lib.IntN.{pos}
-use lib.ListN.{set}
 use borrow.Author.Needs.{needs}
-use Rattle.laris.specs.State.{wordsOf, putWords}
-use Rattle.store.proofs.Laws.{given, appended}
+use Rattle.laris.specs.State.{on}
+use Rattle.laris.proofs.Appending.{appended-room, appended-full}
+use Rattle.store.specs.Changed.{changedTo}
 use Rattle.store.proofs.append.Statement.{statement}
 use Rattle.store.proofs.append.Tie as tie
 
 waiting-count-requires : tie.Need-waiting-count-requires
 waiting-count-requires c κs = search needs
 
-place-requires : tie.Need-place-requires
-place-requires c κs = (c .before .before .before .pre .0 .long, (let e = c .before .waiting-count .ensures in let l = c .before .before .before .pre .1 in omega arith))
-
-put-words-requires : tie.Need-put-words-requires
-put-words-requires c κs = let e = c .before .before .before .before .before .before .before .before .before .before .before .waiting-count .ensures in let l = c .before .before .before .before .before .before .before .before .before .before .before .before .before .pre .1 in let q = c .before .before .before .before .before .before .before .before .before .place .ensures .0 in let m = c .before .before .before .before .before .before .before .before .before .before .before .before .before .pre .0 .long in omega arith
-
-add-set-word : tie.Need-add-set-word
-add-set-word c = let e = c .before .before .before .before .before .before .before .before .before .before .before .before .before .before .waiting-count .ensures in let l = c .before .before .before .before .before .before .before .before .before .before .before .before .before .before .before .before .pre .1 in record { fits = omega arith }
-
-cast-set-word : tie.Need-cast-set-word
-cast-set-word c = let e = c .before .before .before .before .before .before .before .before .before .before .before .before .before .before .waiting-count .ensures in let l = c .before .before .before .before .before .before .before .before .before .before .before .before .before .before .before .before .pre .1 in record { sfits = omega arith }
-
-set-word-requires : tie.Need-set-word-requires
-set-word-requires c κs = let q = c .before .st .given in let m = c .before .before .before .before .before .before .before .before .before .before .before .before .before .before .before .before .pre .0 .long in omega arith
-
 same-length : tie.Need-same-length
 same-length c = search needs
 
 returns : tie.Need-returns
-returns c = λ s e.
-    let t = c .before .before .before .before .before .before .before .before .before .before .before .before .before .before .before .before .before .before .args .t in
-    let told = c .before .before .before .before .before .struct-told8 .given in
-    let p : c .before .before .before .before .put-words .last .0 ≡ putWords (c .before .before .before .before .before .before .before .before .before .before .before .before .before .before .before .before .before .before .args .st .now) (c .before .before .before .before .before .before .before .before .before .before .before .before .before .before .place .result) (wordsOf t) = rw (given (t .sender) (told .0 .1), given (t .receiver) (told .1 .0 .1), given (t .port) (told .1 .1 .0 .1), given (t .name) (told .1 .1 .1 .0 .1), given (t .d0) (told .1 .1 .1 .1 .0 .1), given (t .d1) (told .1 .1 .1 .1 .1 .0 .1), given (t .d2) (told .1 .1 .1 .1 .1 .1 .0 .1), given (t .d3) (told .1 .1 .1 .1 .1 .1 .1 .0 .1)) at (c .before .before .before .before .put-words .ensures) in
-    let n = c .before .before .before .before .before .before .before .before .before .before .before .before .before .before .before .before .waiting-count .ensures in let l = c .before .before .before .before .before .before .before .before .before .before .before .before .before .before .before .before .before .before .pre .1 in
-    c .before .set-word .ensures ∙ ap (λ z. set (c .before .before .before .before .put-words .last .0) 0 z) (given (pos (c .before .before .before .before .before .before .before .before .before .before .before .before .before .before .before .before .waiting-count .result + 1)) (omega arith)) ∙ ap (λ l. set l 0 (pos (c .before .before .before .before .before .before .before .before .before .before .before .before .before .before .before .before .waiting-count .result + 1))) p ∙ appended s _ t _ _ n (c .before .before .before .before .before .before .before .before .before .before .before .before .before .before .place .ensures .1 s e)
+unfolding changedTo
+returns c = (λ s e. sym (appended-full s _ _ (let q = c .before .waiting-count .ensures in let h = c .if1 .taken in omega arith)), λ n. refl)
+
+put-last-requires : tie.Need-put-last-requires
+put-last-requires c κs = search needs
+
+same-length-2 : tie.Need-same-length-2
+same-length-2 c = search needs
+
+returns-2 : tie.Need-returns-2
+unfolding changedTo
+returns-2 c = (λ s e. sym (ap on (c .before .put-last .ensures s e) ∙ appended-room s _ _ (let q = c .before .before .before .before .waiting-count .ensures in let h = c .before .before .before .if1 .left in omega arith)), λ n. absurd (n refl))
 
 pub append-spec : {M : Type 1} → statement M
 append-spec =
     tie.close
-    (tie.spec
-    waiting-count-requires
-    place-requires
-    put-words-requires
-    add-set-word
-    cast-set-word
-    set-word-requires
-    same-length
-    returns)
+    (tie.spec waiting-count-requires same-length returns put-last-requires same-length-2 returns-2)
