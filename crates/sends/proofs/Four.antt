@@ -22,7 +22,7 @@ use Rattle.ints.specs.Work.{workOf}
 use Rattle.sound.specs.Gives.{Gives}
 use Rattle.ready.specs.Ready.{contextAt, HasData}
 use Rattle.ready.specs.Words.{ranData, fourWords}
-use Rattle.acts.specs.Sent.{dataAt, wordAt}
+use Rattle.sends.specs.Sent.{dataAt, wordAt}
 
 -- ---- words in front of what is to come
 

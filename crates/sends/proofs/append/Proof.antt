@@ -1,9 +1,9 @@
 use mathlib.Core.Path.{_∙_, ap}
 use native.Mathlib.Omega.{arith}
 use borrow.Author.Needs.{needs}
-use Rattle.acts.proofs.Acts.{append-done, append-refused}
-use Rattle.acts.proofs.append.Statement.{statement}
-use Rattle.acts.proofs.append.Tie as tie
+use Rattle.sends.proofs.Sends.{append-done, append-refused}
+use Rattle.sends.proofs.append.Statement.{statement}
+use Rattle.sends.proofs.append.Tie as tie
 
 append-requires : tie.Need-append-requires
 append-requires c κs = search needs

@@ -3,9 +3,9 @@ use borrow.Author.Needs.{needs}
 use Rattle.ints.proofs.Range.{back}
 use Rattle.store.proofs.Laws.{given}
 use Rattle.ready.proofs.Statements.{port-operand, external-data}
-use Rattle.acts.proofs.Acts.{on-word, on-refused, on-stuck}
-use Rattle.acts.proofs.send_to.Statement.{statement}
-use Rattle.acts.proofs.send_to.Tie as tie
+use Rattle.sends.proofs.Sends.{on-word, on-refused, on-stuck}
+use Rattle.sends.proofs.send_to.Statement.{statement}
+use Rattle.sends.proofs.send_to.Tie as tie
 
 cast-eval : tie.Need-cast-eval
 cast-eval c = search needs

@@ -6,9 +6,9 @@ use borrow.Author.Needs.{needs}
 use Rattle.store.proofs.Laws.{given}
 use Rattle.ready.specs.Ready.{contextAt}
 use Rattle.ready.proofs.Statements.{internal-there, internal-data, internal-word}
-use Rattle.acts.proofs.Acts.{element-small, no-record}
-use Rattle.acts.proofs.internal_send.Statement.{statement}
-use Rattle.acts.proofs.internal_send.Tie as tie
+use Rattle.sends.proofs.Sends.{element-small, no-record}
+use Rattle.sends.proofs.internal_send.Statement.{statement}
+use Rattle.sends.proofs.internal_send.Tie as tie
 
 cast-read : tie.Need-cast-read
 cast-read c = search needs

@@ -4,9 +4,9 @@ use native.Mathlib.Omega.{arith}
 use lib.ListN.{length}
 use borrow.Author.Needs.{needs}
 use Rattle.store.proofs.Laws.{given}
-use Rattle.acts.proofs.Four.{SoFar, data-start, data-end, data-again, data-refused, data-stuck}
-use Rattle.acts.proofs.gather.Statement.{statement}
-use Rattle.acts.proofs.gather.Tie as tie
+use Rattle.sends.proofs.Four.{SoFar, data-start, data-end, data-again, data-refused, data-stuck}
+use Rattle.sends.proofs.gather.Statement.{statement}
+use Rattle.sends.proofs.gather.Tie as tie
 
 abbrev Inv-loop : tie.InvT-loop
 Inv-loop sheet directory context st lo r g into₀ left l₀ j₀ into l j = SoFar sheet context st lo r g left j l into

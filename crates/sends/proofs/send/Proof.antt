@@ -3,9 +3,9 @@ use native.Mathlib.Omega.{arith}
 use borrow.Author.Needs.{needs}
 use Rattle.laris.specs.Run.{append}
 use Rattle.store.proofs.Laws.{laid}
-use Rattle.acts.proofs.Acts.{element-small, telegram-made, four-data, data-given, on-given, data-ends-refused, data-ends-stuck}
-use Rattle.acts.proofs.send.Statement.{statement}
-use Rattle.acts.proofs.send.Tie as tie
+use Rattle.sends.proofs.Sends.{element-small, telegram-made, four-data, data-given, on-given, data-ends-refused, data-ends-stuck}
+use Rattle.sends.proofs.send.Statement.{statement}
+use Rattle.sends.proofs.send.Tie as tie
 
 cast-t17 : tie.Need-cast-t17
 cast-t17 c = search needs

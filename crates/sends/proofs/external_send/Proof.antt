@@ -3,9 +3,9 @@ use borrow.Author.Needs.{needs}
 use Rattle.store.proofs.Laws.{given}
 use Rattle.ready.specs.Ready.{contextAt}
 use Rattle.ready.proofs.Statements.{receiver-operand, external-name, external-word}
-use Rattle.acts.proofs.Acts.{on-word, on-refused, on-stuck, no-record}
-use Rattle.acts.proofs.external_send.Statement.{statement}
-use Rattle.acts.proofs.external_send.Tie as tie
+use Rattle.sends.proofs.Sends.{on-word, on-refused, on-stuck, no-record}
+use Rattle.sends.proofs.external_send.Statement.{statement}
+use Rattle.sends.proofs.external_send.Tie as tie
 
 cast-read : tie.Need-cast-read
 cast-read c = search needs
