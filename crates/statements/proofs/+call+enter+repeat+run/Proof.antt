@@ -78,300 +78,137 @@ run-at t = joined 5 run-kinds.ps (is 5 run-kinds.ps μ-run t) run.Pre
 abbrev run-below : ℕ → In 5 run-kinds.ps
 run-below t = joined 5 run-kinds.ps (falls 5 run-kinds.ps _<_ μ-run t) run.Pre
 
-call-element-copy-out-number : (t : ℕ) → call-lts.Need-element-copy-out-number (
+-- what call knows of those it calls
+abbrev call-claims : ℕ → call-lts.Claims
+call-claims t = (read-reads.Asked, read-reads.Learnt, gather-reads.Asked, gather-reads.Learnt, enter-below t, enter.Post)
+
+-- what enter knows of those it calls
+abbrev enter-claims : ℕ → enter-lts.Claims
+enter-claims t = (fresh-locals-reads.Asked, fresh-locals-reads.Learnt, run-below t, run.Post)
+
+-- what repeat knows of those it calls
+abbrev repeat-claims : ℕ → repeat-lts.Claims
+repeat-claims t = (eval-reads.Asked, eval-reads.Learnt, run-below t, run.Post)
+
+-- what run knows of those it calls
+abbrev run-claims : ℕ → run-lts.Claims
+run-claims t = (
   read-reads.Asked,
   read-reads.Learnt,
-  gather-reads.Asked,
-  gather-reads.Learnt,
-  enter-below t,
-  enter.Post,
-) (call-at t) call.Post
+  assign-reads.Asked,
+  assign-reads.Learnt,
+  external-send-reads.Asked,
+  external-send-reads.Learnt,
+  internal-send-reads.Asked,
+  internal-send-reads.Learnt,
+  call-below t,
+  call.Post,
+  eval-reads.Asked,
+  eval-reads.Learnt,
+  run-below t,
+  run.Post,
+  repeat-below t,
+  repeat.Post,
+  arming-reads.Asked,
+  arming-reads.Learnt,
+  clock-reads.Asked,
+  clock-reads.Learnt,
+)
+
+call-element-copy-out-number : (t : ℕ) → call-lts.Need-element-copy-out-number (call-claims t) (call-at t) call.Post
 call-element-copy-out-number t c = search needs
 
-call-cast-number : (t : ℕ) → call-lts.Need-cast-number (
-  read-reads.Asked,
-  read-reads.Learnt,
-  gather-reads.Asked,
-  gather-reads.Learnt,
-  enter-below t,
-  enter.Post,
-) (call-at t) call.Post
+call-cast-number : (t : ℕ) → call-lts.Need-cast-number (call-claims t) (call-at t) call.Post
 call-cast-number t c = search needs
 
-call-add-number : (t : ℕ) → call-lts.Need-add-number (
-  read-reads.Asked,
-  read-reads.Learnt,
-  gather-reads.Asked,
-  gather-reads.Learnt,
-  enter-below t,
-  enter.Post,
-) (call-at t) call.Post
+call-add-number : (t : ℕ) → call-lts.Need-add-number (call-claims t) (call-at t) call.Post
 call-add-number t c = let h : getD (c .before .before .before .args .context .now) 4 0 + c .before .before .before .args .r .f1 < 65536 = number-small _ _ _ _ _ _ (c .before .before .before .pre .1 .1) in let g : getD (c .before .before .before .args .context .now) 4 0 + c .before .before .before .args .r .f1 < 18446744073709551616 = omega arith in record { fits = g }
 
-call-read-requires : (t : ℕ) → call-lts.Need-read-requires (
-  read-reads.Asked,
-  read-reads.Learnt,
-  gather-reads.Asked,
-  gather-reads.Learnt,
-  enter-below t,
-  enter.Post,
-) (call-at t) call.Post
+call-read-requires : (t : ℕ) → call-lts.Need-read-requires (call-claims t) (call-at t) call.Post
 call-read-requires t c κs = search needs
 
-call-enum-known-b : (t : ℕ) → call-lts.Need-enum-known-b (
-  read-reads.Asked,
-  read-reads.Learnt,
-  gather-reads.Asked,
-  gather-reads.Learnt,
-  enter-below t,
-  enter.Post,
-) (call-at t) call.Post
+call-enum-known-b : (t : ℕ) → call-lts.Need-enum-known-b (call-claims t) (call-at t) call.Post
 call-enum-known-b t c = search needs
 
-call-enum-told : (t : ℕ) → call-lts.Need-enum-told (
-  read-reads.Asked,
-  read-reads.Learnt,
-  gather-reads.Asked,
-  gather-reads.Learnt,
-  enter-below t,
-  enter.Post,
-) (call-at t) call.Post
+call-enum-told : (t : ℕ) → call-lts.Need-enum-told (call-claims t) (call-at t) call.Post
 call-enum-told t c = search needs
 
-call-returns : (t : ℕ) → call-lts.Need-returns (
-  read-reads.Asked,
-  read-reads.Learnt,
-  gather-reads.Asked,
-  gather-reads.Learnt,
-  enter-below t,
-  enter.Post,
-) (call-at t) call.Post
+call-returns : (t : ℕ) → call-lts.Need-returns (call-claims t) (call-at t) call.Post
 call-returns t c = no-record (sym (c .enum-told .given .1) ∙ c .before .before .read .ensures) (body-called _ _ _ _ _ _ (c .before .before .before .before .before .before .pre .1 .1))
 
-call-cast-t20 : (t : ℕ) → call-lts.Need-cast-t20 (
-  read-reads.Asked,
-  read-reads.Learnt,
-  gather-reads.Asked,
-  gather-reads.Learnt,
-  enter-below t,
-  enter.Post,
-) (call-at t) call.Post
+call-cast-t20 : (t : ℕ) → call-lts.Need-cast-t20 (call-claims t) (call-at t) call.Post
 call-cast-t20 t c = search needs
 
-call-cast-t21 : (t : ℕ) → call-lts.Need-cast-t21 (
-  read-reads.Asked,
-  read-reads.Learnt,
-  gather-reads.Asked,
-  gather-reads.Learnt,
-  enter-below t,
-  enter.Post,
-) (call-at t) call.Post
+call-cast-t21 : (t : ℕ) → call-lts.Need-cast-t21 (call-claims t) (call-at t) call.Post
 call-cast-t21 t c = search needs
 
-call-gather-requires : (t : ℕ) → call-lts.Need-gather-requires (
-  read-reads.Asked,
-  read-reads.Learnt,
-  gather-reads.Asked,
-  gather-reads.Learnt,
-  enter-below t,
-  enter.Post,
-) (call-at t) call.Post
+call-gather-requires : (t : ℕ) → call-lts.Need-gather-requires (call-claims t) (call-at t) call.Post
 call-gather-requires t c κs = (c .before .before .before .before .before .before .before .before .before .before .before .pre .1 .0, c .before .before .before .before .before .before .before .before .before .before .before .pre .1 .1 .ready, has-data _ _ _ _ _ _ (c .before .before .before .before .before .before .before .before .before .before .before .pre .1 .1) _ (sym (c .before .before .before .before .before .before .before .read .ensures) ∙ c .before .before .before .before .before .b .given .1), four-parameters _ _ _ _ _ _ (c .before .before .before .before .before .before .before .before .before .before .before .pre .1 .1) _ (sym (c .before .before .before .before .before .before .before .read .ensures) ∙ c .before .before .before .before .before .b .given .1), refl)
 
-call-enum-known-o : (t : ℕ) → call-lts.Need-enum-known-o (
-  read-reads.Asked,
-  read-reads.Learnt,
-  gather-reads.Asked,
-  gather-reads.Learnt,
-  enter-below t,
-  enter.Post,
-) (call-at t) call.Post
+call-enum-known-o : (t : ℕ) → call-lts.Need-enum-known-o (call-claims t) (call-at t) call.Post
 call-enum-known-o t c = search needs
 
-call-enter-requires : (t : ℕ) → call-lts.Need-enter-requires (
-  read-reads.Asked,
-  read-reads.Learnt,
-  gather-reads.Asked,
-  gather-reads.Learnt,
-  enter-below t,
-  enter.Post,
-) (call-at t) call.Post
+call-enter-requires : (t : ℕ) → call-lts.Need-enter-requires (call-claims t) (call-at t) call.Post
 call-enter-requires t c κs = let d = data-given _ _ (sym (c .before .before .before .o .given .1) ∙ c .before .before .before .before .before .gather .ensures .1) in let h = given-left _ _ _ _ _ _ (c .before .before .before .before .before .before .before .before .before .before .before .before .before .before .before .before .before .pre .1 .1) _ (sym (c .before .before .before .before .before .before .before .before .before .before .before .before .before .read .ensures) ∙ c .before .before .before .before .before .before .before .before .before .before .before .b .given .1) _ _ _ (d .1) in let q = c .before .before .before .before .before .before .before .before .before .before .before .before .before .before .before .before .before .pre .0 in (omega arith, (c .before .before .before .before .before .before .before .before .before .before .before .before .before .before .before .before .before .pre .1 .0, callable _ _ _ _ _ _ (c .before .before .before .before .before .before .before .before .before .before .before .before .before .before .before .before .before .pre .1 .1) _ (sym (c .before .before .before .before .before .before .before .before .before .before .before .before .before .read .ensures) ∙ c .before .before .before .before .before .before .before .before .before .before .before .b .given .1) _ _ _ _ (d .1) (c .before .before .before .before .before .gather .ensures .2 _ _ (d .1)), c .before .before .before .before .before .before .before .before .before .before .before .before .before .before .before .before .before .pre .1 .2))
 
-call-enum-known-o-2 : (t : ℕ) → call-lts.Need-enum-known-o-2 (
-  read-reads.Asked,
-  read-reads.Learnt,
-  gather-reads.Asked,
-  gather-reads.Learnt,
-  enter-below t,
-  enter.Post,
-) (call-at t) call.Post
+call-enum-known-o-2 : (t : ℕ) → call-lts.Need-enum-known-o-2 (call-claims t) (call-at t) call.Post
 call-enum-known-o-2 t c = search needs
 
-call-enum-told-2 : (t : ℕ) → call-lts.Need-enum-told-2 (
-  read-reads.Asked,
-  read-reads.Learnt,
-  gather-reads.Asked,
-  gather-reads.Learnt,
-  enter-below t,
-  enter.Post,
-) (call-at t) call.Post
+call-enum-told-2 : (t : ℕ) → call-lts.Need-enum-told-2 (call-claims t) (call-at t) call.Post
 call-enum-told-2 t c = search needs
 
-call-same-length : (t : ℕ) → call-lts.Need-same-length (
-  read-reads.Asked,
-  read-reads.Learnt,
-  gather-reads.Asked,
-  gather-reads.Learnt,
-  enter-below t,
-  enter.Post,
-) (call-at t) call.Post
+call-same-length : (t : ℕ) → call-lts.Need-same-length (call-claims t) (call-at t) call.Post
 call-same-length t c = search needs
 
-call-returns-2 : (t : ℕ) → call-lts.Need-returns-2 (
-  read-reads.Asked,
-  read-reads.Learnt,
-  gather-reads.Asked,
-  gather-reads.Learnt,
-  enter-below t,
-  enter.Post,
-) (call-at t) call.Post
+call-returns-2 : (t : ℕ) → call-lts.Need-returns-2 (call-claims t) (call-at t) call.Post
 call-returns-2 t c = let d = data-given _ _ (sym (c .before .before .before .before .before .o .given .1) ∙ c .before .before .before .before .before .before .before .gather .ensures .1) in c .before .enter .ensures (c .before .before .before .before .before .before .before .before .before .before .before .before .before .before .before .before .before .before .before .args .lo .now) ∙ call-done _ _ _ _ _ _ (c .before .before .before .before .before .before .before .before .before .before .before .before .before .before .before .before .before .before .before .pre .1 .1) _ (sym (c .before .before .before .before .before .before .before .before .before .before .before .before .before .before .before .read .ensures) ∙ c .before .before .before .before .before .before .before .before .before .before .before .before .before .b .given .1) _ _ _ _ _ (d .1) (c .before .before .before .before .before .before .before .gather .ensures .2 _ _ (d .1))
 
-call-same-length-2 : (t : ℕ) → call-lts.Need-same-length-2 (
-  read-reads.Asked,
-  read-reads.Learnt,
-  gather-reads.Asked,
-  gather-reads.Learnt,
-  enter-below t,
-  enter.Post,
-) (call-at t) call.Post
+call-same-length-2 : (t : ℕ) → call-lts.Need-same-length-2 (call-claims t) (call-at t) call.Post
 call-same-length-2 t c = search needs
 
-call-returns-3 : (t : ℕ) → call-lts.Need-returns-3 (
-  read-reads.Asked,
-  read-reads.Learnt,
-  gather-reads.Asked,
-  gather-reads.Learnt,
-  enter-below t,
-  enter.Post,
-) (call-at t) call.Post
+call-returns-3 : (t : ℕ) → call-lts.Need-returns-3 (call-claims t) (call-at t) call.Post
 call-returns-3 t c = called-refused _ _ _ _ _ _ (c .before .before .before .before .before .before .before .before .before .before .before .before .before .before .before .pre .1 .1) _ (sym (c .before .before .before .before .before .before .before .before .before .before .before .read .ensures) ∙ c .before .before .before .before .before .before .before .before .before .b .given .1) _ _ _ _ (sym (c .before .o2 .given .1) ∙ c .before .before .before .gather .ensures .1)
 
-call-same-length-3 : (t : ℕ) → call-lts.Need-same-length-3 (
-  read-reads.Asked,
-  read-reads.Learnt,
-  gather-reads.Asked,
-  gather-reads.Learnt,
-  enter-below t,
-  enter.Post,
-) (call-at t) call.Post
+call-same-length-3 : (t : ℕ) → call-lts.Need-same-length-3 (call-claims t) (call-at t) call.Post
 call-same-length-3 t c = search needs
 
-call-returns-4 : (t : ℕ) → call-lts.Need-returns-4 (
-  read-reads.Asked,
-  read-reads.Learnt,
-  gather-reads.Asked,
-  gather-reads.Learnt,
-  enter-below t,
-  enter.Post,
-) (call-at t) call.Post
+call-returns-4 : (t : ℕ) → call-lts.Need-returns-4 (call-claims t) (call-at t) call.Post
 call-returns-4 t c = called-stuck _ _ _ _ _ _ (c .before .before .before .before .before .before .before .before .before .before .before .before .before .before .pre .1 .1) _ (sym (c .before .before .before .before .before .before .before .before .before .before .read .ensures) ∙ c .before .before .before .before .before .before .before .before .b .given .1) _ _ (sym (c .enum-told2 .given .1) ∙ c .before .before .gather .ensures .1)
 
-enter-returns : (t : ℕ) → enter-lts.Need-returns (
-  fresh-locals-reads.Asked,
-  fresh-locals-reads.Learnt,
-  run-below t,
-  run.Post,
-) (enter-at t) enter.Post
+enter-returns : (t : ℕ) → enter-lts.Need-returns (enter-claims t) (enter-at t) enter.Post
 enter-returns t c = λ lo. too-deep _ _ _ _ _ _ _ lo (c .if1 .taken)
 
-enter-element-copy-out-run : (t : ℕ) → enter-lts.Need-element-copy-out-run (
-  fresh-locals-reads.Asked,
-  fresh-locals-reads.Learnt,
-  run-below t,
-  run.Post,
-) (enter-at t) enter.Post
+enter-element-copy-out-run : (t : ℕ) → enter-lts.Need-element-copy-out-run (enter-claims t) (enter-at t) enter.Post
 enter-element-copy-out-run t c = search needs
 
-enter-element-copy-out-t18 : (t : ℕ) → enter-lts.Need-element-copy-out-t18 (
-  fresh-locals-reads.Asked,
-  fresh-locals-reads.Learnt,
-  run-below t,
-  run.Post,
-) (enter-at t) enter.Post
+enter-element-copy-out-t18 : (t : ℕ) → enter-lts.Need-element-copy-out-t18 (enter-claims t) (enter-at t) enter.Post
 enter-element-copy-out-t18 t c = search needs
 
-enter-element-copy-out-t21 : (t : ℕ) → enter-lts.Need-element-copy-out-t21 (
-  fresh-locals-reads.Asked,
-  fresh-locals-reads.Learnt,
-  run-below t,
-  run.Post,
-) (enter-at t) enter.Post
+enter-element-copy-out-t21 : (t : ℕ) → enter-lts.Need-element-copy-out-t21 (enter-claims t) (enter-at t) enter.Post
 enter-element-copy-out-t21 t c = search needs
 
-enter-element-copy-out-t24 : (t : ℕ) → enter-lts.Need-element-copy-out-t24 (
-  fresh-locals-reads.Asked,
-  fresh-locals-reads.Learnt,
-  run-below t,
-  run.Post,
-) (enter-at t) enter.Post
+enter-element-copy-out-t24 : (t : ℕ) → enter-lts.Need-element-copy-out-t24 (enter-claims t) (enter-at t) enter.Post
 enter-element-copy-out-t24 t c = search needs
 
-enter-element-copy-out-t27 : (t : ℕ) → enter-lts.Need-element-copy-out-t27 (
-  fresh-locals-reads.Asked,
-  fresh-locals-reads.Learnt,
-  run-below t,
-  run.Post,
-) (enter-at t) enter.Post
+enter-element-copy-out-t27 : (t : ℕ) → enter-lts.Need-element-copy-out-t27 (enter-claims t) (enter-at t) enter.Post
 enter-element-copy-out-t27 t c = search needs
 
-enter-fresh-locals-requires : (t : ℕ) → enter-lts.Need-fresh-locals-requires (
-  fresh-locals-reads.Asked,
-  fresh-locals-reads.Learnt,
-  run-below t,
-  run.Post,
-) (enter-at t) enter.Post
+enter-fresh-locals-requires : (t : ℕ) → enter-lts.Need-fresh-locals-requires (enter-claims t) (enter-at t) enter.Post
 enter-fresh-locals-requires t c κs = (c .before .before .before .before .before .before .before .pre .1 .0, few-parameters _ _ _ _ _ _ (c .before .before .before .before .before .before .before .pre .1 .1), few-variables _ _ _ _ _ _ (c .before .before .before .before .before .before .before .pre .1 .1))
 
-enter-add-run : (t : ℕ) → enter-lts.Need-add-run (
-  fresh-locals-reads.Asked,
-  fresh-locals-reads.Learnt,
-  run-below t,
-  run.Post,
-) (enter-at t) enter.Post
+enter-add-run : (t : ℕ) → enter-lts.Need-add-run (enter-claims t) (enter-at t) enter.Post
 enter-add-run t c = let h = c .before .before .before .before .before .before .before .before .before .before .before .pre .1 .2 in record { fits = omega arith }
 
-enter-cast-run : (t : ℕ) → enter-lts.Need-cast-run (
-  fresh-locals-reads.Asked,
-  fresh-locals-reads.Learnt,
-  run-below t,
-  run.Post,
-) (enter-at t) enter.Post
+enter-cast-run : (t : ℕ) → enter-lts.Need-cast-run (enter-claims t) (enter-at t) enter.Post
 enter-cast-run t c = search needs
 
-enter-run-requires : (t : ℕ) → enter-lts.Need-run-requires (
-  fresh-locals-reads.Asked,
-  fresh-locals-reads.Learnt,
-  run-below t,
-  run.Post,
-) (enter-at t) enter.Post
+enter-run-requires : (t : ℕ) → enter-lts.Need-run-requires (enter-claims t) (enter-at t) enter.Post
 enter-run-requires t c κs = let q = c .before .before .before .before .before .before .before .before .before .before .before .before .pre .0 in let h = c .before .before .before .before .before .before .before .before .before .before .if1 .left in (omega arith, (c .before .before .before .before .before .before .before .before .before .before .before .before .pre .1 .0, subst (λ lo. Ready (c .before .before .before .before .before .before .before .before .before .before .before .before .args .sheet .now) (innerOf (c .before .before .before .before .before .before .before .before .before .before .before .before .args .context .now) (c .before .before .before .before .before .before .before .before .before .before .before .before .args .number)) (c .before .before .before .before .before .before .before .before .before .before .before .before .args .st .now) lo) (sym (c .before .before .before .before .fresh-locals .ensures)) (inner-ready _ _ _ _ _ _ (c .before .before .before .before .before .before .before .before .before .before .before .before .pre .1 .1)), inner-statement _ _ _ _ _ _ (c .before .before .before .before .before .before .before .before .before .before .before .before .pre .1 .1), omega arith))
 
-enter-same-length : (t : ℕ) → enter-lts.Need-same-length (
-  fresh-locals-reads.Asked,
-  fresh-locals-reads.Learnt,
-  run-below t,
-  run.Post,
-) (enter-at t) enter.Post
+enter-same-length : (t : ℕ) → enter-lts.Need-same-length (enter-claims t) (enter-at t) enter.Post
 enter-same-length t c = search needs
 
-enter-returns-2 : (t : ℕ) → enter-lts.Need-returns-2 (
-  fresh-locals-reads.Asked,
-  fresh-locals-reads.Learnt,
-  run-below t,
-  run.Post,
-) (enter-at t) enter.Post
+enter-returns-2 : (t : ℕ) → enter-lts.Need-returns-2 (enter-claims t) (enter-at t) enter.Post
 enter-returns-2 t c = λ lo. body-runs _ _ _ _ _ _ _ lo (let h = c .before .before .before .before .before .before .before .before .before .before .before .before .if1 .left in omega arith) _ _ _ (c .before .run .ensures .1 ∙ ap (λ y. runOf (c .before .before .before .before .before .before .before .before .before .before .before .before .before .before .args .sheet .now) (c .before .before .before .before .before .before .before .before .before .before .before .before .before .before .args .depth + 1) y (root (c .before .before .before .before .before .before .before .before .before .before .before .before .before .before .args .b)) (c .before .before .before .before .before .before .before .before .before .before .before .before .before .before .args .left) (c .before .before .before .before .before .before .before .before .before .before .before .before .before .before .args .st .now) (c .before .before .before .before .before .before .fresh-locals .result)) (inner-context _ _ _ _ _ _ (c .before .before .before .before .before .before .before .before .before .before .before .before .before .before .pre .1 .1)) ∙ ap (λ lo. runOf (c .before .before .before .before .before .before .before .before .before .before .before .before .before .before .args .sheet .now) (c .before .before .before .before .before .before .before .before .before .before .before .before .before .before .args .depth + 1) (inBody (contextAt (c .before .before .before .before .before .before .before .before .before .before .before .before .before .before .args .sheet .now) (c .before .before .before .before .before .before .before .before .before .before .before .before .before .before .args .context .now)) (c .before .before .before .before .before .before .before .before .before .before .before .before .before .before .args .b)) (root (c .before .before .before .before .before .before .before .before .before .before .before .before .before .before .args .b)) (c .before .before .before .before .before .before .before .before .before .before .before .before .before .before .args .left) (c .before .before .before .before .before .before .before .before .before .before .before .before .before .before .args .st .now) lo) (c .before .before .before .before .before .before .fresh-locals .ensures))
 
 abbrev repeat-Inv-loop : repeat-lts.InvT-loop
@@ -380,1652 +217,262 @@ repeat-Inv-loop sheet directory context st₀ lo₀ depth n r left l₀ st lo l 
 abbrev repeat-μ-loop : repeat-lts.MeasureT-loop
 repeat-μ-loop sheet directory context st₀ lo₀ depth n r left l₀ st lo l = l
 
-repeat-loop-holds : (t : ℕ) → repeat-lts.Need-loop-holds (
-  eval-reads.Asked,
-  eval-reads.Learnt,
-  run-below t,
-  run.Post,
-) (repeat-at t) repeat.Post repeat-Inv-loop repeat-μ-loop
+repeat-loop-holds : (t : ℕ) → repeat-lts.Need-loop-holds (repeat-claims t) (repeat-at t) repeat.Post repeat-Inv-loop repeat-μ-loop
 repeat-loop-holds t c = (c .before .pre .1 .1, refl, omega arith, refl, refl)
 
-repeat-cast-eval : (t : ℕ) → repeat-lts.Need-cast-eval (
-  eval-reads.Asked,
-  eval-reads.Learnt,
-  run-below t,
-  run.Post,
-) (repeat-at t) repeat.Post repeat-Inv-loop repeat-μ-loop
+repeat-cast-eval : (t : ℕ) → repeat-lts.Need-cast-eval (repeat-claims t) (repeat-at t) repeat.Post repeat-Inv-loop repeat-μ-loop
 repeat-cast-eval t c = search needs
 
-repeat-eval-requires : (t : ℕ) → repeat-lts.Need-eval-requires (
-  eval-reads.Asked,
-  eval-reads.Learnt,
-  run-below t,
-  run.Post,
-) (repeat-at t) repeat.Post repeat-Inv-loop repeat-μ-loop
+repeat-eval-requires : (t : ℕ) → repeat-lts.Need-eval-requires (repeat-claims t) (repeat-at t) repeat.Post repeat-Inv-loop repeat-μ-loop
 repeat-eval-requires t c κs = (c .before .before .before .before .before .pre .1 .0, c .before .before .before .loop .inv .0 .ready, loop-operand _ _ _ _ (c .before .before .before .loop .inv .0 .ready) _ _ (c .before .before .before .loop .inv .0 .there) (c .before .before .before .loop .inv .0 .statement) (c .before .before .before .loop .inv .0 .form))
 
-repeat-enum-known-x : (t : ℕ) → repeat-lts.Need-enum-known-x (
-  eval-reads.Asked,
-  eval-reads.Learnt,
-  run-below t,
-  run.Post,
-) (repeat-at t) repeat.Post repeat-Inv-loop repeat-μ-loop
+repeat-enum-known-x : (t : ℕ) → repeat-lts.Need-enum-known-x (repeat-claims t) (repeat-at t) repeat.Post repeat-Inv-loop repeat-μ-loop
 repeat-enum-known-x t c = search needs
 
-repeat-same-length : (t : ℕ) → repeat-lts.Need-same-length (
-  eval-reads.Asked,
-  eval-reads.Learnt,
-  run-below t,
-  run.Post,
-) (repeat-at t) repeat.Post repeat-Inv-loop repeat-μ-loop
+repeat-same-length : (t : ℕ) → repeat-lts.Need-same-length (repeat-claims t) (repeat-at t) repeat.Post repeat-Inv-loop repeat-μ-loop
 repeat-same-length t c = search needs
 
-repeat-returns : (t : ℕ) → repeat-lts.Need-returns (
-  eval-reads.Asked,
-  eval-reads.Learnt,
-  run-below t,
-  run.Post,
-) (repeat-at t) repeat.Post repeat-Inv-loop repeat-μ-loop
+repeat-returns : (t : ℕ) → repeat-lts.Need-returns (repeat-claims t) (repeat-at t) repeat.Post repeat-Inv-loop repeat-μ-loop
 repeat-returns t c = (c .before .before .before .before .before .before .before .before .loop .inv .0 .ready .locals .sixteen, loop-ends _ _ _ _ _ _ (c .before .before .before .before .before .before .before .before .loop .inv .0) _ _ _ _ (sym (c .before .before .x .given .1) ∙ c .before .before .before .before .eval .ensures) (is-zero (record { sfits = c .before .known-told .given .0 .1 }) (c .if1 .taken)) ∙ sym (c .before .before .before .before .before .before .before .before .loop .inv .1))
 
-repeat-cast-run : (t : ℕ) → repeat-lts.Need-cast-run (
-  eval-reads.Asked,
-  eval-reads.Learnt,
-  run-below t,
-  run.Post,
-) (repeat-at t) repeat.Post repeat-Inv-loop repeat-μ-loop
+repeat-cast-run : (t : ℕ) → repeat-lts.Need-cast-run (repeat-claims t) (repeat-at t) repeat.Post repeat-Inv-loop repeat-μ-loop
 repeat-cast-run t c = search needs
 
-repeat-run-requires : (t : ℕ) → repeat-lts.Need-run-requires (
-  eval-reads.Asked,
-  eval-reads.Learnt,
-  run-below t,
-  run.Post,
-) (repeat-at t) repeat.Post repeat-Inv-loop repeat-μ-loop
+repeat-run-requires : (t : ℕ) → repeat-lts.Need-run-requires (repeat-claims t) (repeat-at t) repeat.Post repeat-Inv-loop repeat-μ-loop
 repeat-run-requires t c κs = let h = word-left _ _ _ _ _ _ _ _ (sym (c .before .before .before .before .before .x .given .1) ∙ c .before .before .before .before .before .before .before .eval .ensures) in let q = c .before .before .before .before .before .before .before .before .before .before .before .before .before .pre .0 in let i = c .before .before .before .before .before .before .before .before .before .before .before .loop .inv .2 in (omega arith, (c .before .before .before .before .before .before .before .before .before .before .before .before .before .pre .1 .0, c .before .before .before .before .before .before .before .before .before .before .before .loop .inv .0 .ready, loop-body _ _ _ _ (c .before .before .before .before .before .before .before .before .before .before .before .loop .inv .0 .ready) _ _ (c .before .before .before .before .before .before .before .before .before .before .before .loop .inv .0 .there) (c .before .before .before .before .before .before .before .before .before .before .before .loop .inv .0 .statement) (c .before .before .before .before .before .before .before .before .before .before .before .loop .inv .0 .form), c .before .before .before .before .before .before .before .before .before .before .before .before .before .pre .1 .2))
 
-repeat-enum-known-o : (t : ℕ) → repeat-lts.Need-enum-known-o (
-  eval-reads.Asked,
-  eval-reads.Learnt,
-  run-below t,
-  run.Post,
-) (repeat-at t) repeat.Post repeat-Inv-loop repeat-μ-loop
+repeat-enum-known-o : (t : ℕ) → repeat-lts.Need-enum-known-o (repeat-claims t) (repeat-at t) repeat.Post repeat-Inv-loop repeat-μ-loop
 repeat-enum-known-o t c = search needs
 
-repeat-same-length-2 : (t : ℕ) → repeat-lts.Need-same-length-2 (
-  eval-reads.Asked,
-  eval-reads.Learnt,
-  run-below t,
-  run.Post,
-) (repeat-at t) repeat.Post repeat-Inv-loop repeat-μ-loop
+repeat-same-length-2 : (t : ℕ) → repeat-lts.Need-same-length-2 (repeat-claims t) (repeat-at t) repeat.Post repeat-Inv-loop repeat-μ-loop
 repeat-same-length-2 t c = search needs
 
-repeat-returns-2 : (t : ℕ) → repeat-lts.Need-returns-2 (
-  eval-reads.Asked,
-  eval-reads.Learnt,
-  run-below t,
-  run.Post,
-) (repeat-at t) repeat.Post repeat-Inv-loop repeat-μ-loop
+repeat-returns-2 : (t : ℕ) → repeat-lts.Need-returns-2 (repeat-claims t) (repeat-at t) repeat.Post repeat-Inv-loop repeat-μ-loop
 repeat-returns-2 t c = (c .before .before .before .before .before .run .ensures .0, turn-none _ _ _ _ _ _ (c .before .before .before .before .before .before .before .before .before .before .before .before .before .before .before .before .before .loop .inv .0) _ _ _ _ (sym (c .before .before .before .before .before .before .before .before .before .before .before .x .given .1) ∙ c .before .before .before .before .before .before .before .before .before .before .before .before .before .eval .ensures) (not-zero (record { sfits = c .before .before .before .before .before .before .before .before .before .before .known-told .given .0 .1 }) (c .before .before .before .before .before .before .before .before .before .if1 .left)) _ _ _ (with-ran (c .before .before .o .given .1) (c .before .before .before .before .before .run .ensures .1)) (c .if2 .taken) ∙ sym (c .before .before .before .before .before .before .before .before .before .before .before .before .before .before .before .before .before .loop .inv .1))
 
-repeat-sub-l : (t : ℕ) → repeat-lts.Need-sub-l (
-  eval-reads.Asked,
-  eval-reads.Learnt,
-  run-below t,
-  run.Post,
-) (repeat-at t) repeat.Post repeat-Inv-loop repeat-μ-loop
+repeat-sub-l : (t : ℕ) → repeat-lts.Need-sub-l (repeat-claims t) (repeat-at t) repeat.Post repeat-Inv-loop repeat-μ-loop
 repeat-sub-l t c = search needs
 
-repeat-loop-less : (t : ℕ) → repeat-lts.Need-loop-less (
-  eval-reads.Asked,
-  eval-reads.Learnt,
-  run-below t,
-  run.Post,
-) (repeat-at t) repeat.Post repeat-Inv-loop repeat-μ-loop
+repeat-loop-less : (t : ℕ) → repeat-lts.Need-loop-less (repeat-claims t) (repeat-at t) repeat.Post repeat-Inv-loop repeat-μ-loop
 repeat-loop-less t c = let h = word-left _ _ _ _ _ _ _ _ (sym (c .before .before .before .before .before .before .before .before .before .before .before .x .given .1) ∙ c .before .before .before .before .before .before .before .before .before .before .before .before .before .eval .ensures) in let k = done-left _ _ _ _ _ _ _ _ _ _ (with-ran (c .before .before .o .given .1) (c .before .before .before .before .before .run .ensures .1)) in omega arith
 
-repeat-loop-again : (t : ℕ) → repeat-lts.Need-loop-again (
-  eval-reads.Asked,
-  eval-reads.Learnt,
-  run-below t,
-  run.Post,
-) (repeat-at t) repeat.Post repeat-Inv-loop repeat-μ-loop
+repeat-loop-again : (t : ℕ) → repeat-lts.Need-loop-again (repeat-claims t) (repeat-at t) repeat.Post repeat-Inv-loop repeat-μ-loop
 repeat-loop-again t c = let h = word-left _ _ _ _ _ _ _ _ (sym (c .before .before .before .before .before .before .before .before .before .before .before .x .given .1) ∙ c .before .before .before .before .before .before .before .before .before .before .before .before .before .eval .ensures) in let k = done-left _ _ _ _ _ _ _ _ _ _ (with-ran (c .before .before .o .given .1) (c .before .before .before .before .before .run .ensures .1)) in let i = c .before .before .before .before .before .before .before .before .before .before .before .before .before .before .before .before .before .loop .inv .2 in (turn-visit _ _ _ _ _ _ (c .before .before .before .before .before .before .before .before .before .before .before .before .before .before .before .before .before .loop .inv .0) _ _ _ _ (sym (c .before .before .before .before .before .before .before .before .before .before .before .x .given .1) ∙ c .before .before .before .before .before .before .before .before .before .before .before .before .before .eval .ensures) (not-zero (record { sfits = c .before .before .before .before .before .before .before .before .before .before .known-told .given .0 .1 }) (c .before .before .before .before .before .before .before .before .before .if1 .left)) _ _ _ (with-ran (c .before .before .o .given .1) (c .before .before .before .before .before .run .ensures .1)), c .before .before .before .before .before .before .before .before .before .before .before .before .before .before .before .before .before .loop .inv .1 ∙ turn-again _ _ _ _ _ _ (c .before .before .before .before .before .before .before .before .before .before .before .before .before .before .before .before .before .loop .inv .0) _ _ _ _ (sym (c .before .before .before .before .before .before .before .before .before .before .before .x .given .1) ∙ c .before .before .before .before .before .before .before .before .before .before .before .before .before .eval .ensures) (not-zero (record { sfits = c .before .before .before .before .before .before .before .before .before .before .known-told .given .0 .1 }) (c .before .before .before .before .before .before .before .before .before .if1 .left)) _ _ _ (with-ran (c .before .before .o .given .1) (c .before .before .before .before .before .run .ensures .1)) (c .if2 .left), omega arith, c .before .before .before .before .st .given ∙ c .before .before .before .before .before .before .before .before .before .before .before .before .before .before .before .before .before .loop .inv .3, c .before .before .before .before .before .run .ensures .0 ∙ sym (c .before .before .before .before .before .before .before .before .before .before .before .before .before .before .before .before .before .before .before .pre .1 .1 .ready .locals .sixteen))
 
-repeat-enum-known-o-2 : (t : ℕ) → repeat-lts.Need-enum-known-o-2 (
-  eval-reads.Asked,
-  eval-reads.Learnt,
-  run-below t,
-  run.Post,
-) (repeat-at t) repeat.Post repeat-Inv-loop repeat-μ-loop
+repeat-enum-known-o-2 : (t : ℕ) → repeat-lts.Need-enum-known-o-2 (repeat-claims t) (repeat-at t) repeat.Post repeat-Inv-loop repeat-μ-loop
 repeat-enum-known-o-2 t c = search needs
 
-repeat-same-length-3 : (t : ℕ) → repeat-lts.Need-same-length-3 (
-  eval-reads.Asked,
-  eval-reads.Learnt,
-  run-below t,
-  run.Post,
-) (repeat-at t) repeat.Post repeat-Inv-loop repeat-μ-loop
+repeat-same-length-3 : (t : ℕ) → repeat-lts.Need-same-length-3 (repeat-claims t) (repeat-at t) repeat.Post repeat-Inv-loop repeat-μ-loop
 repeat-same-length-3 t c = search needs
 
-repeat-returns-3 : (t : ℕ) → repeat-lts.Need-returns-3 (
-  eval-reads.Asked,
-  eval-reads.Learnt,
-  run-below t,
-  run.Post,
-) (repeat-at t) repeat.Post repeat-Inv-loop repeat-μ-loop
+repeat-returns-3 : (t : ℕ) → repeat-lts.Need-returns-3 (repeat-claims t) (repeat-at t) repeat.Post repeat-Inv-loop repeat-μ-loop
 repeat-returns-3 t c = (c .before .before .before .before .run .ensures .0, turn-refused _ _ _ _ _ _ (c .before .before .before .before .before .before .before .before .before .before .before .before .before .before .before .before .loop .inv .0) _ _ _ _ (sym (c .before .before .before .before .before .before .before .before .before .before .x .given .1) ∙ c .before .before .before .before .before .before .before .before .before .before .before .before .eval .ensures) (not-zero (record { sfits = c .before .before .before .before .before .before .before .before .before .known-told .given .0 .1 }) (c .before .before .before .before .before .before .before .before .if1 .left)) _ _ _ _ (with-ran (c .before .o2 .given .1) (c .before .before .before .before .run .ensures .1)) ∙ sym (c .before .before .before .before .before .before .before .before .before .before .before .before .before .before .before .before .loop .inv .1))
 
-repeat-enum-told : (t : ℕ) → repeat-lts.Need-enum-told (
-  eval-reads.Asked,
-  eval-reads.Learnt,
-  run-below t,
-  run.Post,
-) (repeat-at t) repeat.Post repeat-Inv-loop repeat-μ-loop
+repeat-enum-told : (t : ℕ) → repeat-lts.Need-enum-told (repeat-claims t) (repeat-at t) repeat.Post repeat-Inv-loop repeat-μ-loop
 repeat-enum-told t c = search needs
 
-repeat-same-length-4 : (t : ℕ) → repeat-lts.Need-same-length-4 (
-  eval-reads.Asked,
-  eval-reads.Learnt,
-  run-below t,
-  run.Post,
-) (repeat-at t) repeat.Post repeat-Inv-loop repeat-μ-loop
+repeat-same-length-4 : (t : ℕ) → repeat-lts.Need-same-length-4 (repeat-claims t) (repeat-at t) repeat.Post repeat-Inv-loop repeat-μ-loop
 repeat-same-length-4 t c = search needs
 
-repeat-returns-4 : (t : ℕ) → repeat-lts.Need-returns-4 (
-  eval-reads.Asked,
-  eval-reads.Learnt,
-  run-below t,
-  run.Post,
-) (repeat-at t) repeat.Post repeat-Inv-loop repeat-μ-loop
+repeat-returns-4 : (t : ℕ) → repeat-lts.Need-returns-4 (repeat-claims t) (repeat-at t) repeat.Post repeat-Inv-loop repeat-μ-loop
 repeat-returns-4 t c = (c .before .before .before .run .ensures .0, turn-stuck _ _ _ _ _ _ (c .before .before .before .before .before .before .before .before .before .before .before .before .before .before .before .loop .inv .0) _ _ _ _ (sym (c .before .before .before .before .before .before .before .before .before .x .given .1) ∙ c .before .before .before .before .before .before .before .before .before .before .before .eval .ensures) (not-zero (record { sfits = c .before .before .before .before .before .before .before .before .known-told .given .0 .1 }) (c .before .before .before .before .before .before .before .if1 .left)) _ _ (with-ran (c .enum-told .given .1) (c .before .before .before .run .ensures .1)) ∙ sym (c .before .before .before .before .before .before .before .before .before .before .before .before .before .before .before .loop .inv .1))
 
-repeat-enum-known-x-2 : (t : ℕ) → repeat-lts.Need-enum-known-x-2 (
-  eval-reads.Asked,
-  eval-reads.Learnt,
-  run-below t,
-  run.Post,
-) (repeat-at t) repeat.Post repeat-Inv-loop repeat-μ-loop
+repeat-enum-known-x-2 : (t : ℕ) → repeat-lts.Need-enum-known-x-2 (repeat-claims t) (repeat-at t) repeat.Post repeat-Inv-loop repeat-μ-loop
 repeat-enum-known-x-2 t c = search needs
 
-repeat-same-length-5 : (t : ℕ) → repeat-lts.Need-same-length-5 (
-  eval-reads.Asked,
-  eval-reads.Learnt,
-  run-below t,
-  run.Post,
-) (repeat-at t) repeat.Post repeat-Inv-loop repeat-μ-loop
+repeat-same-length-5 : (t : ℕ) → repeat-lts.Need-same-length-5 (repeat-claims t) (repeat-at t) repeat.Post repeat-Inv-loop repeat-μ-loop
 repeat-same-length-5 t c = search needs
 
-repeat-returns-5 : (t : ℕ) → repeat-lts.Need-returns-5 (
-  eval-reads.Asked,
-  eval-reads.Learnt,
-  run-below t,
-  run.Post,
-) (repeat-at t) repeat.Post repeat-Inv-loop repeat-μ-loop
+repeat-returns-5 : (t : ℕ) → repeat-lts.Need-returns-5 (repeat-claims t) (repeat-at t) repeat.Post repeat-Inv-loop repeat-μ-loop
 repeat-returns-5 t c = (c .before .before .before .before .before .before .before .loop .inv .0 .ready .locals .sixteen, loop-refused _ _ _ _ _ _ (c .before .before .before .before .before .before .before .loop .inv .0) _ _ _ _ (sym (c .before .x2 .given .1) ∙ c .before .before .before .eval .ensures) ∙ sym (c .before .before .before .before .before .before .before .loop .inv .1))
 
-repeat-enum-told-2 : (t : ℕ) → repeat-lts.Need-enum-told-2 (
-  eval-reads.Asked,
-  eval-reads.Learnt,
-  run-below t,
-  run.Post,
-) (repeat-at t) repeat.Post repeat-Inv-loop repeat-μ-loop
+repeat-enum-told-2 : (t : ℕ) → repeat-lts.Need-enum-told-2 (repeat-claims t) (repeat-at t) repeat.Post repeat-Inv-loop repeat-μ-loop
 repeat-enum-told-2 t c = search needs
 
-repeat-same-length-6 : (t : ℕ) → repeat-lts.Need-same-length-6 (
-  eval-reads.Asked,
-  eval-reads.Learnt,
-  run-below t,
-  run.Post,
-) (repeat-at t) repeat.Post repeat-Inv-loop repeat-μ-loop
+repeat-same-length-6 : (t : ℕ) → repeat-lts.Need-same-length-6 (repeat-claims t) (repeat-at t) repeat.Post repeat-Inv-loop repeat-μ-loop
 repeat-same-length-6 t c = search needs
 
-repeat-returns-6 : (t : ℕ) → repeat-lts.Need-returns-6 (
-  eval-reads.Asked,
-  eval-reads.Learnt,
-  run-below t,
-  run.Post,
-) (repeat-at t) repeat.Post repeat-Inv-loop repeat-μ-loop
+repeat-returns-6 : (t : ℕ) → repeat-lts.Need-returns-6 (repeat-claims t) (repeat-at t) repeat.Post repeat-Inv-loop repeat-μ-loop
 repeat-returns-6 t c = (c .before .before .before .before .before .before .loop .inv .0 .ready .locals .sixteen, loop-stuck _ _ _ _ _ _ (c .before .before .before .before .before .before .loop .inv .0) _ _ (sym (c .enum-told2 .given .1) ∙ c .before .before .eval .ensures) ∙ sym (c .before .before .before .before .before .before .loop .inv .1))
 
-run-returns : (t : ℕ) → run-lts.Need-returns (
-  read-reads.Asked,
-  read-reads.Learnt,
-  assign-reads.Asked,
-  assign-reads.Learnt,
-  external-send-reads.Asked,
-  external-send-reads.Learnt,
-  internal-send-reads.Asked,
-  internal-send-reads.Learnt,
-  call-below t,
-  call.Post,
-  eval-reads.Asked,
-  eval-reads.Learnt,
-  run-below t,
-  run.Post,
-  repeat-below t,
-  repeat.Post,
-  arming-reads.Asked,
-  arming-reads.Learnt,
-  clock-reads.Asked,
-  clock-reads.Learnt,
-) (run-at t) run.Post
+run-returns : (t : ℕ) → run-lts.Need-returns (run-claims t) (run-at t) run.Post
 run-returns t c = (c .before .before .pre .1 .1 .locals .sixteen, none-left _ _ _ _ (c .before .before .pre .1 .1) _ _ _ (c .if1 .taken))
 
-run-sub-rest : (t : ℕ) → run-lts.Need-sub-rest (
-  read-reads.Asked,
-  read-reads.Learnt,
-  assign-reads.Asked,
-  assign-reads.Learnt,
-  external-send-reads.Asked,
-  external-send-reads.Learnt,
-  internal-send-reads.Asked,
-  internal-send-reads.Learnt,
-  call-below t,
-  call.Post,
-  eval-reads.Asked,
-  eval-reads.Learnt,
-  run-below t,
-  run.Post,
-  repeat-below t,
-  repeat.Post,
-  arming-reads.Asked,
-  arming-reads.Learnt,
-  clock-reads.Asked,
-  clock-reads.Learnt,
-) (run-at t) run.Post
+run-sub-rest : (t : ℕ) → run-lts.Need-sub-rest (run-claims t) (run-at t) run.Post
 run-sub-rest t c = search needs
 
-run-read-requires : (t : ℕ) → run-lts.Need-read-requires (
-  read-reads.Asked,
-  read-reads.Learnt,
-  assign-reads.Asked,
-  assign-reads.Learnt,
-  external-send-reads.Asked,
-  external-send-reads.Learnt,
-  internal-send-reads.Asked,
-  internal-send-reads.Learnt,
-  call-below t,
-  call.Post,
-  eval-reads.Asked,
-  eval-reads.Learnt,
-  run-below t,
-  run.Post,
-  repeat-below t,
-  repeat.Post,
-  arming-reads.Asked,
-  arming-reads.Learnt,
-  clock-reads.Asked,
-  clock-reads.Learnt,
-) (run-at t) run.Post
+run-read-requires : (t : ℕ) → run-lts.Need-read-requires (run-claims t) (run-at t) run.Post
 run-read-requires t c κs = search needs
 
-run-enum-known-r : (t : ℕ) → run-lts.Need-enum-known-r (
-  read-reads.Asked,
-  read-reads.Learnt,
-  assign-reads.Asked,
-  assign-reads.Learnt,
-  external-send-reads.Asked,
-  external-send-reads.Learnt,
-  internal-send-reads.Asked,
-  internal-send-reads.Learnt,
-  call-below t,
-  call.Post,
-  eval-reads.Asked,
-  eval-reads.Learnt,
-  run-below t,
-  run.Post,
-  repeat-below t,
-  repeat.Post,
-  arming-reads.Asked,
-  arming-reads.Learnt,
-  clock-reads.Asked,
-  clock-reads.Learnt,
-) (run-at t) run.Post
+run-enum-known-r : (t : ℕ) → run-lts.Need-enum-known-r (run-claims t) (run-at t) run.Post
 run-enum-known-r t c = search needs
 
-run-enum-told : (t : ℕ) → run-lts.Need-enum-told (
-  read-reads.Asked,
-  read-reads.Learnt,
-  assign-reads.Asked,
-  assign-reads.Learnt,
-  external-send-reads.Asked,
-  external-send-reads.Learnt,
-  internal-send-reads.Asked,
-  internal-send-reads.Learnt,
-  call-below t,
-  call.Post,
-  eval-reads.Asked,
-  eval-reads.Learnt,
-  run-below t,
-  run.Post,
-  repeat-below t,
-  repeat.Post,
-  arming-reads.Asked,
-  arming-reads.Learnt,
-  clock-reads.Asked,
-  clock-reads.Learnt,
-) (run-at t) run.Post
+run-enum-told : (t : ℕ) → run-lts.Need-enum-told (run-claims t) (run-at t) run.Post
 run-enum-told t c = search needs
 
-run-returns-2 : (t : ℕ) → run-lts.Need-returns-2 (
-  read-reads.Asked,
-  read-reads.Learnt,
-  assign-reads.Asked,
-  assign-reads.Learnt,
-  external-send-reads.Asked,
-  external-send-reads.Learnt,
-  internal-send-reads.Asked,
-  internal-send-reads.Learnt,
-  call-below t,
-  call.Post,
-  eval-reads.Asked,
-  eval-reads.Learnt,
-  run-below t,
-  run.Post,
-  repeat-below t,
-  repeat.Post,
-  arming-reads.Asked,
-  arming-reads.Learnt,
-  clock-reads.Asked,
-  clock-reads.Learnt,
-) (run-at t) run.Post
+run-returns-2 : (t : ℕ) → run-lts.Need-returns-2 (run-claims t) (run-at t) run.Post
 run-returns-2 t c = (c .before .before .before .before .before .pre .1 .1 .locals .sixteen, no-node _ _ _ _ (c .before .before .before .before .before .pre .1 .1) _ _ _ (c .before .before .before .if1 .left) (sym (c .before .before .read .ensures) ∙ c .enum-told .given .1))
 
-run-assign-requires : (t : ℕ) → run-lts.Need-assign-requires (
-  read-reads.Asked,
-  read-reads.Learnt,
-  assign-reads.Asked,
-  assign-reads.Learnt,
-  external-send-reads.Asked,
-  external-send-reads.Learnt,
-  internal-send-reads.Asked,
-  internal-send-reads.Learnt,
-  call-below t,
-  call.Post,
-  eval-reads.Asked,
-  eval-reads.Learnt,
-  run-below t,
-  run.Post,
-  repeat-below t,
-  repeat.Post,
-  arming-reads.Asked,
-  arming-reads.Learnt,
-  clock-reads.Asked,
-  clock-reads.Learnt,
-) (run-at t) run.Post
+run-assign-requires : (t : ℕ) → run-lts.Need-assign-requires (run-claims t) (run-at t) run.Post
 run-assign-requires t c κs = (c .before .before .before .before .before .before .before .before .before .pre .1 .0, visit _ _ _ _ (c .before .before .before .before .before .before .before .before .before .pre .1 .1) _ _ (sym (c .before .before .before .before .before .before .read .ensures) ∙ c .before .before .before .before .r .given .1) (c .before .before .before .before .before .before .before .before .before .pre .1 .2) assign (form-assign _ (c .before .before .match2 .keys2)))
 
-run-external-send-requires : (t : ℕ) → run-lts.Need-external-send-requires (
-  read-reads.Asked,
-  read-reads.Learnt,
-  assign-reads.Asked,
-  assign-reads.Learnt,
-  external-send-reads.Asked,
-  external-send-reads.Learnt,
-  internal-send-reads.Asked,
-  internal-send-reads.Learnt,
-  call-below t,
-  call.Post,
-  eval-reads.Asked,
-  eval-reads.Learnt,
-  run-below t,
-  run.Post,
-  repeat-below t,
-  repeat.Post,
-  arming-reads.Asked,
-  arming-reads.Learnt,
-  clock-reads.Asked,
-  clock-reads.Learnt,
-) (run-at t) run.Post
+run-external-send-requires : (t : ℕ) → run-lts.Need-external-send-requires (run-claims t) (run-at t) run.Post
 run-external-send-requires t c κs = (c .before .before .before .before .before .before .before .before .before .pre .1 .0, visit _ _ _ _ (c .before .before .before .before .before .before .before .before .before .pre .1 .1) _ _ (sym (c .before .before .before .before .before .before .read .ensures) ∙ c .before .before .before .before .r .given .1) (c .before .before .before .before .before .before .before .before .before .pre .1 .2) externalSend (form-external _ (c .before .before .match2 .keys3)))
 
-run-internal-send-requires : (t : ℕ) → run-lts.Need-internal-send-requires (
-  read-reads.Asked,
-  read-reads.Learnt,
-  assign-reads.Asked,
-  assign-reads.Learnt,
-  external-send-reads.Asked,
-  external-send-reads.Learnt,
-  internal-send-reads.Asked,
-  internal-send-reads.Learnt,
-  call-below t,
-  call.Post,
-  eval-reads.Asked,
-  eval-reads.Learnt,
-  run-below t,
-  run.Post,
-  repeat-below t,
-  repeat.Post,
-  arming-reads.Asked,
-  arming-reads.Learnt,
-  clock-reads.Asked,
-  clock-reads.Learnt,
-) (run-at t) run.Post
+run-internal-send-requires : (t : ℕ) → run-lts.Need-internal-send-requires (run-claims t) (run-at t) run.Post
 run-internal-send-requires t c κs = (c .before .before .before .before .before .before .before .before .before .pre .1 .0, visit _ _ _ _ (c .before .before .before .before .before .before .before .before .before .pre .1 .1) _ _ (sym (c .before .before .before .before .before .before .read .ensures) ∙ c .before .before .before .before .r .given .1) (c .before .before .before .before .before .before .before .before .before .pre .1 .2) internalSend (form-internal _ (c .before .before .match2 .keys4)))
 
-run-call-requires : (t : ℕ) → run-lts.Need-call-requires (
-  read-reads.Asked,
-  read-reads.Learnt,
-  assign-reads.Asked,
-  assign-reads.Learnt,
-  external-send-reads.Asked,
-  external-send-reads.Learnt,
-  internal-send-reads.Asked,
-  internal-send-reads.Learnt,
-  call-below t,
-  call.Post,
-  eval-reads.Asked,
-  eval-reads.Learnt,
-  run-below t,
-  run.Post,
-  repeat-below t,
-  repeat.Post,
-  arming-reads.Asked,
-  arming-reads.Learnt,
-  clock-reads.Asked,
-  clock-reads.Learnt,
-) (run-at t) run.Post
+run-call-requires : (t : ℕ) → run-lts.Need-call-requires (run-claims t) (run-at t) run.Post
 run-call-requires t c κs = let q = c .before .before .before .before .before .before .before .before .before .pre .0 in let h = c .before .before .before .before .before .before .before .if1 .left in (omega arith, (c .before .before .before .before .before .before .before .before .before .pre .1 .0, visit _ _ _ _ (c .before .before .before .before .before .before .before .before .before .pre .1 .1) _ _ (sym (c .before .before .before .before .before .before .read .ensures) ∙ c .before .before .before .before .r .given .1) (c .before .before .before .before .before .before .before .before .before .pre .1 .2) calls (form-call _ (c .before .before .match2 .keys5)), c .before .before .before .before .before .before .before .before .before .pre .1 .3))
 
-run-cast-eval : (t : ℕ) → run-lts.Need-cast-eval (
-  read-reads.Asked,
-  read-reads.Learnt,
-  assign-reads.Asked,
-  assign-reads.Learnt,
-  external-send-reads.Asked,
-  external-send-reads.Learnt,
-  internal-send-reads.Asked,
-  internal-send-reads.Learnt,
-  call-below t,
-  call.Post,
-  eval-reads.Asked,
-  eval-reads.Learnt,
-  run-below t,
-  run.Post,
-  repeat-below t,
-  repeat.Post,
-  arming-reads.Asked,
-  arming-reads.Learnt,
-  clock-reads.Asked,
-  clock-reads.Learnt,
-) (run-at t) run.Post
+run-cast-eval : (t : ℕ) → run-lts.Need-cast-eval (run-claims t) (run-at t) run.Post
 run-cast-eval t c = search needs
 
-run-eval-requires : (t : ℕ) → run-lts.Need-eval-requires (
-  read-reads.Asked,
-  read-reads.Learnt,
-  assign-reads.Asked,
-  assign-reads.Learnt,
-  external-send-reads.Asked,
-  external-send-reads.Learnt,
-  internal-send-reads.Asked,
-  internal-send-reads.Learnt,
-  call-below t,
-  call.Post,
-  eval-reads.Asked,
-  eval-reads.Learnt,
-  run-below t,
-  run.Post,
-  repeat-below t,
-  repeat.Post,
-  arming-reads.Asked,
-  arming-reads.Learnt,
-  clock-reads.Asked,
-  clock-reads.Learnt,
-) (run-at t) run.Post
+run-eval-requires : (t : ℕ) → run-lts.Need-eval-requires (run-claims t) (run-at t) run.Post
 run-eval-requires t c κs = (c .before .before .before .before .before .before .before .before .before .before .pre .1 .0, c .before .before .before .before .before .before .before .before .before .before .pre .1 .1, choice-operand _ _ _ _ (c .before .before .before .before .before .before .before .before .before .before .pre .1 .1) _ _ (sym (c .before .before .before .before .before .before .before .read .ensures) ∙ c .before .before .before .before .before .r .given .1) (c .before .before .before .before .before .before .before .before .before .before .pre .1 .2) (form-choice _ (c .before .before .before .match2 .keys6)))
 
-run-enum-known-x : (t : ℕ) → run-lts.Need-enum-known-x (
-  read-reads.Asked,
-  read-reads.Learnt,
-  assign-reads.Asked,
-  assign-reads.Learnt,
-  external-send-reads.Asked,
-  external-send-reads.Learnt,
-  internal-send-reads.Asked,
-  internal-send-reads.Learnt,
-  call-below t,
-  call.Post,
-  eval-reads.Asked,
-  eval-reads.Learnt,
-  run-below t,
-  run.Post,
-  repeat-below t,
-  repeat.Post,
-  arming-reads.Asked,
-  arming-reads.Learnt,
-  clock-reads.Asked,
-  clock-reads.Learnt,
-) (run-at t) run.Post
+run-enum-known-x : (t : ℕ) → run-lts.Need-enum-known-x (run-claims t) (run-at t) run.Post
 run-enum-known-x t c = search needs
 
-run-cast-run : (t : ℕ) → run-lts.Need-cast-run (
-  read-reads.Asked,
-  read-reads.Learnt,
-  assign-reads.Asked,
-  assign-reads.Learnt,
-  external-send-reads.Asked,
-  external-send-reads.Learnt,
-  internal-send-reads.Asked,
-  internal-send-reads.Learnt,
-  call-below t,
-  call.Post,
-  eval-reads.Asked,
-  eval-reads.Learnt,
-  run-below t,
-  run.Post,
-  repeat-below t,
-  repeat.Post,
-  arming-reads.Asked,
-  arming-reads.Learnt,
-  clock-reads.Asked,
-  clock-reads.Learnt,
-) (run-at t) run.Post
+run-cast-run : (t : ℕ) → run-lts.Need-cast-run (run-claims t) (run-at t) run.Post
 run-cast-run t c = search needs
 
-run-run-requires : (t : ℕ) → run-lts.Need-run-requires (
-  read-reads.Asked,
-  read-reads.Learnt,
-  assign-reads.Asked,
-  assign-reads.Learnt,
-  external-send-reads.Asked,
-  external-send-reads.Learnt,
-  internal-send-reads.Asked,
-  internal-send-reads.Learnt,
-  call-below t,
-  call.Post,
-  eval-reads.Asked,
-  eval-reads.Learnt,
-  run-below t,
-  run.Post,
-  repeat-below t,
-  repeat.Post,
-  arming-reads.Asked,
-  arming-reads.Learnt,
-  clock-reads.Asked,
-  clock-reads.Learnt,
-) (run-at t) run.Post
+run-run-requires : (t : ℕ) → run-lts.Need-run-requires (run-claims t) (run-at t) run.Post
 run-run-requires t c κs = let k = word-left _ _ _ _ _ _ _ _ (sym (c .before .before .before .before .before .x .given .1) ∙ c .before .before .before .before .before .before .before .eval .ensures) in let q = c .before .before .before .before .before .before .before .before .before .before .before .before .before .before .before .before .before .before .pre .0 in let h = c .before .before .before .before .before .before .before .before .before .before .before .before .before .before .before .before .if1 .left in (omega arith, (c .before .before .before .before .before .before .before .before .before .before .before .before .before .before .before .before .before .before .pre .1 .0, c .before .before .before .before .before .before .before .before .before .before .before .before .before .before .before .before .before .before .pre .1 .1, choice-else _ _ _ _ (c .before .before .before .before .before .before .before .before .before .before .before .before .before .before .before .before .before .before .pre .1 .1) _ _ (sym (c .before .before .before .before .before .before .before .before .before .before .before .before .before .before .before .read .ensures) ∙ c .before .before .before .before .before .before .before .before .before .before .before .before .before .r .given .1) (c .before .before .before .before .before .before .before .before .before .before .before .before .before .before .before .before .before .before .pre .1 .2) (form-choice _ (c .before .before .before .before .before .before .before .before .before .before .before .match2 .keys6)), c .before .before .before .before .before .before .before .before .before .before .before .before .before .before .before .before .before .before .pre .1 .3))
 
-run-cast-run-2 : (t : ℕ) → run-lts.Need-cast-run-2 (
-  read-reads.Asked,
-  read-reads.Learnt,
-  assign-reads.Asked,
-  assign-reads.Learnt,
-  external-send-reads.Asked,
-  external-send-reads.Learnt,
-  internal-send-reads.Asked,
-  internal-send-reads.Learnt,
-  call-below t,
-  call.Post,
-  eval-reads.Asked,
-  eval-reads.Learnt,
-  run-below t,
-  run.Post,
-  repeat-below t,
-  repeat.Post,
-  arming-reads.Asked,
-  arming-reads.Learnt,
-  clock-reads.Asked,
-  clock-reads.Learnt,
-) (run-at t) run.Post
+run-cast-run-2 : (t : ℕ) → run-lts.Need-cast-run-2 (run-claims t) (run-at t) run.Post
 run-cast-run-2 t c = search needs
 
-run-run-requires-2 : (t : ℕ) → run-lts.Need-run-requires-2 (
-  read-reads.Asked,
-  read-reads.Learnt,
-  assign-reads.Asked,
-  assign-reads.Learnt,
-  external-send-reads.Asked,
-  external-send-reads.Learnt,
-  internal-send-reads.Asked,
-  internal-send-reads.Learnt,
-  call-below t,
-  call.Post,
-  eval-reads.Asked,
-  eval-reads.Learnt,
-  run-below t,
-  run.Post,
-  repeat-below t,
-  repeat.Post,
-  arming-reads.Asked,
-  arming-reads.Learnt,
-  clock-reads.Asked,
-  clock-reads.Learnt,
-) (run-at t) run.Post
+run-run-requires-2 : (t : ℕ) → run-lts.Need-run-requires-2 (run-claims t) (run-at t) run.Post
 run-run-requires-2 t c κs = let k = word-left _ _ _ _ _ _ _ _ (sym (c .before .before .before .before .before .x .given .1) ∙ c .before .before .before .before .before .before .before .eval .ensures) in let q = c .before .before .before .before .before .before .before .before .before .before .before .before .before .before .before .before .before .before .pre .0 in let h = c .before .before .before .before .before .before .before .before .before .before .before .before .before .before .before .before .if1 .left in (omega arith, (c .before .before .before .before .before .before .before .before .before .before .before .before .before .before .before .before .before .before .pre .1 .0, c .before .before .before .before .before .before .before .before .before .before .before .before .before .before .before .before .before .before .pre .1 .1, choice-then _ _ _ _ (c .before .before .before .before .before .before .before .before .before .before .before .before .before .before .before .before .before .before .pre .1 .1) _ _ (sym (c .before .before .before .before .before .before .before .before .before .before .before .before .before .before .before .read .ensures) ∙ c .before .before .before .before .before .before .before .before .before .before .before .before .before .r .given .1) (c .before .before .before .before .before .before .before .before .before .before .before .before .before .before .before .before .before .before .pre .1 .2) (form-choice _ (c .before .before .before .before .before .before .before .before .before .before .before .match2 .keys6)), c .before .before .before .before .before .before .before .before .before .before .before .before .before .before .before .before .before .before .pre .1 .3))
 
-run-enum-known-x-2 : (t : ℕ) → run-lts.Need-enum-known-x-2 (
-  read-reads.Asked,
-  read-reads.Learnt,
-  assign-reads.Asked,
-  assign-reads.Learnt,
-  external-send-reads.Asked,
-  external-send-reads.Learnt,
-  internal-send-reads.Asked,
-  internal-send-reads.Learnt,
-  call-below t,
-  call.Post,
-  eval-reads.Asked,
-  eval-reads.Learnt,
-  run-below t,
-  run.Post,
-  repeat-below t,
-  repeat.Post,
-  arming-reads.Asked,
-  arming-reads.Learnt,
-  clock-reads.Asked,
-  clock-reads.Learnt,
-) (run-at t) run.Post
+run-enum-known-x-2 : (t : ℕ) → run-lts.Need-enum-known-x-2 (run-claims t) (run-at t) run.Post
 run-enum-known-x-2 t c = search needs
 
-run-enum-told-2 : (t : ℕ) → run-lts.Need-enum-told-2 (
-  read-reads.Asked,
-  read-reads.Learnt,
-  assign-reads.Asked,
-  assign-reads.Learnt,
-  external-send-reads.Asked,
-  external-send-reads.Learnt,
-  internal-send-reads.Asked,
-  internal-send-reads.Learnt,
-  call-below t,
-  call.Post,
-  eval-reads.Asked,
-  eval-reads.Learnt,
-  run-below t,
-  run.Post,
-  repeat-below t,
-  repeat.Post,
-  arming-reads.Asked,
-  arming-reads.Learnt,
-  clock-reads.Asked,
-  clock-reads.Learnt,
-) (run-at t) run.Post
+run-enum-told-2 : (t : ℕ) → run-lts.Need-enum-told-2 (run-claims t) (run-at t) run.Post
 run-enum-told-2 t c = search needs
 
-run-repeat-requires : (t : ℕ) → run-lts.Need-repeat-requires (
-  read-reads.Asked,
-  read-reads.Learnt,
-  assign-reads.Asked,
-  assign-reads.Learnt,
-  external-send-reads.Asked,
-  external-send-reads.Learnt,
-  internal-send-reads.Asked,
-  internal-send-reads.Learnt,
-  call-below t,
-  call.Post,
-  eval-reads.Asked,
-  eval-reads.Learnt,
-  run-below t,
-  run.Post,
-  repeat-below t,
-  repeat.Post,
-  arming-reads.Asked,
-  arming-reads.Learnt,
-  clock-reads.Asked,
-  clock-reads.Learnt,
-) (run-at t) run.Post
+run-repeat-requires : (t : ℕ) → run-lts.Need-repeat-requires (run-claims t) (run-at t) run.Post
 run-repeat-requires t c κs = let q = c .before .before .before .before .before .before .before .before .before .pre .0 in let h = c .before .before .before .before .before .before .before .if1 .left in (omega arith, (c .before .before .before .before .before .before .before .before .before .pre .1 .0, visit _ _ _ _ (c .before .before .before .before .before .before .before .before .before .pre .1 .1) _ _ (sym (c .before .before .before .before .before .before .read .ensures) ∙ c .before .before .before .before .r .given .1) (c .before .before .before .before .before .before .before .before .before .pre .1 .2) loop (form-loop _ (c .before .before .match2 .keys7)), c .before .before .before .before .before .before .before .before .before .pre .1 .3))
 
-run-cast-run-3 : (t : ℕ) → run-lts.Need-cast-run-3 (
-  read-reads.Asked,
-  read-reads.Learnt,
-  assign-reads.Asked,
-  assign-reads.Learnt,
-  external-send-reads.Asked,
-  external-send-reads.Learnt,
-  internal-send-reads.Asked,
-  internal-send-reads.Learnt,
-  call-below t,
-  call.Post,
-  eval-reads.Asked,
-  eval-reads.Learnt,
-  run-below t,
-  run.Post,
-  repeat-below t,
-  repeat.Post,
-  arming-reads.Asked,
-  arming-reads.Learnt,
-  clock-reads.Asked,
-  clock-reads.Learnt,
-) (run-at t) run.Post
+run-cast-run-3 : (t : ℕ) → run-lts.Need-cast-run-3 (run-claims t) (run-at t) run.Post
 run-cast-run-3 t c = search needs
 
-run-run-requires-3 : (t : ℕ) → run-lts.Need-run-requires-3 (
-  read-reads.Asked,
-  read-reads.Learnt,
-  assign-reads.Asked,
-  assign-reads.Learnt,
-  external-send-reads.Asked,
-  external-send-reads.Learnt,
-  internal-send-reads.Asked,
-  internal-send-reads.Learnt,
-  call-below t,
-  call.Post,
-  eval-reads.Asked,
-  eval-reads.Learnt,
-  run-below t,
-  run.Post,
-  repeat-below t,
-  repeat.Post,
-  arming-reads.Asked,
-  arming-reads.Learnt,
-  clock-reads.Asked,
-  clock-reads.Learnt,
-) (run-at t) run.Post
+run-run-requires-3 : (t : ℕ) → run-lts.Need-run-requires-3 (run-claims t) (run-at t) run.Post
 run-run-requires-3 t c κs = let q = c .before .before .before .before .before .before .before .before .before .before .pre .0 in let h = c .before .before .before .before .before .before .before .before .if1 .left in (omega arith, (c .before .before .before .before .before .before .before .before .before .before .pre .1 .0, c .before .before .before .before .before .before .before .before .before .before .pre .1 .1, sequence-first _ _ _ _ (c .before .before .before .before .before .before .before .before .before .before .pre .1 .1) _ _ (sym (c .before .before .before .before .before .before .before .read .ensures) ∙ c .before .before .before .before .before .r .given .1) (c .before .before .before .before .before .before .before .before .before .before .pre .1 .2) (form-sequence _ (c .before .before .before .match2 .keys8)), c .before .before .before .before .before .before .before .before .before .before .pre .1 .3))
 
-run-enum-known-o : (t : ℕ) → run-lts.Need-enum-known-o (
-  read-reads.Asked,
-  read-reads.Learnt,
-  assign-reads.Asked,
-  assign-reads.Learnt,
-  external-send-reads.Asked,
-  external-send-reads.Learnt,
-  internal-send-reads.Asked,
-  internal-send-reads.Learnt,
-  call-below t,
-  call.Post,
-  eval-reads.Asked,
-  eval-reads.Learnt,
-  run-below t,
-  run.Post,
-  repeat-below t,
-  repeat.Post,
-  arming-reads.Asked,
-  arming-reads.Learnt,
-  clock-reads.Asked,
-  clock-reads.Learnt,
-) (run-at t) run.Post
+run-enum-known-o : (t : ℕ) → run-lts.Need-enum-known-o (run-claims t) (run-at t) run.Post
 run-enum-known-o t c = search needs
 
-run-cast-run-4 : (t : ℕ) → run-lts.Need-cast-run-4 (
-  read-reads.Asked,
-  read-reads.Learnt,
-  assign-reads.Asked,
-  assign-reads.Learnt,
-  external-send-reads.Asked,
-  external-send-reads.Learnt,
-  internal-send-reads.Asked,
-  internal-send-reads.Learnt,
-  call-below t,
-  call.Post,
-  eval-reads.Asked,
-  eval-reads.Learnt,
-  run-below t,
-  run.Post,
-  repeat-below t,
-  repeat.Post,
-  arming-reads.Asked,
-  arming-reads.Learnt,
-  clock-reads.Asked,
-  clock-reads.Learnt,
-) (run-at t) run.Post
+run-cast-run-4 : (t : ℕ) → run-lts.Need-cast-run-4 (run-claims t) (run-at t) run.Post
 run-cast-run-4 t c = search needs
 
-run-run-requires-4 : (t : ℕ) → run-lts.Need-run-requires-4 (
-  read-reads.Asked,
-  read-reads.Learnt,
-  assign-reads.Asked,
-  assign-reads.Learnt,
-  external-send-reads.Asked,
-  external-send-reads.Learnt,
-  internal-send-reads.Asked,
-  internal-send-reads.Learnt,
-  call-below t,
-  call.Post,
-  eval-reads.Asked,
-  eval-reads.Learnt,
-  run-below t,
-  run.Post,
-  repeat-below t,
-  repeat.Post,
-  arming-reads.Asked,
-  arming-reads.Learnt,
-  clock-reads.Asked,
-  clock-reads.Learnt,
-) (run-at t) run.Post
+run-run-requires-4 : (t : ℕ) → run-lts.Need-run-requires-4 (run-claims t) (run-at t) run.Post
 run-run-requires-4 t c κs = let k = done-left _ _ _ _ _ _ _ _ _ _ (with-ran (c .before .before .before .before .o .given .1) (c .before .before .before .before .before .before .before .run3 .ensures .1)) in let q = c .before .before .before .before .before .before .before .before .before .before .before .before .before .before .before .before .before .before .pre .0 in let h = c .before .before .before .before .before .before .before .before .before .before .before .before .before .before .before .before .if1 .left in (omega arith, (c .before .before .before .before .before .before .before .before .before .before .before .before .before .before .before .before .before .before .pre .1 .0, ready-after _ _ _ _ (c .before .before .before .before .before .before .before .before .before .before .before .before .before .before .before .before .before .before .pre .1 .1) _ _ _ (sequence-first _ _ _ _ (c .before .before .before .before .before .before .before .before .before .before .before .before .before .before .before .before .before .before .pre .1 .1) _ _ (sym (c .before .before .before .before .before .before .before .before .before .before .before .before .before .before .before .read .ensures) ∙ c .before .before .before .before .before .before .before .before .before .before .before .before .before .r .given .1) (c .before .before .before .before .before .before .before .before .before .before .before .before .before .before .before .before .before .before .pre .1 .2) (form-sequence _ (c .before .before .before .before .before .before .before .before .before .before .before .match2 .keys8))) _ _ _ (sym (with-ran (c .before .before .before .before .o .given .1) (c .before .before .before .before .before .before .before .run3 .ensures .1))), sequence-second _ _ _ _ (c .before .before .before .before .before .before .before .before .before .before .before .before .before .before .before .before .before .before .pre .1 .1) _ _ (sym (c .before .before .before .before .before .before .before .before .before .before .before .before .before .before .before .read .ensures) ∙ c .before .before .before .before .before .before .before .before .before .before .before .before .before .r .given .1) (c .before .before .before .before .before .before .before .before .before .before .before .before .before .before .before .before .before .before .pre .1 .2) (form-sequence _ (c .before .before .before .before .before .before .before .before .before .before .before .match2 .keys8)), c .before .before .before .before .before .before .before .before .before .before .before .before .before .before .before .before .before .before .pre .1 .3))
 
-run-enum-known-o-2 : (t : ℕ) → run-lts.Need-enum-known-o-2 (
-  read-reads.Asked,
-  read-reads.Learnt,
-  assign-reads.Asked,
-  assign-reads.Learnt,
-  external-send-reads.Asked,
-  external-send-reads.Learnt,
-  internal-send-reads.Asked,
-  internal-send-reads.Learnt,
-  call-below t,
-  call.Post,
-  eval-reads.Asked,
-  eval-reads.Learnt,
-  run-below t,
-  run.Post,
-  repeat-below t,
-  repeat.Post,
-  arming-reads.Asked,
-  arming-reads.Learnt,
-  clock-reads.Asked,
-  clock-reads.Learnt,
-) (run-at t) run.Post
+run-enum-known-o-2 : (t : ℕ) → run-lts.Need-enum-known-o-2 (run-claims t) (run-at t) run.Post
 run-enum-known-o-2 t c = search needs
 
-run-enum-told-3 : (t : ℕ) → run-lts.Need-enum-told-3 (
-  read-reads.Asked,
-  read-reads.Learnt,
-  assign-reads.Asked,
-  assign-reads.Learnt,
-  external-send-reads.Asked,
-  external-send-reads.Learnt,
-  internal-send-reads.Asked,
-  internal-send-reads.Learnt,
-  call-below t,
-  call.Post,
-  eval-reads.Asked,
-  eval-reads.Learnt,
-  run-below t,
-  run.Post,
-  repeat-below t,
-  repeat.Post,
-  arming-reads.Asked,
-  arming-reads.Learnt,
-  clock-reads.Asked,
-  clock-reads.Learnt,
-) (run-at t) run.Post
+run-enum-told-3 : (t : ℕ) → run-lts.Need-enum-told-3 (run-claims t) (run-at t) run.Post
 run-enum-told-3 t c = search needs
 
-run-arming-requires : (t : ℕ) → run-lts.Need-arming-requires (
-  read-reads.Asked,
-  read-reads.Learnt,
-  assign-reads.Asked,
-  assign-reads.Learnt,
-  external-send-reads.Asked,
-  external-send-reads.Learnt,
-  internal-send-reads.Asked,
-  internal-send-reads.Learnt,
-  call-below t,
-  call.Post,
-  eval-reads.Asked,
-  eval-reads.Learnt,
-  run-below t,
-  run.Post,
-  repeat-below t,
-  repeat.Post,
-  arming-reads.Asked,
-  arming-reads.Learnt,
-  clock-reads.Asked,
-  clock-reads.Learnt,
-) (run-at t) run.Post
+run-arming-requires : (t : ℕ) → run-lts.Need-arming-requires (run-claims t) (run-at t) run.Post
 run-arming-requires t c κs = (c .before .before .before .before .before .before .before .before .before .before .before .pre .1 .0, visit _ _ _ _ (c .before .before .before .before .before .before .before .before .before .before .before .pre .1 .1) _ _ (sym (c .before .before .before .before .before .before .before .before .read .ensures) ∙ c .before .before .before .before .before .before .r .given .1) (c .before .before .before .before .before .before .before .before .before .before .before .pre .1 .2) arm (form-arm _ (past-four _ (c .before .before .before .if3 .left) (c .before .before .before .before .match2 .rest .0 .0 .0 .0 .0 .0 .0 .1) (c .before .before .before .before .match2 .rest .0 .0 .0 .0 .0 .0 .1) (c .before .before .before .before .match2 .rest .0 .0 .0 .0 .0 .1) (c .before .before .before .before .match2 .rest .0 .0 .0 .0 .1)) (below-next (c .before .before .if4 .taken))))
 
-run-clock-requires : (t : ℕ) → run-lts.Need-clock-requires (
-  read-reads.Asked,
-  read-reads.Learnt,
-  assign-reads.Asked,
-  assign-reads.Learnt,
-  external-send-reads.Asked,
-  external-send-reads.Learnt,
-  internal-send-reads.Asked,
-  internal-send-reads.Learnt,
-  call-below t,
-  call.Post,
-  eval-reads.Asked,
-  eval-reads.Learnt,
-  run-below t,
-  run.Post,
-  repeat-below t,
-  repeat.Post,
-  arming-reads.Asked,
-  arming-reads.Learnt,
-  clock-reads.Asked,
-  clock-reads.Learnt,
-) (run-at t) run.Post
+run-clock-requires : (t : ℕ) → run-lts.Need-clock-requires (run-claims t) (run-at t) run.Post
 run-clock-requires t c κs = act-cell _ _ _ _ _ _ (visit _ _ _ _ (c .before .before .before .before .before .before .before .before .before .before .before .pre .1 .1) _ _ (sym (c .before .before .before .before .before .before .before .before .read .ensures) ∙ c .before .before .before .before .before .before .r .given .1) (c .before .before .before .before .before .before .before .before .before .before .before .pre .1 .2) clockAct (form-clockAct _ (c .before .before .if4 .left) (below-next (c .before .if5 .taken))))
 
-run-returns-3 : (t : ℕ) → run-lts.Need-returns-3 (
-  read-reads.Asked,
-  read-reads.Learnt,
-  assign-reads.Asked,
-  assign-reads.Learnt,
-  external-send-reads.Asked,
-  external-send-reads.Learnt,
-  internal-send-reads.Asked,
-  internal-send-reads.Learnt,
-  call-below t,
-  call.Post,
-  eval-reads.Asked,
-  eval-reads.Learnt,
-  run-below t,
-  run.Post,
-  repeat-below t,
-  repeat.Post,
-  arming-reads.Asked,
-  arming-reads.Learnt,
-  clock-reads.Asked,
-  clock-reads.Learnt,
-) (run-at t) run.Post
+run-returns-3 : (t : ℕ) → run-lts.Need-returns-3 (run-claims t) (run-at t) run.Post
 run-returns-3 t c = (c .before .before .before .before .before .before .before .pre .1 .1 .locals .sixteen, step-back _ _ _ _ _ _ _ (c .before .before .before .before .before .if1 .left) (skips _ _ _ _ (c .before .before .before .before .before .before .before .pre .1 .1) _ _ (sym (c .before .before .before .before .read .ensures) ∙ c .before .before .r .given .1) (c .before .before .before .before .before .before .before .pre .1 .2) (c .match2 .keys1) _ _))
 
-run-same-length : (t : ℕ) → run-lts.Need-same-length (
-  read-reads.Asked,
-  read-reads.Learnt,
-  assign-reads.Asked,
-  assign-reads.Learnt,
-  external-send-reads.Asked,
-  external-send-reads.Learnt,
-  internal-send-reads.Asked,
-  internal-send-reads.Learnt,
-  call-below t,
-  call.Post,
-  eval-reads.Asked,
-  eval-reads.Learnt,
-  run-below t,
-  run.Post,
-  repeat-below t,
-  repeat.Post,
-  arming-reads.Asked,
-  arming-reads.Learnt,
-  clock-reads.Asked,
-  clock-reads.Learnt,
-) (run-at t) run.Post
+run-same-length : (t : ℕ) → run-lts.Need-same-length (run-claims t) (run-at t) run.Post
 run-same-length t c = search needs
 
-run-returns-4 : (t : ℕ) → run-lts.Need-returns-4 (
-  read-reads.Asked,
-  read-reads.Learnt,
-  assign-reads.Asked,
-  assign-reads.Learnt,
-  external-send-reads.Asked,
-  external-send-reads.Learnt,
-  internal-send-reads.Asked,
-  internal-send-reads.Learnt,
-  call-below t,
-  call.Post,
-  eval-reads.Asked,
-  eval-reads.Learnt,
-  run-below t,
-  run.Post,
-  repeat-below t,
-  repeat.Post,
-  arming-reads.Asked,
-  arming-reads.Learnt,
-  clock-reads.Asked,
-  clock-reads.Learnt,
-) (run-at t) run.Post
+run-returns-4 : (t : ℕ) → run-lts.Need-returns-4 (run-claims t) (run-at t) run.Post
 run-returns-4 t c = (c .before .assign .ensures .0, step-back _ _ _ _ _ _ _ (c .before .before .before .before .before .before .before .before .before .if1 .left) (c .before .assign .ensures .1 (c .before .before .before .before .before .before .before .before .before .before .before .args .depth)))
 
-run-same-length-2 : (t : ℕ) → run-lts.Need-same-length-2 (
-  read-reads.Asked,
-  read-reads.Learnt,
-  assign-reads.Asked,
-  assign-reads.Learnt,
-  external-send-reads.Asked,
-  external-send-reads.Learnt,
-  internal-send-reads.Asked,
-  internal-send-reads.Learnt,
-  call-below t,
-  call.Post,
-  eval-reads.Asked,
-  eval-reads.Learnt,
-  run-below t,
-  run.Post,
-  repeat-below t,
-  repeat.Post,
-  arming-reads.Asked,
-  arming-reads.Learnt,
-  clock-reads.Asked,
-  clock-reads.Learnt,
-) (run-at t) run.Post
+run-same-length-2 : (t : ℕ) → run-lts.Need-same-length-2 (run-claims t) (run-at t) run.Post
 run-same-length-2 t c = search needs
 
-run-returns-5 : (t : ℕ) → run-lts.Need-returns-5 (
-  read-reads.Asked,
-  read-reads.Learnt,
-  assign-reads.Asked,
-  assign-reads.Learnt,
-  external-send-reads.Asked,
-  external-send-reads.Learnt,
-  internal-send-reads.Asked,
-  internal-send-reads.Learnt,
-  call-below t,
-  call.Post,
-  eval-reads.Asked,
-  eval-reads.Learnt,
-  run-below t,
-  run.Post,
-  repeat-below t,
-  repeat.Post,
-  arming-reads.Asked,
-  arming-reads.Learnt,
-  clock-reads.Asked,
-  clock-reads.Learnt,
-) (run-at t) run.Post
+run-returns-5 : (t : ℕ) → run-lts.Need-returns-5 (run-claims t) (run-at t) run.Post
 run-returns-5 t c = (c .before .before .before .before .before .before .before .before .before .before .before .pre .1 .1 .locals .sixteen, step-back _ _ _ _ _ _ _ (c .before .before .before .before .before .before .before .before .before .if1 .left) (c .before .external-send .ensures (c .before .before .before .before .before .before .before .before .before .before .before .args .depth)))
 
-run-same-length-3 : (t : ℕ) → run-lts.Need-same-length-3 (
-  read-reads.Asked,
-  read-reads.Learnt,
-  assign-reads.Asked,
-  assign-reads.Learnt,
-  external-send-reads.Asked,
-  external-send-reads.Learnt,
-  internal-send-reads.Asked,
-  internal-send-reads.Learnt,
-  call-below t,
-  call.Post,
-  eval-reads.Asked,
-  eval-reads.Learnt,
-  run-below t,
-  run.Post,
-  repeat-below t,
-  repeat.Post,
-  arming-reads.Asked,
-  arming-reads.Learnt,
-  clock-reads.Asked,
-  clock-reads.Learnt,
-) (run-at t) run.Post
+run-same-length-3 : (t : ℕ) → run-lts.Need-same-length-3 (run-claims t) (run-at t) run.Post
 run-same-length-3 t c = search needs
 
-run-returns-6 : (t : ℕ) → run-lts.Need-returns-6 (
-  read-reads.Asked,
-  read-reads.Learnt,
-  assign-reads.Asked,
-  assign-reads.Learnt,
-  external-send-reads.Asked,
-  external-send-reads.Learnt,
-  internal-send-reads.Asked,
-  internal-send-reads.Learnt,
-  call-below t,
-  call.Post,
-  eval-reads.Asked,
-  eval-reads.Learnt,
-  run-below t,
-  run.Post,
-  repeat-below t,
-  repeat.Post,
-  arming-reads.Asked,
-  arming-reads.Learnt,
-  clock-reads.Asked,
-  clock-reads.Learnt,
-) (run-at t) run.Post
+run-returns-6 : (t : ℕ) → run-lts.Need-returns-6 (run-claims t) (run-at t) run.Post
 run-returns-6 t c = (c .before .before .before .before .before .before .before .before .before .before .before .pre .1 .1 .locals .sixteen, step-back _ _ _ _ _ _ _ (c .before .before .before .before .before .before .before .before .before .if1 .left) (c .before .internal-send .ensures (c .before .before .before .before .before .before .before .before .before .before .before .args .depth)))
 
-run-same-length-4 : (t : ℕ) → run-lts.Need-same-length-4 (
-  read-reads.Asked,
-  read-reads.Learnt,
-  assign-reads.Asked,
-  assign-reads.Learnt,
-  external-send-reads.Asked,
-  external-send-reads.Learnt,
-  internal-send-reads.Asked,
-  internal-send-reads.Learnt,
-  call-below t,
-  call.Post,
-  eval-reads.Asked,
-  eval-reads.Learnt,
-  run-below t,
-  run.Post,
-  repeat-below t,
-  repeat.Post,
-  arming-reads.Asked,
-  arming-reads.Learnt,
-  clock-reads.Asked,
-  clock-reads.Learnt,
-) (run-at t) run.Post
+run-same-length-4 : (t : ℕ) → run-lts.Need-same-length-4 (run-claims t) (run-at t) run.Post
 run-same-length-4 t c = search needs
 
-run-returns-7 : (t : ℕ) → run-lts.Need-returns-7 (
-  read-reads.Asked,
-  read-reads.Learnt,
-  assign-reads.Asked,
-  assign-reads.Learnt,
-  external-send-reads.Asked,
-  external-send-reads.Learnt,
-  internal-send-reads.Asked,
-  internal-send-reads.Learnt,
-  call-below t,
-  call.Post,
-  eval-reads.Asked,
-  eval-reads.Learnt,
-  run-below t,
-  run.Post,
-  repeat-below t,
-  repeat.Post,
-  arming-reads.Asked,
-  arming-reads.Learnt,
-  clock-reads.Asked,
-  clock-reads.Learnt,
-) (run-at t) run.Post
+run-returns-7 : (t : ℕ) → run-lts.Need-returns-7 (run-claims t) (run-at t) run.Post
 run-returns-7 t c = (c .before .before .before .before .before .before .before .before .before .before .before .pre .1 .1 .locals .sixteen, step-back _ _ _ _ _ _ _ (c .before .before .before .before .before .before .before .before .before .if1 .left) (c .before .call .ensures))
 
-run-same-length-5 : (t : ℕ) → run-lts.Need-same-length-5 (
-  read-reads.Asked,
-  read-reads.Learnt,
-  assign-reads.Asked,
-  assign-reads.Learnt,
-  external-send-reads.Asked,
-  external-send-reads.Learnt,
-  internal-send-reads.Asked,
-  internal-send-reads.Learnt,
-  call-below t,
-  call.Post,
-  eval-reads.Asked,
-  eval-reads.Learnt,
-  run-below t,
-  run.Post,
-  repeat-below t,
-  repeat.Post,
-  arming-reads.Asked,
-  arming-reads.Learnt,
-  clock-reads.Asked,
-  clock-reads.Learnt,
-) (run-at t) run.Post
+run-same-length-5 : (t : ℕ) → run-lts.Need-same-length-5 (run-claims t) (run-at t) run.Post
 run-same-length-5 t c = search needs
 
-run-returns-8 : (t : ℕ) → run-lts.Need-returns-8 (
-  read-reads.Asked,
-  read-reads.Learnt,
-  assign-reads.Asked,
-  assign-reads.Learnt,
-  external-send-reads.Asked,
-  external-send-reads.Learnt,
-  internal-send-reads.Asked,
-  internal-send-reads.Learnt,
-  call-below t,
-  call.Post,
-  eval-reads.Asked,
-  eval-reads.Learnt,
-  run-below t,
-  run.Post,
-  repeat-below t,
-  repeat.Post,
-  arming-reads.Asked,
-  arming-reads.Learnt,
-  clock-reads.Asked,
-  clock-reads.Learnt,
-) (run-at t) run.Post
+run-returns-8 : (t : ℕ) → run-lts.Need-returns-8 (run-claims t) (run-at t) run.Post
 run-returns-8 t c = (c .before .run .ensures .0, step-back _ _ _ _ _ _ _ (c .before .before .before .before .before .before .before .before .before .before .before .before .before .before .before .before .before .before .if1 .left) (c .before .run .ensures .1 ∙ choice-no _ _ _ _ _ _ (visit _ _ _ _ (c .before .before .before .before .before .before .before .before .before .before .before .before .before .before .before .before .before .before .before .before .pre .1 .1) _ _ (sym (c .before .before .before .before .before .before .before .before .before .before .before .before .before .before .before .before .before .read .ensures) ∙ c .before .before .before .before .before .before .before .before .before .before .before .before .before .before .before .r .given .1) (c .before .before .before .before .before .before .before .before .before .before .before .before .before .before .before .before .before .before .before .before .pre .1 .2) choice (form-choice _ (c .before .before .before .before .before .before .before .before .before .before .before .before .before .match2 .keys6))) _ _ _ _ (sym (c .before .before .before .before .before .before .before .x .given .1) ∙ c .before .before .before .before .before .before .before .before .before .eval .ensures) (is-zero (record { sfits = c .before .before .before .before .before .before .known-told2 .given .0 .1 }) (c .before .before .before .before .before .if2 .taken))))
 
-run-same-length-6 : (t : ℕ) → run-lts.Need-same-length-6 (
-  read-reads.Asked,
-  read-reads.Learnt,
-  assign-reads.Asked,
-  assign-reads.Learnt,
-  external-send-reads.Asked,
-  external-send-reads.Learnt,
-  internal-send-reads.Asked,
-  internal-send-reads.Learnt,
-  call-below t,
-  call.Post,
-  eval-reads.Asked,
-  eval-reads.Learnt,
-  run-below t,
-  run.Post,
-  repeat-below t,
-  repeat.Post,
-  arming-reads.Asked,
-  arming-reads.Learnt,
-  clock-reads.Asked,
-  clock-reads.Learnt,
-) (run-at t) run.Post
+run-same-length-6 : (t : ℕ) → run-lts.Need-same-length-6 (run-claims t) (run-at t) run.Post
 run-same-length-6 t c = search needs
 
-run-returns-9 : (t : ℕ) → run-lts.Need-returns-9 (
-  read-reads.Asked,
-  read-reads.Learnt,
-  assign-reads.Asked,
-  assign-reads.Learnt,
-  external-send-reads.Asked,
-  external-send-reads.Learnt,
-  internal-send-reads.Asked,
-  internal-send-reads.Learnt,
-  call-below t,
-  call.Post,
-  eval-reads.Asked,
-  eval-reads.Learnt,
-  run-below t,
-  run.Post,
-  repeat-below t,
-  repeat.Post,
-  arming-reads.Asked,
-  arming-reads.Learnt,
-  clock-reads.Asked,
-  clock-reads.Learnt,
-) (run-at t) run.Post
+run-returns-9 : (t : ℕ) → run-lts.Need-returns-9 (run-claims t) (run-at t) run.Post
 run-returns-9 t c = (c .before .run2 .ensures .0, step-back _ _ _ _ _ _ _ (c .before .before .before .before .before .before .before .before .before .before .before .before .before .before .before .before .before .before .if1 .left) (c .before .run2 .ensures .1 ∙ choice-yes _ _ _ _ _ _ (visit _ _ _ _ (c .before .before .before .before .before .before .before .before .before .before .before .before .before .before .before .before .before .before .before .before .pre .1 .1) _ _ (sym (c .before .before .before .before .before .before .before .before .before .before .before .before .before .before .before .before .before .read .ensures) ∙ c .before .before .before .before .before .before .before .before .before .before .before .before .before .before .before .r .given .1) (c .before .before .before .before .before .before .before .before .before .before .before .before .before .before .before .before .before .before .before .before .pre .1 .2) choice (form-choice _ (c .before .before .before .before .before .before .before .before .before .before .before .before .before .match2 .keys6))) _ _ _ _ (sym (c .before .before .before .before .before .before .before .x .given .1) ∙ c .before .before .before .before .before .before .before .before .before .eval .ensures) (not-zero (record { sfits = c .before .before .before .before .before .before .known-told2 .given .0 .1 }) (c .before .before .before .before .before .if2 .left))))
 
-run-same-length-7 : (t : ℕ) → run-lts.Need-same-length-7 (
-  read-reads.Asked,
-  read-reads.Learnt,
-  assign-reads.Asked,
-  assign-reads.Learnt,
-  external-send-reads.Asked,
-  external-send-reads.Learnt,
-  internal-send-reads.Asked,
-  internal-send-reads.Learnt,
-  call-below t,
-  call.Post,
-  eval-reads.Asked,
-  eval-reads.Learnt,
-  run-below t,
-  run.Post,
-  repeat-below t,
-  repeat.Post,
-  arming-reads.Asked,
-  arming-reads.Learnt,
-  clock-reads.Asked,
-  clock-reads.Learnt,
-) (run-at t) run.Post
+run-same-length-7 : (t : ℕ) → run-lts.Need-same-length-7 (run-claims t) (run-at t) run.Post
 run-same-length-7 t c = search needs
 
-run-returns-10 : (t : ℕ) → run-lts.Need-returns-10 (
-  read-reads.Asked,
-  read-reads.Learnt,
-  assign-reads.Asked,
-  assign-reads.Learnt,
-  external-send-reads.Asked,
-  external-send-reads.Learnt,
-  internal-send-reads.Asked,
-  internal-send-reads.Learnt,
-  call-below t,
-  call.Post,
-  eval-reads.Asked,
-  eval-reads.Learnt,
-  run-below t,
-  run.Post,
-  repeat-below t,
-  repeat.Post,
-  arming-reads.Asked,
-  arming-reads.Learnt,
-  clock-reads.Asked,
-  clock-reads.Learnt,
-) (run-at t) run.Post
+run-returns-10 : (t : ℕ) → run-lts.Need-returns-10 (run-claims t) (run-at t) run.Post
 run-returns-10 t c = (c .before .before .before .before .before .before .before .before .before .before .before .before .before .before .pre .1 .1 .locals .sixteen, step-back _ _ _ _ _ _ _ (c .before .before .before .before .before .before .before .before .before .before .before .before .if1 .left) (choice-refused _ _ _ _ _ _ (visit _ _ _ _ (c .before .before .before .before .before .before .before .before .before .before .before .before .before .before .pre .1 .1) _ _ (sym (c .before .before .before .before .before .before .before .before .before .before .before .read .ensures) ∙ c .before .before .before .before .before .before .before .before .before .r .given .1) (c .before .before .before .before .before .before .before .before .before .before .before .before .before .before .pre .1 .2) choice (form-choice _ (c .before .before .before .before .before .before .before .match2 .keys6))) _ _ _ _ (sym (c .before .x2 .given .1) ∙ c .before .before .before .eval .ensures)))
 
-run-same-length-8 : (t : ℕ) → run-lts.Need-same-length-8 (
-  read-reads.Asked,
-  read-reads.Learnt,
-  assign-reads.Asked,
-  assign-reads.Learnt,
-  external-send-reads.Asked,
-  external-send-reads.Learnt,
-  internal-send-reads.Asked,
-  internal-send-reads.Learnt,
-  call-below t,
-  call.Post,
-  eval-reads.Asked,
-  eval-reads.Learnt,
-  run-below t,
-  run.Post,
-  repeat-below t,
-  repeat.Post,
-  arming-reads.Asked,
-  arming-reads.Learnt,
-  clock-reads.Asked,
-  clock-reads.Learnt,
-) (run-at t) run.Post
+run-same-length-8 : (t : ℕ) → run-lts.Need-same-length-8 (run-claims t) (run-at t) run.Post
 run-same-length-8 t c = search needs
 
-run-returns-11 : (t : ℕ) → run-lts.Need-returns-11 (
-  read-reads.Asked,
-  read-reads.Learnt,
-  assign-reads.Asked,
-  assign-reads.Learnt,
-  external-send-reads.Asked,
-  external-send-reads.Learnt,
-  internal-send-reads.Asked,
-  internal-send-reads.Learnt,
-  call-below t,
-  call.Post,
-  eval-reads.Asked,
-  eval-reads.Learnt,
-  run-below t,
-  run.Post,
-  repeat-below t,
-  repeat.Post,
-  arming-reads.Asked,
-  arming-reads.Learnt,
-  clock-reads.Asked,
-  clock-reads.Learnt,
-) (run-at t) run.Post
+run-returns-11 : (t : ℕ) → run-lts.Need-returns-11 (run-claims t) (run-at t) run.Post
 run-returns-11 t c = (c .before .before .before .before .before .before .before .before .before .before .before .before .before .pre .1 .1 .locals .sixteen, step-back _ _ _ _ _ _ _ (c .before .before .before .before .before .before .before .before .before .before .before .if1 .left) (choice-stuck _ _ _ _ _ _ (visit _ _ _ _ (c .before .before .before .before .before .before .before .before .before .before .before .before .before .pre .1 .1) _ _ (sym (c .before .before .before .before .before .before .before .before .before .before .read .ensures) ∙ c .before .before .before .before .before .before .before .before .r .given .1) (c .before .before .before .before .before .before .before .before .before .before .before .before .before .pre .1 .2) choice (form-choice _ (c .before .before .before .before .before .before .match2 .keys6))) _ _ (sym (c .enum-told2 .given .1) ∙ c .before .before .eval .ensures)))
 
-run-same-length-9 : (t : ℕ) → run-lts.Need-same-length-9 (
-  read-reads.Asked,
-  read-reads.Learnt,
-  assign-reads.Asked,
-  assign-reads.Learnt,
-  external-send-reads.Asked,
-  external-send-reads.Learnt,
-  internal-send-reads.Asked,
-  internal-send-reads.Learnt,
-  call-below t,
-  call.Post,
-  eval-reads.Asked,
-  eval-reads.Learnt,
-  run-below t,
-  run.Post,
-  repeat-below t,
-  repeat.Post,
-  arming-reads.Asked,
-  arming-reads.Learnt,
-  clock-reads.Asked,
-  clock-reads.Learnt,
-) (run-at t) run.Post
+run-same-length-9 : (t : ℕ) → run-lts.Need-same-length-9 (run-claims t) (run-at t) run.Post
 run-same-length-9 t c = search needs
 
-run-returns-12 : (t : ℕ) → run-lts.Need-returns-12 (
-  read-reads.Asked,
-  read-reads.Learnt,
-  assign-reads.Asked,
-  assign-reads.Learnt,
-  external-send-reads.Asked,
-  external-send-reads.Learnt,
-  internal-send-reads.Asked,
-  internal-send-reads.Learnt,
-  call-below t,
-  call.Post,
-  eval-reads.Asked,
-  eval-reads.Learnt,
-  run-below t,
-  run.Post,
-  repeat-below t,
-  repeat.Post,
-  arming-reads.Asked,
-  arming-reads.Learnt,
-  clock-reads.Asked,
-  clock-reads.Learnt,
-) (run-at t) run.Post
+run-returns-12 : (t : ℕ) → run-lts.Need-returns-12 (run-claims t) (run-at t) run.Post
 run-returns-12 t c = (c .before .repeat .ensures .0, step-back _ _ _ _ _ _ _ (c .before .before .before .before .before .before .before .before .before .if1 .left) (c .before .repeat .ensures .1))
 
-run-same-length-10 : (t : ℕ) → run-lts.Need-same-length-10 (
-  read-reads.Asked,
-  read-reads.Learnt,
-  assign-reads.Asked,
-  assign-reads.Learnt,
-  external-send-reads.Asked,
-  external-send-reads.Learnt,
-  internal-send-reads.Asked,
-  internal-send-reads.Learnt,
-  call-below t,
-  call.Post,
-  eval-reads.Asked,
-  eval-reads.Learnt,
-  run-below t,
-  run.Post,
-  repeat-below t,
-  repeat.Post,
-  arming-reads.Asked,
-  arming-reads.Learnt,
-  clock-reads.Asked,
-  clock-reads.Learnt,
-) (run-at t) run.Post
+run-same-length-10 : (t : ℕ) → run-lts.Need-same-length-10 (run-claims t) (run-at t) run.Post
 run-same-length-10 t c = search needs
 
-run-returns-13 : (t : ℕ) → run-lts.Need-returns-13 (
-  read-reads.Asked,
-  read-reads.Learnt,
-  assign-reads.Asked,
-  assign-reads.Learnt,
-  external-send-reads.Asked,
-  external-send-reads.Learnt,
-  internal-send-reads.Asked,
-  internal-send-reads.Learnt,
-  call-below t,
-  call.Post,
-  eval-reads.Asked,
-  eval-reads.Learnt,
-  run-below t,
-  run.Post,
-  repeat-below t,
-  repeat.Post,
-  arming-reads.Asked,
-  arming-reads.Learnt,
-  clock-reads.Asked,
-  clock-reads.Learnt,
-) (run-at t) run.Post
+run-returns-13 : (t : ℕ) → run-lts.Need-returns-13 (run-claims t) (run-at t) run.Post
 run-returns-13 t c = (c .before .run4 .ensures .0, step-back _ _ _ _ _ _ _ (c .before .before .before .before .before .before .before .before .before .before .before .before .before .before .before .before .before .before .if1 .left) (c .before .run4 .ensures .1 ∙ first-done _ _ _ _ _ _ (visit _ _ _ _ (c .before .before .before .before .before .before .before .before .before .before .before .before .before .before .before .before .before .before .before .before .pre .1 .1) _ _ (sym (c .before .before .before .before .before .before .before .before .before .before .before .before .before .before .before .before .before .read .ensures) ∙ c .before .before .before .before .before .before .before .before .before .before .before .before .before .before .before .r .given .1) (c .before .before .before .before .before .before .before .before .before .before .before .before .before .before .before .before .before .before .before .before .pre .1 .2) sequence (form-sequence _ (c .before .before .before .before .before .before .before .before .before .before .before .before .before .match2 .keys8))) _ _ _ _ _ (with-ran (c .before .before .before .before .before .before .o .given .1) (c .before .before .before .before .before .before .before .before .before .run3 .ensures .1))))
 
-run-same-length-11 : (t : ℕ) → run-lts.Need-same-length-11 (
-  read-reads.Asked,
-  read-reads.Learnt,
-  assign-reads.Asked,
-  assign-reads.Learnt,
-  external-send-reads.Asked,
-  external-send-reads.Learnt,
-  internal-send-reads.Asked,
-  internal-send-reads.Learnt,
-  call-below t,
-  call.Post,
-  eval-reads.Asked,
-  eval-reads.Learnt,
-  run-below t,
-  run.Post,
-  repeat-below t,
-  repeat.Post,
-  arming-reads.Asked,
-  arming-reads.Learnt,
-  clock-reads.Asked,
-  clock-reads.Learnt,
-) (run-at t) run.Post
+run-same-length-11 : (t : ℕ) → run-lts.Need-same-length-11 (run-claims t) (run-at t) run.Post
 run-same-length-11 t c = search needs
 
-run-returns-14 : (t : ℕ) → run-lts.Need-returns-14 (
-  read-reads.Asked,
-  read-reads.Learnt,
-  assign-reads.Asked,
-  assign-reads.Learnt,
-  external-send-reads.Asked,
-  external-send-reads.Learnt,
-  internal-send-reads.Asked,
-  internal-send-reads.Learnt,
-  call-below t,
-  call.Post,
-  eval-reads.Asked,
-  eval-reads.Learnt,
-  run-below t,
-  run.Post,
-  repeat-below t,
-  repeat.Post,
-  arming-reads.Asked,
-  arming-reads.Learnt,
-  clock-reads.Asked,
-  clock-reads.Learnt,
-) (run-at t) run.Post
+run-returns-14 : (t : ℕ) → run-lts.Need-returns-14 (run-claims t) (run-at t) run.Post
 run-returns-14 t c = (c .before .before .before .before .run3 .ensures .0, step-back _ _ _ _ _ _ _ (c .before .before .before .before .before .before .before .before .before .before .before .before .before .if1 .left) (first-refused _ _ _ _ _ _ (visit _ _ _ _ (c .before .before .before .before .before .before .before .before .before .before .before .before .before .before .before .pre .1 .1) _ _ (sym (c .before .before .before .before .before .before .before .before .before .before .before .before .read .ensures) ∙ c .before .before .before .before .before .before .before .before .before .before .r .given .1) (c .before .before .before .before .before .before .before .before .before .before .before .before .before .before .before .pre .1 .2) sequence (form-sequence _ (c .before .before .before .before .before .before .before .before .match2 .keys8))) _ _ _ _ _ _ (with-ran (c .before .o2 .given .1) (c .before .before .before .before .run3 .ensures .1))))
 
-run-same-length-12 : (t : ℕ) → run-lts.Need-same-length-12 (
-  read-reads.Asked,
-  read-reads.Learnt,
-  assign-reads.Asked,
-  assign-reads.Learnt,
-  external-send-reads.Asked,
-  external-send-reads.Learnt,
-  internal-send-reads.Asked,
-  internal-send-reads.Learnt,
-  call-below t,
-  call.Post,
-  eval-reads.Asked,
-  eval-reads.Learnt,
-  run-below t,
-  run.Post,
-  repeat-below t,
-  repeat.Post,
-  arming-reads.Asked,
-  arming-reads.Learnt,
-  clock-reads.Asked,
-  clock-reads.Learnt,
-) (run-at t) run.Post
+run-same-length-12 : (t : ℕ) → run-lts.Need-same-length-12 (run-claims t) (run-at t) run.Post
 run-same-length-12 t c = search needs
 
-run-returns-15 : (t : ℕ) → run-lts.Need-returns-15 (
-  read-reads.Asked,
-  read-reads.Learnt,
-  assign-reads.Asked,
-  assign-reads.Learnt,
-  external-send-reads.Asked,
-  external-send-reads.Learnt,
-  internal-send-reads.Asked,
-  internal-send-reads.Learnt,
-  call-below t,
-  call.Post,
-  eval-reads.Asked,
-  eval-reads.Learnt,
-  run-below t,
-  run.Post,
-  repeat-below t,
-  repeat.Post,
-  arming-reads.Asked,
-  arming-reads.Learnt,
-  clock-reads.Asked,
-  clock-reads.Learnt,
-) (run-at t) run.Post
+run-returns-15 : (t : ℕ) → run-lts.Need-returns-15 (run-claims t) (run-at t) run.Post
 run-returns-15 t c = (c .before .before .before .run3 .ensures .0, step-back _ _ _ _ _ _ _ (c .before .before .before .before .before .before .before .before .before .before .before .before .if1 .left) (first-stuck _ _ _ _ _ _ (visit _ _ _ _ (c .before .before .before .before .before .before .before .before .before .before .before .before .before .before .pre .1 .1) _ _ (sym (c .before .before .before .before .before .before .before .before .before .before .before .read .ensures) ∙ c .before .before .before .before .before .before .before .before .before .r .given .1) (c .before .before .before .before .before .before .before .before .before .before .before .before .before .before .pre .1 .2) sequence (form-sequence _ (c .before .before .before .before .before .before .before .match2 .keys8))) _ _ _ _ (with-ran (c .enum-told3 .given .1) (c .before .before .before .run3 .ensures .1))))
 
-run-same-length-13 : (t : ℕ) → run-lts.Need-same-length-13 (
-  read-reads.Asked,
-  read-reads.Learnt,
-  assign-reads.Asked,
-  assign-reads.Learnt,
-  external-send-reads.Asked,
-  external-send-reads.Learnt,
-  internal-send-reads.Asked,
-  internal-send-reads.Learnt,
-  call-below t,
-  call.Post,
-  eval-reads.Asked,
-  eval-reads.Learnt,
-  run-below t,
-  run.Post,
-  repeat-below t,
-  repeat.Post,
-  arming-reads.Asked,
-  arming-reads.Learnt,
-  clock-reads.Asked,
-  clock-reads.Learnt,
-) (run-at t) run.Post
+run-same-length-13 : (t : ℕ) → run-lts.Need-same-length-13 (run-claims t) (run-at t) run.Post
 run-same-length-13 t c = search needs
 
-run-returns-16 : (t : ℕ) → run-lts.Need-returns-16 (
-  read-reads.Asked,
-  read-reads.Learnt,
-  assign-reads.Asked,
-  assign-reads.Learnt,
-  external-send-reads.Asked,
-  external-send-reads.Learnt,
-  internal-send-reads.Asked,
-  internal-send-reads.Learnt,
-  call-below t,
-  call.Post,
-  eval-reads.Asked,
-  eval-reads.Learnt,
-  run-below t,
-  run.Post,
-  repeat-below t,
-  repeat.Post,
-  arming-reads.Asked,
-  arming-reads.Learnt,
-  clock-reads.Asked,
-  clock-reads.Learnt,
-) (run-at t) run.Post
+run-returns-16 : (t : ℕ) → run-lts.Need-returns-16 (run-claims t) (run-at t) run.Post
 run-returns-16 t c = (c .before .before .before .before .before .before .before .before .before .before .before .before .before .pre .1 .1 .locals .sixteen, step-back _ _ _ _ _ _ _ (c .before .before .before .before .before .before .before .before .before .before .before .if1 .left) (c .before .arming .ensures (c .before .before .before .before .before .before .before .before .before .before .before .before .before .args .depth)))
 
-run-same-length-14 : (t : ℕ) → run-lts.Need-same-length-14 (
-  read-reads.Asked,
-  read-reads.Learnt,
-  assign-reads.Asked,
-  assign-reads.Learnt,
-  external-send-reads.Asked,
-  external-send-reads.Learnt,
-  internal-send-reads.Asked,
-  internal-send-reads.Learnt,
-  call-below t,
-  call.Post,
-  eval-reads.Asked,
-  eval-reads.Learnt,
-  run-below t,
-  run.Post,
-  repeat-below t,
-  repeat.Post,
-  arming-reads.Asked,
-  arming-reads.Learnt,
-  clock-reads.Asked,
-  clock-reads.Learnt,
-) (run-at t) run.Post
+run-same-length-14 : (t : ℕ) → run-lts.Need-same-length-14 (run-claims t) (run-at t) run.Post
 run-same-length-14 t c = search needs
 
-run-returns-17 : (t : ℕ) → run-lts.Need-returns-17 (
-  read-reads.Asked,
-  read-reads.Learnt,
-  assign-reads.Asked,
-  assign-reads.Learnt,
-  external-send-reads.Asked,
-  external-send-reads.Learnt,
-  internal-send-reads.Asked,
-  internal-send-reads.Learnt,
-  call-below t,
-  call.Post,
-  eval-reads.Asked,
-  eval-reads.Learnt,
-  run-below t,
-  run.Post,
-  repeat-below t,
-  repeat.Post,
-  arming-reads.Asked,
-  arming-reads.Learnt,
-  clock-reads.Asked,
-  clock-reads.Learnt,
-) (run-at t) run.Post
+run-returns-17 : (t : ℕ) → run-lts.Need-returns-17 (run-claims t) (run-at t) run.Post
 run-returns-17 t c = (c .before .before .before .before .before .before .before .before .before .before .before .before .before .pre .1 .1 .locals .sixteen, step-back _ _ _ _ _ _ _ (c .before .before .before .before .before .before .before .before .before .before .before .if1 .left) (c .before .clock .ensures _ _ _ (c .before .before .before .before .before .before .before .before .before .before .before .before .before .args .depth) (visit _ _ _ _ (c .before .before .before .before .before .before .before .before .before .before .before .before .before .pre .1 .1) _ _ (sym (c .before .before .before .before .before .before .before .before .before .before .read .ensures) ∙ c .before .before .before .before .before .before .before .before .r .given .1) (c .before .before .before .before .before .before .before .before .before .before .before .before .before .pre .1 .2) clockAct (form-clockAct _ (c .before .before .before .before .if4 .left) (below-next (c .before .before .before .if5 .taken))))))
 
-run-returns-18 : (t : ℕ) → run-lts.Need-returns-18 (
-  read-reads.Asked,
-  read-reads.Learnt,
-  assign-reads.Asked,
-  assign-reads.Learnt,
-  external-send-reads.Asked,
-  external-send-reads.Learnt,
-  internal-send-reads.Asked,
-  internal-send-reads.Learnt,
-  call-below t,
-  call.Post,
-  eval-reads.Asked,
-  eval-reads.Learnt,
-  run-below t,
-  run.Post,
-  repeat-below t,
-  repeat.Post,
-  arming-reads.Asked,
-  arming-reads.Learnt,
-  clock-reads.Asked,
-  clock-reads.Learnt,
-) (run-at t) run.Post
+run-returns-18 : (t : ℕ) → run-lts.Need-returns-18 (run-claims t) (run-at t) run.Post
 run-returns-18 t c = (c .before .before .before .before .before .before .before .before .pre .1 .1 .locals .sixteen, step-back _ _ _ _ _ _ _ (c .before .before .before .before .before .before .if1 .left) (other-stuck _ _ _ _ (c .before .before .before .before .before .before .before .before .pre .1 .1) _ _ (sym (c .before .before .before .before .before .read .ensures) ∙ c .before .before .before .r .given .1) _ _ (λ p q. let a = c .if3 .taken in omega arith)))
 
-run-returns-19 : (t : ℕ) → run-lts.Need-returns-19 (
-  read-reads.Asked,
-  read-reads.Learnt,
-  assign-reads.Asked,
-  assign-reads.Learnt,
-  external-send-reads.Asked,
-  external-send-reads.Learnt,
-  internal-send-reads.Asked,
-  internal-send-reads.Learnt,
-  call-below t,
-  call.Post,
-  eval-reads.Asked,
-  eval-reads.Learnt,
-  run-below t,
-  run.Post,
-  repeat-below t,
-  repeat.Post,
-  arming-reads.Asked,
-  arming-reads.Learnt,
-  clock-reads.Asked,
-  clock-reads.Learnt,
-) (run-at t) run.Post
+run-returns-19 : (t : ℕ) → run-lts.Need-returns-19 (run-claims t) (run-at t) run.Post
 run-returns-19 t c = (c .before .before .before .before .before .before .before .before .before .before .pre .1 .1 .locals .sixteen, step-back _ _ _ _ _ _ _ (c .before .before .before .before .before .before .before .before .if1 .left) (other-stuck _ _ _ _ (c .before .before .before .before .before .before .before .before .before .before .pre .1 .1) _ _ (sym (c .before .before .before .before .before .before .before .read .ensures) ∙ c .before .before .before .before .before .r .given .1) _ _ (λ p q. let a = c .if5 .left in let b = c .before .before .before .match2 .rest .1 in let d = c .before .before .before .match2 .rest .0 .1 in let e = c .before .before .before .match2 .rest .0 .0 .1 in let f = c .before .before .before .match2 .rest .0 .0 .0 .1 in omega arith)))
 
 pub +call+enter+repeat+run-spec : {M : Type 1} → statement M
