@@ -101,7 +101,7 @@ module _ (s : List ℕ) (e at : ℕ) (st : List ℤ) where
   unfolding stateLength placeAt
   fired-word whole r st′ = appending s st (clockTelegram e st at) (λ x. x ≡ on st′ → (wordOf st′ at ≡ pos 1) × (length st′ ≡ length st))
       (λ room f.
-        rw (sym (on-words _ _ f)) (with-before s st (clockTelegram e st at) whole room at (let l = r .behind in omega arith) (let l = r .inside in omega arith) ∙ r .runs, with-length s st (clockTelegram e st at) whole room))
+      rw (sym (on-words _ _ f)) (with-before s st (clockTelegram e st at) whole room at (let l = r .behind in omega arith) (let l = r .inside in omega arith) ∙ r .runs, with-length s st (clockTelegram e st at) whole room))
       (λ f. absurd (on-off st′ 8 f))
 
 -- the two words of a Cycler that fires; the first is 1 already

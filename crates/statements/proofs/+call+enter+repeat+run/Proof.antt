@@ -476,14 +476,7 @@ run-returns-19 : (t : ℕ) → run-lts.Need-returns-19 (run-claims t) (run-at t)
 run-returns-19 t c = (c .before .before .before .before .before .before .before .before .before .before .pre .1 .1 .locals .sixteen, step-back _ _ _ _ _ _ _ (c .before .before .before .before .before .before .before .before .if1 .left) (other-stuck _ _ _ _ (c .before .before .before .before .before .before .before .before .before .before .pre .1 .1) _ _ (sym (c .before .before .before .before .before .before .before .read .ensures) ∙ c .before .before .before .before .before .r .given .1) _ _ (λ p q. let a = c .if5 .left in let b = c .before .before .before .match2 .rest .1 in let d = c .before .before .before .match2 .rest .0 .1 in let e = c .before .before .before .match2 .rest .0 .0 .1 in let f = c .before .before .before .match2 .rest .0 .0 .0 .1 in omega arith)))
 
 pub +call+enter+repeat+run-spec : {M : Type 1} → statement M
-+call+enter+repeat+run-spec = close μ-call μ-enter μ-repeat μ-run (λ t. call-lts.spec (
-  read-reads.Asked,
-  read-reads.Learnt,
-  gather-reads.Asked,
-  gather-reads.Learnt,
-  enter-below t,
-  enter.Post,
-)
++call+enter+repeat+run-spec = close μ-call μ-enter μ-repeat μ-run (λ t. call-lts.spec (call-claims t)
     (call-at t)
     call.Post
     (call-element-copy-out-number t)
@@ -506,12 +499,8 @@ pub +call+enter+repeat+run-spec : {M : Type 1} → statement M
     (call-returns-3 t)
     (call-same-length-3 t)
     (call-returns-4 t))
-    (λ t. enter-lts.spec (
-      fresh-locals-reads.Asked,
-      fresh-locals-reads.Learnt,
-      run-below t,
-      run.Post,
-    )
+    (λ t. enter-lts.spec
+    (enter-claims t)
     (enter-at t)
     enter.Post
     (enter-returns t)
@@ -527,7 +516,7 @@ pub +call+enter+repeat+run-spec : {M : Type 1} → statement M
     (enter-same-length t)
     (enter-returns-2 t))
     (λ t. repeat-lts.spec
-    (eval-reads.Asked, eval-reads.Learnt, run-below t, run.Post)
+    (repeat-claims t)
     (repeat-at t)
     repeat.Post
     repeat-Inv-loop
@@ -558,28 +547,8 @@ pub +call+enter+repeat+run-spec : {M : Type 1} → statement M
     (repeat-enum-told-2 t)
     (repeat-same-length-6 t)
     (repeat-returns-6 t))
-    λ t. run-lts.spec (
-      read-reads.Asked,
-      read-reads.Learnt,
-      assign-reads.Asked,
-      assign-reads.Learnt,
-      external-send-reads.Asked,
-      external-send-reads.Learnt,
-      internal-send-reads.Asked,
-      internal-send-reads.Learnt,
-      call-below t,
-      call.Post,
-      eval-reads.Asked,
-      eval-reads.Learnt,
-      run-below t,
-      run.Post,
-      repeat-below t,
-      repeat.Post,
-      arming-reads.Asked,
-      arming-reads.Learnt,
-      clock-reads.Asked,
-      clock-reads.Learnt,
-    )
+    λ t. run-lts.spec
+    (run-claims t)
     (run-at t)
     run.Post
     (run-returns t)
