@@ -23,9 +23,9 @@ use Rattle.laris.specs.Eval.{sameWord}
 use Rattle.laris.specs.Play.{thenSlice, clockTelegram, fires, ticks, slicedCell}
 use Rattle.states.proofs.Words.{with-length, with-before}
 use Rattle.states.proofs.Clocks.{running, running-below, timer-runs, timeout-runs, cycler-runs, timer-int}
-use Rattle.store.specs.Laid.{Laid}
+use Rattle.telegrams.specs.Laid.{Laid}
 use Rattle.store.proofs.Laws.{given}
-use Rattle.store.specs.Changed.{changedTo}
+use Rattle.telegrams.specs.Changed.{changedTo}
 use Rattle.clocks.specs.Running.{Running, Cell}
 
 -- ---- words

@@ -14,7 +14,7 @@ ghost use Rattle.laris.specs.Check.{checkOf};
 ghost use Rattle.laris.specs.State.{cellAt, stateLength, appended};
 ghost use Rattle.laris.specs.Valid.{OfSheet};
 ghost use Rattle.laris.specs.Play.{clockTelegram, ticks, slicedCell, slicedCells, slicedFrom};
-ghost use Rattle.store.specs.Changed.{changedTo};
+ghost use Rattle.telegrams.specs.Changed.{changedTo};
 ghost use Rattle.clocks.specs.Running.{Running, Cell, Cells};
 
 // "plus 1, or 6 at 2,147,483,647"
@@ -45,7 +45,7 @@ fn fire(st: &mut [i32], e: usize, at: usize) -> u8
         d2: st[at + 6],
         d3: st[at + 7],
     };
-    store::append(st, telegram)
+    telegrams::append(st, telegram)
 }
 
 // "at 1 its telegram is appended and it stops, otherwise minus 1"

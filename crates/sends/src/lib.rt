@@ -16,7 +16,7 @@ ghost use Rattle.sheet.specs.Sheet.{directoryOf, recordOf};
 ghost use Rattle.laris.specs.Forms.{externalSend, internalSend};
 ghost use Rattle.laris.specs.State.{stateLength};
 ghost use Rattle.laris.specs.Run.{world, given, append as appendOf, runOf};
-ghost use Rattle.store.specs.Laid.{Laid};
+ghost use Rattle.telegrams.specs.Laid.{Laid};
 ghost use Rattle.ready.specs.Ready.{contextAt, Ready, HasData};
 ghost use Rattle.ready.specs.Words.{ranData, fourWords};
 ghost use Rattle.sends.specs.Visit.{Visit};
@@ -71,7 +71,7 @@ fn append(st: &mut [i32], t: Telegram, left: u32) -> Ran
     requires { ⌜ Laid (now st) ⌝ }
     ensures { λ r. ⌜ ((s : List ℕ) (lo : List ℤ) → length (now (st .entry)) ≡ stateLength s → world r (now (st .exit)) lo ≡ appendOf s t left (now (st .entry)) lo) ⌝ }
 {
-    let number = store::append(st, t);
+    let number = telegrams::append(st, t);
     if number == 0 {
         return Ran::Done { left };
     }

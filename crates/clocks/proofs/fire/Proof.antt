@@ -8,7 +8,7 @@ use borrow.Author.Needs.{needs}
 use Rattle.laris.specs.State.{wordOf, appended}
 use Rattle.laris.specs.State.{on}
 use Rattle.store.proofs.Laws.{given}
-use Rattle.store.specs.Changed.{changedTo}
+use Rattle.telegrams.specs.Changed.{changedTo}
 use Rattle.clocks.proofs.Laws.{laid, number-back}
 use Rattle.clocks.proofs.fire.Statement.{statement}
 use Rattle.clocks.proofs.fire.Tie as tie

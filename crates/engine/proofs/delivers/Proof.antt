@@ -10,7 +10,8 @@ use Rattle.laris.specs.Play.{ended, goesFrom, oldest, delivered, deliver}
 use Rattle.promise.proofs.Events.{outer}
 use Rattle.turns.proofs.Laws.{handed-outside}
 use Rattle.ints.proofs.Range.{back}
-use Rattle.store.proofs.Laws.{laid, given}
+use Rattle.store.proofs.Laws.{given}
+use Rattle.telegrams.proofs.Laws.{laid}
 use Rattle.engine.proofs.Laws.{none-taken, one-taken, taken-meets, taken-fits, taken-low, taken-kept, taken-length}
 use Rattle.engine.proofs.delivers.Statement.{statement}
 use Rattle.engine.proofs.delivers.Tie as tie

@@ -15,7 +15,8 @@ use Rattle.laris.specs.Play.{Outcome, ended, elementBody, bodyEvent, innerOf, o
 use Rattle.promise.proofs.Events.{same-word}
 use Rattle.turns.specs.Called.{Called}
 use Rattle.ints.proofs.Range.{back}
-use Rattle.store.proofs.Laws.{laid, given}
+use Rattle.store.proofs.Laws.{given}
+use Rattle.telegrams.proofs.Laws.{laid}
 use Rattle.engine.proofs.Laws.{data-read, none-taken, one-taken, taken-meets, taken-fits, taken-low, taken-kept, taken-length, has-chart, receiver-number, inner-name, inner-bound, reaction-inside, reaction-runs}
 use Rattle.engine.proofs.inners.Statement.{statement}
 use Rattle.engine.proofs.inners.Tie as tie

@@ -1,7 +1,7 @@
 use mathlib.Core.Path.{_≡_, refl, sym, ap, _∙_}
 use native.Mathlib.Omega.{arith}
 use borrow.Author.Needs.{needs}
-use Rattle.store.proofs.Laws.{laid}
+use Rattle.telegrams.proofs.Laws.{laid}
 use Rattle.engine.proofs.Calls.{sent-full, sent-room}
 use Rattle.engine.proofs.sent_outside.Statement.{statement}
 use Rattle.engine.proofs.sent_outside.Tie as tie

@@ -2,7 +2,7 @@ use mathlib.Core.Path.{refl, sym, ap, _∙_}
 use native.Mathlib.Omega.{arith}
 use borrow.Author.Needs.{needs}
 use Rattle.laris.specs.Run.{append}
-use Rattle.store.proofs.Laws.{laid}
+use Rattle.telegrams.proofs.Laws.{laid}
 use Rattle.sends.proofs.Sends.{element-small, telegram-made, four-data, data-given, on-given, data-ends-refused, data-ends-stuck}
 use Rattle.sends.proofs.send.Statement.{statement}
 use Rattle.sends.proofs.send.Tie as tie

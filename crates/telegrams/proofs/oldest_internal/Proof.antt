@@ -9,9 +9,9 @@ use borrow.Author.Needs.{needs}
 use Rattle.laris.specs.State.{stateLength, telegramIn, telegramOf}
 use Rattle.laris.specs.Play.{innerOf, oldestFrom, oldest}
 use Rattle.ints.proofs.Range.{back}
-use Rattle.store.proofs.Laws.{waiting-limit, place-fits, oldest-start, oldest-next, oldest-here, oldest-none}
-use Rattle.store.proofs.oldest_internal.Statement.{statement}
-use Rattle.store.proofs.oldest_internal.Tie as tie
+use Rattle.telegrams.proofs.Laws.{waiting-limit, place-fits, oldest-start, oldest-next, oldest-here, oldest-none}
+use Rattle.telegrams.proofs.oldest_internal.Statement.{statement}
+use Rattle.telegrams.proofs.oldest_internal.Tie as tie
 
 abbrev Inv-loop : tie.InvT-loop
 Inv-loop st r n k₀ k = (k ≤ n) × ((s : List ℕ) → length st ≡ stateLength s → oldest s st (innerOf (toZ w32 r)) ≡ oldestFrom s st (innerOf (toZ w32 r)) (n - k) k)

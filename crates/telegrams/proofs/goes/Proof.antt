@@ -7,9 +7,10 @@ use borrow.Author.Needs.{needs}
 use Rattle.sheet.proofs.All.{true-and, first-fails, rest-fails}
 use Rattle.laris.specs.State.{wordOf, telegramIn}
 use Rattle.ints.proofs.Words.{same-bits}
-use Rattle.store.proofs.Laws.{port-inside, port-outside, bits-same, bits-differ}
-use Rattle.store.proofs.goes.Statement.{statement}
-use Rattle.store.proofs.goes.Tie as tie
+use Rattle.store.proofs.Laws.{bits-same, bits-differ}
+use Rattle.telegrams.proofs.Laws.{port-inside, port-outside}
+use Rattle.telegrams.proofs.goes.Statement.{statement}
+use Rattle.telegrams.proofs.goes.Tie as tie
 
 add-if1 : tie.Need-add-if1
 add-if1 c = search needs

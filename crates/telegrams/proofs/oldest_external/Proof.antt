@@ -9,9 +9,9 @@ use borrow.Author.Needs.{needs}
 use Rattle.laris.specs.State.{stateLength, telegramIn, telegramOf}
 use Rattle.laris.specs.Play.{goesFrom, oldestFrom, oldest}
 use Rattle.ints.proofs.Range.{back}
-use Rattle.store.proofs.Laws.{waiting-limit, place-fits, oldest-start, oldest-next, oldest-here, oldest-none}
-use Rattle.store.proofs.oldest_external.Statement.{statement}
-use Rattle.store.proofs.oldest_external.Tie as tie
+use Rattle.telegrams.proofs.Laws.{waiting-limit, place-fits, oldest-start, oldest-next, oldest-here, oldest-none}
+use Rattle.telegrams.proofs.oldest_external.Statement.{statement}
+use Rattle.telegrams.proofs.oldest_external.Tie as tie
 
 abbrev Inv-loop : tie.InvT-loop
 Inv-loop st a r n j₀ j = (j ≤ n) × ((s : List ℕ) → length st ≡ stateLength s → oldest s st (goesFrom (toZ w32 a) (toZ w32 r)) ≡ oldestFrom s st (goesFrom (toZ w32 a) (toZ w32 r)) (n - j) j)

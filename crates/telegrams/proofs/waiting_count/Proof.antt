@@ -2,9 +2,9 @@ use mathlib.Core.Path.{ap}
 use lib.IntN.{natAbs}
 use borrow.Author.Needs.{needs}
 use Rattle.laris.specs.State.{waiting}
-use Rattle.store.proofs.Laws.{head-read, head-counts}
-use Rattle.store.proofs.waiting_count.Statement.{statement}
-use Rattle.store.proofs.waiting_count.Tie as tie
+use Rattle.telegrams.proofs.Laws.{head-read, head-counts}
+use Rattle.telegrams.proofs.waiting_count.Statement.{statement}
+use Rattle.telegrams.proofs.waiting_count.Tie as tie
 
 shared-slice-copy-out-result : tie.Need-shared-slice-copy-out-result
 shared-slice-copy-out-result c = search needs

@@ -6,9 +6,9 @@ use borrow.Author.Needs.{needs}
 use Rattle.sheet.proofs.All.{true-and, first-fails}
 use Rattle.laris.specs.State.{wordOf, telegramIn}
 use Rattle.ints.proofs.Words.{same-bits}
-use Rattle.store.proofs.Laws.{port-inside, port-outside}
-use Rattle.store.proofs.inner.Statement.{statement}
-use Rattle.store.proofs.inner.Tie as tie
+use Rattle.telegrams.proofs.Laws.{port-inside, port-outside}
+use Rattle.telegrams.proofs.inner.Statement.{statement}
+use Rattle.telegrams.proofs.inner.Tie as tie
 
 add-if1 : tie.Need-add-if1
 add-if1 c = search needs

@@ -16,7 +16,8 @@ use Rattle.laris.specs.State.{placeAt, stateLength, wordOf, waiting, putWords, 
 use Rattle.laris.specs.Valid.{zeroWords, OfSheet}
 use Rattle.states.proofs.Words.{length-put, word-put-in, word-put-before, word-put-behind, word-set, word-set-other, without-length, without-head, without-before, without-behind, without-last}
 use Rattle.states.proofs.Parts.{unused-of}
-use Rattle.store.proofs.Laws.{laid, waiting-limit, word-zeros}
+use Rattle.store.proofs.Laws.{word-zeros}
+use Rattle.telegrams.proofs.Laws.{laid, waiting-limit}
 
 -- the words from `at` on, up to number i, are those eight further on
 pub record Moved (old : List ℤ) (at i : ℕ) (st : List ℤ) : Type 0 where

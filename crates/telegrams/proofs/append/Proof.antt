@@ -3,9 +3,9 @@ use native.Mathlib.Omega.{arith}
 use borrow.Author.Needs.{needs}
 use Rattle.laris.specs.State.{on}
 use Rattle.laris.proofs.Appending.{appended-room, appended-full}
-use Rattle.store.specs.Changed.{changedTo}
-use Rattle.store.proofs.append.Statement.{statement}
-use Rattle.store.proofs.append.Tie as tie
+use Rattle.telegrams.specs.Changed.{changedTo}
+use Rattle.telegrams.proofs.append.Statement.{statement}
+use Rattle.telegrams.proofs.append.Tie as tie
 
 waiting-count-requires : tie.Need-waiting-count-requires
 waiting-count-requires c κs = search needs

@@ -1,8 +1,8 @@
 use mathlib.Core.Path.{refl}
 use borrow.Author.Needs.{needs}
-use Rattle.store.proofs.Laws.{place-at}
-use Rattle.store.proofs.place.Statement.{statement}
-use Rattle.store.proofs.place.Tie as tie
+use Rattle.telegrams.proofs.Laws.{place-at}
+use Rattle.telegrams.proofs.place.Statement.{statement}
+use Rattle.telegrams.proofs.place.Tie as tie
 
 sub-result : tie.Need-sub-result
 sub-result c = search needs

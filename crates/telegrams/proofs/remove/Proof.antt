@@ -5,10 +5,11 @@ use lib.IntN.{pos}
 use lib.ListN.{length, length-set, getD, set, replicate}
 use borrow.Author.Needs.{needs}
 use Rattle.laris.specs.State.{wordOf, waiting, putWords}
-use Rattle.store.proofs.Laws.{given, waiting-limit}
-use Rattle.store.proofs.Removed.{Moved, moved-none, moved-more, removed}
-use Rattle.store.proofs.remove.Statement.{statement}
-use Rattle.store.proofs.remove.Tie as tie
+use Rattle.store.proofs.Laws.{given}
+use Rattle.telegrams.proofs.Laws.{waiting-limit}
+use Rattle.telegrams.proofs.Removed.{Moved, moved-none, moved-more, removed}
+use Rattle.telegrams.proofs.remove.Statement.{statement}
+use Rattle.telegrams.proofs.remove.Tie as tie
 
 abbrev Inv-loop : tie.InvT-loop
 Inv-loop st₀ j n end i₀ st i = (i₀ ≤ i) × (i ≤ end) × (length st ≡ length st₀) × Moved st₀ i₀ i st

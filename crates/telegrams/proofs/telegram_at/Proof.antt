@@ -1,8 +1,8 @@
 use mathlib.Core.Path.{ap, _∙_}
 use borrow.Author.Needs.{needs}
 use Rattle.laris.specs.State.{telegramIn, telegramOf}
-use Rattle.store.proofs.telegram_at.Statement.{statement}
-use Rattle.store.proofs.telegram_at.Tie as tie
+use Rattle.telegrams.proofs.telegram_at.Statement.{statement}
+use Rattle.telegrams.proofs.telegram_at.Tie as tie
 
 place-requires : tie.Need-place-requires
 place-requires c κs = search needs

@@ -5,9 +5,10 @@ use lib.IntN.{pos}
 use lib.ListN.{set}
 use borrow.Author.Needs.{needs}
 use Rattle.laris.specs.State.{wordsOf, putWords}
-use Rattle.store.proofs.Laws.{given, last-put}
-use Rattle.store.proofs.put_last.Statement.{statement}
-use Rattle.store.proofs.put_last.Tie as tie
+use Rattle.store.proofs.Laws.{given}
+use Rattle.telegrams.proofs.Laws.{last-put}
+use Rattle.telegrams.proofs.put_last.Statement.{statement}
+use Rattle.telegrams.proofs.put_last.Tie as tie
 
 waiting-count-requires : tie.Need-waiting-count-requires
 waiting-count-requires c κs = search needs
