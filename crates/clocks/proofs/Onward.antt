@@ -25,7 +25,7 @@ use Rattle.sheet.proofs.All.{and-first}
 use Rattle.states.proofs.Words.{word-set-other, length-put, word-put-before, word-put-behind, with-length, with-head, with-before}
 use Rattle.states.proofs.Frame.{cell-same}
 use Rattle.states.proofs.Parts.{cell-of}
-use Rattle.clocks.specs.Running.{Cell, Cells}
+use Rattle.clocks.specs.Cells.{Cell, Cells}
 
 -- as long as the sheet's states, at most 128 waiting, and from a word on up to the places as before
 pub record After (s : List ℕ) (from : ℕ) (old st : List ℤ) : Type 0 where

@@ -7,7 +7,8 @@ use borrow.Author.Needs.{needs}
 use Rattle.laris.specs.State.{cellAt, placeAt, stateLength, wordOf}
 use Rattle.laris.specs.Play.{ticks}
 use Rattle.telegrams.specs.Changed.{changedTo}
-use Rattle.clocks.proofs.Laws.{bits-zero, bits-some, cell-stopped, cell-data, cell-ticks, no-clock, cell-runs, is-clock}
+use Rattle.ticks.proofs.Laws.{bits-zero, bits-some}
+use Rattle.clocks.proofs.Cells.{cell-stopped, cell-data, cell-ticks, no-clock, cell-runs, is-clock}
 use Rattle.clocks.proofs.slice_cell.Statement.{statement}
 use Rattle.clocks.proofs.slice_cell.Tie as tie
 

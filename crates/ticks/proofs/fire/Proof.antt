@@ -9,9 +9,9 @@ use Rattle.laris.specs.State.{wordOf, appended}
 use Rattle.laris.specs.State.{on}
 use Rattle.store.proofs.Laws.{given}
 use Rattle.telegrams.specs.Changed.{changedTo}
-use Rattle.clocks.proofs.Laws.{laid, number-back}
-use Rattle.clocks.proofs.fire.Statement.{statement}
-use Rattle.clocks.proofs.fire.Tie as tie
+use Rattle.ticks.proofs.Laws.{laid, number-back}
+use Rattle.ticks.proofs.fire.Statement.{statement}
+use Rattle.ticks.proofs.fire.Tie as tie
 
 cast-t5 : tie.Need-cast-t5
 cast-t5 c = search needs

@@ -6,9 +6,9 @@ use borrow.Author.Needs.{needs}
 use Rattle.laris.specs.State.{wordOf}
 use Rattle.store.proofs.Laws.{given, bits-same, bits-differ}
 use Rattle.telegrams.specs.Changed.{changedTo}
-use Rattle.clocks.proofs.Laws.{next-int, timer-last, timer-goes}
-use Rattle.clocks.proofs.tick_timer.Statement.{statement}
-use Rattle.clocks.proofs.tick_timer.Tie as tie
+use Rattle.ticks.proofs.Laws.{next-int, timer-last, timer-goes}
+use Rattle.ticks.proofs.tick_timer.Statement.{statement}
+use Rattle.ticks.proofs.tick_timer.Tie as tie
 
 add-value : tie.Need-add-value
 add-value c = search needs

@@ -8,9 +8,9 @@ use Rattle.laris.specs.State.{wordOf}
 use Rattle.laris.specs.State.{on}
 use Rattle.store.proofs.Laws.{given, bits-same, bits-differ}
 use Rattle.telegrams.specs.Changed.{changedTo}
-use Rattle.clocks.proofs.Laws.{last-int, one-less, then-refused, then-done, timeout-goes, timeout-fires}
-use Rattle.clocks.proofs.tick_timeout.Statement.{statement}
-use Rattle.clocks.proofs.tick_timeout.Tie as tie
+use Rattle.ticks.proofs.Laws.{last-int, one-less, then-refused, then-done, timeout-goes, timeout-fires}
+use Rattle.ticks.proofs.tick_timeout.Statement.{statement}
+use Rattle.ticks.proofs.tick_timeout.Tie as tie
 
 add-value : tie.Need-add-value
 add-value c = search needs
