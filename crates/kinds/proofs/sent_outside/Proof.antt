@@ -2,9 +2,9 @@ use mathlib.Core.Path.{_≡_, refl, sym, ap, _∙_}
 use native.Mathlib.Omega.{arith}
 use borrow.Author.Needs.{needs}
 use Rattle.store.proofs.Laws.{laid}
-use Rattle.engine.proofs.Calls.{sent-full, sent-room}
-use Rattle.engine.proofs.sent_outside.Statement.{statement}
-use Rattle.engine.proofs.sent_outside.Tie as tie
+use Rattle.kinds.proofs.Calls.{sent-full, sent-room}
+use Rattle.kinds.proofs.sent_outside.Statement.{statement}
+use Rattle.kinds.proofs.sent_outside.Tie as tie
 
 waiting-count-requires : tie.Need-waiting-count-requires
 waiting-count-requires c κs = laid _ _ (c .before .before .pre .0 .state)
