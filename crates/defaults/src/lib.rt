@@ -96,10 +96,10 @@ pub fn first_cell(sheet: &[u8], directory: &[usize; 16], e: usize) -> usize
     sum
 }
 
-// "f3 step limit (0 means 10,000)"
+// "f3 step limit (0 means 10,000)", which is a 16-bit number.
 pub fn limit(sheet: &[u8], directory: &[usize; 16]) -> u32
     requires { ⌜ now directory ≡ directoryOf (now sheet) ⌝ }
-    ensures { λ n. ⌜ n ≡ limitOf (now (sheet .entry)) ⌝ }
+    ensures { λ n. ⌜ (n ≡ limitOf (now (sheet .entry))) × (n < 65536) ⌝ }
 {
     let steps = fields::field_at(sheet, directory, 0, 0, 3);
     if steps == 0 {

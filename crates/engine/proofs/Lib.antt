@@ -1,3 +1,2 @@
 mod Calls
-mod Laws
 mod Begins

@@ -21,13 +21,13 @@ use Rattle.laris.specs.Fields.{holds, typeAt, externalsOf}
 use Rattle.laris.specs.Shape.{isReaction}
 use Rattle.laris.specs.Types.{nameRange, reactsTo, hasReaction}
 use Rattle.laris.specs.Static.{bodyOf}
-use Rattle.laris.specs.Values.{isBelow, inType, chartOf}
+use Rattle.laris.specs.Values.{isBelow, inType, isBound, chartOf}
 use Rattle.laris.specs.Valid.{dataFit, datumOf}
 use Rattle.laris.specs.Run.{World, datum}
 use Rattle.laris.specs.Play.{Outcome, bodyWhere, hasPanic, isInitial, reactsOn, elementBody, bodyEvent, reacting, panicking, delivered, ranBody}
 use Rattle.laris.specs.Check.{checkOf}
 use Rattle.passed.specs.Places.{InChart, Element, StandsAt}
-use Rattle.passed.proofs.Charts.{element-chart, where-found, body-there, panic-there, initial-there, reaction-there}
+use Rattle.passed.proofs.Charts.{bound-element, element-chart, where-found, body-there, panic-there, initial-there, reaction-there}
 use Rattle.promise.proofs.Bodies.{brought-so, brought-data, no-parameters}
 use Rattle.turns.specs.Called.{Called}
 use Rattle.turns.proofs.Laws.{element-body, delivered-reaction, delivered-panic, reacting-is, panicking-is, initial-ran}
@@ -44,6 +44,10 @@ absent-differs b e = true-false {b = false} (ap there e) refl
     there : Found → Bool
     there (Present q) = true
     there Absent = false
+
+-- a bound element has a chart
+pub has-chart : (s : List ℕ) → checkOf s ≡ Passed → (e : ℕ) → isBound s e ≡ true → chartOf s e ≡ Absent → ⊥
+has-chart s ok e h q = let x = bound-element s ok e h in absent-differs (x .1) (sym q ∙ element-chart s e (x .0) (x .1) (x .2))
 
 module _ (s : List ℕ) (ok : checkOf s ≡ Passed) (e : ℕ) (b c : Record) (x : Element s e b c) where
   module _ (p : Record → Bool) (j : ℕ) (h : StandsAt s c p j) where

@@ -77,7 +77,7 @@ same-length : tie.Need-same-length
 same-length c = search needs
 
 returns-4 : tie.Need-returns-4
-returns-4 c = body-ran _ (c .before .before .before .before .before .before .before .before .before .before .before .before .before .before .before .before .before .before .before .before .before .before .before .before .before .before .pre .1) _ _ _ (c .before .before .before .before .before .before .before .before .before .before .before .before .before .before .before .before .before .before .before .before .before .before .before .before .before .before .pre .3) _ (ap (λ x. c .before .before .before .before .before .before .before .before .before .before .before .before .before .before .before .before .before .before .before .before .before .before .before .before .before .before .args .e - x) (externals-is _ _ (c .before .before .before .before .before .before .before .before .before .before .before .before .before .before .before .before .before .before .before .before .before .before .before .before .field-at .ensures .0))) _ (sym (c .before .before .before .before .before .before .before .before .before .before .before .before .before .before .before .before .before .before .before .before .before .before .before .read .ensures) ∙ c .before .before .before .before .before .before .before .before .before .before .before .before .before .before .before .before .before .before .before .before .before .binding .given .1) _ _ (sym (c .before .before .before .before .before .before .before .before .before .before .before .before .before .before .before .before .before .before .read2 .ensures) ∙ c .before .before .before .before .before .before .before .before .before .before .before .before .before .before .before .before .chart .given .1) (sym (c .before .before .before .before .before .before .before .before .before .before .before .before .before .before .read3 .ensures) ∙ c .before .before .before .before .before .before .before .before .before .before .before .before .body .given .1) _ (c .before .before .before .before .before .before .before .before .before .before .first-cell .ensures) _ _ _ _ _ _ (c .before .before .before .before .before .before .before .fresh-locals .ensures) (c .before .before .before .before .before .before .limit .ensures) (c .before .run .ensures .1)
+returns-4 c = body-ran _ (c .before .before .before .before .before .before .before .before .before .before .before .before .before .before .before .before .before .before .before .before .before .before .before .before .before .before .pre .1) _ _ _ (c .before .before .before .before .before .before .before .before .before .before .before .before .before .before .before .before .before .before .before .before .before .before .before .before .before .before .pre .3) _ (ap (λ x. c .before .before .before .before .before .before .before .before .before .before .before .before .before .before .before .before .before .before .before .before .before .before .before .before .before .before .args .e - x) (externals-is _ _ (c .before .before .before .before .before .before .before .before .before .before .before .before .before .before .before .before .before .before .before .before .before .before .before .before .field-at .ensures .0))) _ (sym (c .before .before .before .before .before .before .before .before .before .before .before .before .before .before .before .before .before .before .before .before .before .before .before .read .ensures) ∙ c .before .before .before .before .before .before .before .before .before .before .before .before .before .before .before .before .before .before .before .before .before .binding .given .1) _ _ (sym (c .before .before .before .before .before .before .before .before .before .before .before .before .before .before .before .before .before .before .read2 .ensures) ∙ c .before .before .before .before .before .before .before .before .before .before .before .before .before .before .before .before .chart .given .1) (sym (c .before .before .before .before .before .before .before .before .before .before .before .before .before .before .read3 .ensures) ∙ c .before .before .before .before .before .before .before .before .before .before .before .before .body .given .1) _ (c .before .before .before .before .before .before .before .before .before .before .first-cell .ensures) _ _ _ _ _ _ (c .before .before .before .before .before .before .before .fresh-locals .ensures) (c .before .before .before .before .before .before .limit .ensures .0) (c .before .run .ensures .1)
 
 pub run-body-spec : {M : Type 1} → statement M
 run-body-spec =

@@ -2,8 +2,7 @@ use mathlib.Core.Path.{sym, ap, _∙_}
 use borrow.Author.Needs.{needs}
 use Rattle.laris.specs.Run.{World}
 use Rattle.passed.proofs.Charts.{chart-element}
-use Rattle.turns.proofs.Called.{initial-called, initial-runs}
-use Rattle.engine.proofs.Laws.{has-chart}
+use Rattle.turns.proofs.Called.{has-chart, initial-called, initial-runs}
 use Rattle.engine.proofs.initial.Statement.{statement}
 use Rattle.engine.proofs.initial.Tie as tie
 

@@ -2,7 +2,7 @@ use borrow.Author.Tests.{not-true, not-false}
 use mathlib.Core.Path.{_≡_, refl, sym, ap, subst, _∙_}
 use borrow.Author.Needs.{needs}
 use denote.Ref.{now as nowOf}
-use Rattle.engine.specs.Playing.{Playing}
+use Rattle.kinds.specs.Playing.{Playing}
 use Rattle.engine.proofs.Calls.{old-long, result-long, other-content, malformed-event, happened-event, old-plays}
 use Rattle.engine.proofs.on_passed.Statement.{statement}
 use Rattle.engine.proofs.on_passed.Tie as tie

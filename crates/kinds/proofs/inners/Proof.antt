@@ -14,12 +14,13 @@ use Rattle.laris.specs.Valid.{isInternal, telegramFits}
 use Rattle.laris.specs.Play.{Outcome, ended, elementBody, bodyEvent, innerOf, oldest, reacting, inner}
 use Rattle.promise.proofs.Events.{same-word}
 use Rattle.turns.specs.Called.{Called}
+use Rattle.turns.proofs.Called.{has-chart}
 use Rattle.ints.proofs.Range.{back}
 use Rattle.store.proofs.Laws.{given}
 use Rattle.telegrams.proofs.Laws.{laid}
-use Rattle.engine.proofs.Laws.{data-read, none-taken, one-taken, taken-meets, taken-fits, taken-low, taken-kept, taken-length, has-chart, receiver-number, inner-name, inner-bound, reaction-inside, reaction-runs}
-use Rattle.engine.proofs.inners.Statement.{statement}
-use Rattle.engine.proofs.inners.Tie as tie
+use Rattle.kinds.proofs.Laws.{data-read, none-taken, one-taken, taken-meets, taken-fits, taken-low, taken-kept, taken-length, receiver-number, inner-name, inner-bound, reaction-inside, reaction-runs}
+use Rattle.kinds.proofs.inners.Statement.{statement}
+use Rattle.kinds.proofs.inners.Tie as tie
 
 -- what is done with the telegram of element r
 abbrev reacts : List ℕ → List ℤ → ℤ → Telegram → List ℤ → Outcome

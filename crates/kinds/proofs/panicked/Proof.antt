@@ -1,10 +1,9 @@
 use mathlib.Core.Path.{sym, _∙_}
 use borrow.Author.Needs.{needs}
 use Rattle.passed.proofs.Charts.{chart-element}
-use Rattle.turns.proofs.Called.{panic-called, panic-runs}
-use Rattle.engine.proofs.Laws.{has-chart}
-use Rattle.engine.proofs.panicked.Statement.{statement}
-use Rattle.engine.proofs.panicked.Tie as tie
+use Rattle.turns.proofs.Called.{has-chart, panic-called, panic-runs}
+use Rattle.kinds.proofs.panicked.Statement.{statement}
+use Rattle.kinds.proofs.panicked.Tie as tie
 
 chart-of-requires : tie.Need-chart-of-requires
 chart-of-requires c κs = search needs

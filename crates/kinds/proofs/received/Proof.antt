@@ -6,10 +6,11 @@ use borrow.Author.Needs.{needs}
 use Rattle.laris.specs.Play.{bodyEvent}
 use Rattle.sheet.specs.Sheet.{recordOf}
 use Rattle.turns.specs.Called.{Called}
+use Rattle.turns.proofs.Called.{has-chart}
 use Rattle.store.proofs.Laws.{given}
-use Rattle.engine.proofs.Laws.{data-read, has-chart, receiver-number, port-number, name-number, receiver-bound, reaction-called, reaction-delivered, none-delivered}
-use Rattle.engine.proofs.received.Statement.{statement}
-use Rattle.engine.proofs.received.Tie as tie
+use Rattle.kinds.proofs.Laws.{data-read, receiver-number, port-number, name-number, receiver-bound, reaction-called, reaction-delivered, none-delivered}
+use Rattle.kinds.proofs.received.Statement.{statement}
+use Rattle.kinds.proofs.received.Tie as tie
 
 number-requires : tie.Need-number-requires
 number-requires c κs = ap (leZ (pos 0)) (given (c .before .before .args .t .receiver) (c .struct-told .given .1 .0 .1)) ∙ receiver-number _ (c .before .before .pre .0 .passed) _ (c .before .before .pre .2)

@@ -1,8 +1,8 @@
 use mathlib.Core.Path.{_≡_, refl, sym, ap, _∙_}
 use borrow.Author.Needs.{needs}
-use Rattle.engine.proofs.Calls.{slice-done, slice-refused}
-use Rattle.engine.proofs.sliced.Statement.{statement}
-use Rattle.engine.proofs.sliced.Tie as tie
+use Rattle.kinds.proofs.Calls.{slice-done, slice-refused}
+use Rattle.kinds.proofs.sliced.Statement.{statement}
+use Rattle.kinds.proofs.sliced.Tie as tie
 
 slice-requires : tie.Need-slice-requires
 slice-requires c κs = search needs

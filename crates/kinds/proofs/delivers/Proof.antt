@@ -12,9 +12,9 @@ use Rattle.turns.proofs.Laws.{handed-outside}
 use Rattle.ints.proofs.Range.{back}
 use Rattle.store.proofs.Laws.{given}
 use Rattle.telegrams.proofs.Laws.{laid}
-use Rattle.engine.proofs.Laws.{none-taken, one-taken, taken-meets, taken-fits, taken-low, taken-kept, taken-length}
-use Rattle.engine.proofs.delivers.Statement.{statement}
-use Rattle.engine.proofs.delivers.Tie as tie
+use Rattle.kinds.proofs.Laws.{none-taken, one-taken, taken-meets, taken-fits, taken-low, taken-kept, taken-length}
+use Rattle.kinds.proofs.delivers.Statement.{statement}
+use Rattle.kinds.proofs.delivers.Tie as tie
 
 oldest-external-requires : tie.Need-oldest-external-requires
 oldest-external-requires c κs = laid _ _ (c .before .before .pre .0 .state)

@@ -11,8 +11,7 @@ use mir.Syntax.{w32}
 use mir.Val.{ofZ, toZ}
 use borrow.Author.Tests.{le-leb}
 use Rattle.sheet.specs.declared.Record.{Record}
-use Rattle.sheet.specs.declared.Found.{Found}
-use Rattle.sheet.specs.declared.Found.the-variants.{Present, Absent}
+use Rattle.sheet.specs.declared.Found.the-variants.{Present}
 use Rattle.sheet.specs.Names.{bodies, chartBodies}
 use Rattle.sheet.specs.Sheet.{recordOf}
 use Rattle.sheet.proofs.All.{true-false, and-first, and-second}
@@ -28,7 +27,7 @@ use Rattle.laris.specs.Play.{Outcome, ended, answer, reactsOn, elementBody, bod
 use Rattle.laris.specs.Check.{checkOf}
 use Rattle.laris.proofs.Fields.{holds-present}
 use Rattle.passed.specs.Places.{StandsAt}
-use Rattle.passed.proofs.Charts.{bound-element, element-chart, chart-element}
+use Rattle.passed.proofs.Charts.{chart-element}
 use Rattle.states.proofs.Parts.{telegram-of, waiting-limit}
 use Rattle.states.proofs.Kept.{removed-kept}
 use Rattle.promise.proofs.Events.{bound-word, oldest-meets, receiver-below, external-part, internal-part}
@@ -76,13 +75,6 @@ module _ (s : List ℕ) (old st : List ℤ) (same : old ≡ st) (p : Telegram �
         taken-length = ap length same ∙ o .whole ∙ sym (taken-kept .whole)
 
 module _ (s : List ℕ) (ok : checkOf s ≡ Passed) where
-  pub has-chart : (e : ℕ) → isBound s e ≡ true → chartOf s e ≡ Absent → ⊥
-  has-chart e h q = let x = bound-element s ok e h in true-false {b = false} (ap there (sym (element-chart s e (x .0) (x .1) (x .2)) ∙ q)) refl
-    where
-      there : Found → Bool
-      there (Present q) = false
-      there Absent = true
-
   module _ (t : Telegram) (fits : telegramFits s t ≡ true) where
     pub receiver-number : leZ (pos 0) (t .receiver) ≡ true
     receiver-number = not-negative _ _ (receiver-below s ok t fits)

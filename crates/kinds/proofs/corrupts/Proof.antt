@@ -8,9 +8,9 @@ use Rattle.laris.specs.State.{withoutTelegram}
 use Rattle.laris.specs.Play.{ended, goesFrom, oldest, panicking, corrupt}
 use Rattle.ints.proofs.Range.{back}
 use Rattle.telegrams.proofs.Laws.{laid}
-use Rattle.engine.proofs.Laws.{none-taken, one-taken, taken-kept, taken-length}
-use Rattle.engine.proofs.corrupts.Statement.{statement}
-use Rattle.engine.proofs.corrupts.Tie as tie
+use Rattle.kinds.proofs.Laws.{none-taken, one-taken, taken-kept, taken-length}
+use Rattle.kinds.proofs.corrupts.Statement.{statement}
+use Rattle.kinds.proofs.corrupts.Tie as tie
 
 oldest-external-requires : tie.Need-oldest-external-requires
 oldest-external-requires c κs = laid _ _ (c .before .before .pre .0 .state)

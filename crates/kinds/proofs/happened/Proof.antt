@@ -2,9 +2,9 @@ use mathlib.Core.Path.{_≡_, refl, sym, ap, _∙_}
 use native.Mathlib.Omega.{arith}
 use borrow.Author.Needs.{needs}
 use Rattle.tests.proofs.Laws.{read-back}
-use Rattle.engine.proofs.Calls.{long, nine-words, kind-from-0, corrupt-bound, as-outside, outside-old, as-deliver, as-corrupt, as-inner, as-slice}
-use Rattle.engine.proofs.happened.Statement.{statement}
-use Rattle.engine.proofs.happened.Tie as tie
+use Rattle.kinds.proofs.Calls.{long, nine-words, kind-from-0, corrupt-bound, as-outside, outside-old, as-deliver, as-corrupt, as-inner, as-slice}
+use Rattle.kinds.proofs.happened.Statement.{statement}
+use Rattle.kinds.proofs.happened.Tie as tie
 
 number-at-requires : tie.Need-number-at-requires
 number-at-requires c κs = (long _ _ (c .before .pre .2) 0 (omega arith), kind-from-0 _ _ (c .before .pre .2))
