@@ -6,10 +6,10 @@ use Rattle.kinds.proofs.sent_outside.Statement.{statement}
 use Rattle.kinds.proofs.sent_outside.Tie as tie
 
 telegram-in-requires : tie.Need-telegram-in-requires
-telegram-in-requires c κs = omega (arith, c .before .pre .1)
+telegram-in-requires c κs = omega (arith, c .before .before .pre .1)
 
 append-requires : tie.Need-append-requires
-append-requires c κs = laid _ _ (c .before .before .pre .0 .state)
+append-requires c κs = laid _ _ (c .before .before .before .pre .0 .state)
 
 answered-requires : tie.Need-answered-requires
 answered-requires c κs = search needs
@@ -18,7 +18,7 @@ same-length : tie.Need-same-length
 same-length c = search needs
 
 returns : tie.Need-returns
-returns c = let h = c .before .before .append .ensures in sent _ _ _ _ _ _ (c .before .before .before .telegram-in .ensures) (h .0 _ (c .before .before .before .before .before .pre .0 .state .whole)) (h .1) _ (c .answered .ensures)
+returns c = let h = c .before .before .append .ensures in sent _ _ _ _ _ _ (c .before .before .before .telegram-in .ensures) (h .0 _ (c .before .before .before .before .before .before .pre .0 .state .whole)) (h .1) _ (c .answered .ensures)
 
 pub sent-outside-spec : {M : Type 1} → statement M
 sent-outside-spec =
