@@ -34,11 +34,11 @@ module _ (s : List ℕ) where
   pub blank-more : (st done : List ℤ) (cell t m at : ℕ) → at ≡ 8 + 8 * cell → Blank st done cell (8 + m) → Blank (set st at (defaultOf s t)) (done ++ defaultCell s t) (cell + 1) m
   unfolding defaultCell cellAt
   blank-more st done cell t m at e h = record {
-      words =
+    words =
         let q : at ≡ length done = omega (arith, h .before) in
         rw (q, h .words, sym (replicate-append-replicate 8 m (pos 0))) (set-append-seam done (pos 0) (replicate 7 (pos 0) ++ replicate m (pos 0)) (defaultOf s t) ∙ sym (append-assoc done (defaultCell s t) (replicate m (pos 0))));
-      before = omega (arith, length-append done (defaultCell s t), h .before)
-    }
+    before = omega (arith, length-append done (defaultCell s t), h .before);
+  }
 
   cells-more : (n d : ℕ) → defaultCells s (suc n) d ≡ defaultCells s n d ++ defaultCell s (typeAt s (d + n))
   unfolding defaultCells
@@ -107,9 +107,9 @@ module _ (s : List ℕ) (ok : checkOf s ≡ Passed) where
   pub filled-none : (st : List ℤ) (n : ℕ) → n ≡ stateLength s → st ≡ replicate n (pos 0) → Filled s st 0 0
   unfolding cellsFrom cellAt stateLength placeAt
   filled-none st n e q = record {
-      words = let f : n ≡ 8 + (8 * (variablesOf s - 0) + 1024) = omega arith in q ∙ ap (λ (k : ℕ). replicate k (pos 0)) f ∙ sym (replicate-append-replicate 8 (8 * (variablesOf s - 0) + 1024) (pos 0));
-      before = refl
-    }
+    words = let f : n ≡ 8 + (8 * (variablesOf s - 0) + 1024) = omega arith in q ∙ ap (λ (k : ℕ). replicate k (pos 0)) f ∙ sym (replicate-append-replicate 8 (8 * (variablesOf s - 0) + 1024) (pos 0));
+    before = refl;
+  }
 
   pub filled-more : (st st′ : List ℤ) (cell i : ℕ) (c : Record) → i < countOf s bindings → chartBound s i ≡ Present c → cell ≡ sumBelow i (variablesBound s) → ((done : List ℤ) (m : ℕ) → Blank st done cell (8 * chartVariables c .count + m) → Blank st′ (done ++ defaultCells s (chartVariables c .count) (chartVariables c .first)) (cell + chartVariables c .count) m) → Filled s st cell i → Filled s st′ (cell + chartVariables c .count) (i + 1)
   unfolding elementCells
@@ -118,7 +118,7 @@ module _ (s : List ℕ) (ok : checkOf s ≡ Passed) where
       let e : 8 * (variablesOf s - cell) + 1024 ≡ 8 * chartVariables c .count + (8 * (variablesOf s - (cell + chartVariables c .count)) + 1024) = omega arith in
       let own : elementCells s (externalsOf s + i) ≡ defaultCells s (chartVariables c .count) (chartVariables c .first) = rw (elementCells, bound-chart i c l p) refl in
       let f : replicate 8 (pos 0) ++ cellsFrom s (i + 1) (externalsOf s) ≡ replicate 8 (pos 0) ++ cellsFrom s i (externalsOf s) ++ defaultCells s (chartVariables c .count) (chartVariables c .first) =
-        ap (λ (r : List ℤ). replicate 8 (pos 0) ++ r) (rw add-one (elements-more i (externalsOf s)) ∙ ap (λ (r : List ℤ). cellsFrom s i (externalsOf s) ++ r) own) in
+      ap (λ (r : List ℤ). replicate 8 (pos 0) ++ r) (rw add-one (elements-more i (externalsOf s)) ∙ ap (λ (r : List ℤ). cellsFrom s i (externalsOf s) ++ r) own) in
       rw f (h (replicate 8 (pos 0) ++ cellsFrom s i (externalsOf s)) (8 * (variablesOf s - (cell + chartVariables c .count)) + 1024) (rw e at b))
 
   pub filled-all : (st : List ℤ) (cell i : ℕ) → i ≤ countOf s bindings → countOf s bindings ≤ i → cell ≡ sumBelow i (variablesBound s) → Filled s st cell i → st ≡ defaultState s

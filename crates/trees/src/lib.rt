@@ -44,7 +44,7 @@ fn fields_fit(sheet: &[u8], directory: &[usize; 16], c: Record, b: Record, r: Re
 {
     let op = r.f0;
     match op {
-        1..=6 => shape::literal_fits(sheet, directory, r),
+        1..=6 => bindings::literal_fits(sheet, directory, r),
         7 => {
             if variables_at(c, b, r.f1) <= r.f2 as usize {
                 return false;
