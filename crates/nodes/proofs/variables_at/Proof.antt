@@ -1,11 +1,11 @@
-use mathlib.Core.Path.{_≡_, refl, sym, ap, _∙_}
-use borrow.Author.Tests.{eq-eqb, ne-eqb}
+use mathlib.Core.Path.{_≡_, refl, sym, ap}
+use borrow.Author.Tests.{ne-eqb}
 use Prim.Native.Nat.{ℕ}
 use borrow.Author.Needs.{needs}
 use Rattle.sheet.specs.declared.Record.{Record}
 use Rattle.laris.specs.Shape.{variablesAt}
-use Rattle.trees.proofs.variables_at.Statement.{statement}
-use Rattle.trees.proofs.variables_at.Tie as tie
+use Rattle.nodes.proofs.variables_at.Statement.{statement}
+use Rattle.nodes.proofs.variables_at.Tie as tie
 
 other : (c b : Record) (place : ℕ) → (place ≡ 0 → ⊥) → (place ≡ 1 → ⊥) → (place ≡ 2 → ⊥) → 0 ≡ variablesAt c b place
 unfolding variablesAt

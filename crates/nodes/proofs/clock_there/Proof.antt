@@ -1,6 +1,6 @@
 use mathlib.Core.Path.{refl}
-use Rattle.trees.proofs.clock_there.Statement.{statement}
-use Rattle.trees.proofs.clock_there.Tie as tie
+use Rattle.nodes.proofs.clock_there.Statement.{statement}
+use Rattle.nodes.proofs.clock_there.Tie as tie
 
 returns : tie.Need-returns
 returns c = refl

@@ -1,14 +1,9 @@
-use native.Mathlib.Omega.{arith}
-use mathlib.Core.Path.{_≡_, refl, sym, ap, _∙_}
-use mathlib.Core.Bool.{Bool, true, false}
-use mathlib.Core.List.{List}
-use Prim.Native.Nat.{ℕ, suc, _+_, _-_, _*_, _≤_, _<_}
-use borrow.Author.Tests.{lt-ltb, le-ltb, le-leb, lt-leb, eq-eqb, ne-eqb, not-true, not-false}
+use mathlib.Core.Path.{sym, _∙_}
 use borrow.Author.Needs.{needs}
-use Rattle.laris.proofs.Fields.{holds-present, holds-absent, number-present, number-absent, sum-more}
+use Rattle.laris.proofs.Fields.{holds-present, holds-absent}
 use Rattle.laris.specs.Shape.{sendShape}
-use Rattle.trees.proofs.send_fits.Statement.{statement}
-use Rattle.trees.proofs.send_fits.Tie as tie
+use Rattle.nodes.proofs.send_fits.Statement.{statement}
+use Rattle.nodes.proofs.send_fits.Tie as tie
 
 cast-read : tie.Need-cast-read
 cast-read c = search needs
