@@ -15,7 +15,7 @@ fn shape_holds(sheet: &[u8], directory: &[usize; 16]) -> bool
     if !shape::sections_fit(sheet, directory) {
         return false;
     }
-    if !shape::bodies_covered(sheet, directory) {
+    if !charts::bodies_covered(sheet, directory) {
         return false;
     }
     let components = fields::field_at(sheet, directory, 0, 0, 0);
@@ -23,7 +23,7 @@ fn shape_holds(sheet: &[u8], directory: &[usize; 16]) -> bool
     if externals + reader::count_in(directory, 7) != components {
         return false;
     }
-    if 512 < shape::variables(sheet, directory) {
+    if 512 < elements::variables(sheet, directory) {
         return false;
     }
     if !uses::used_once(sheet, directory) {

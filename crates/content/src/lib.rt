@@ -21,7 +21,7 @@ pub fn state_length(sheet: &[u8], directory: &[usize; 16]) -> usize
     requires { ⌜ now directory ≡ directoryOf (now sheet) ⌝ }
     ensures { λ n. ⌜ n ≡ stateLength (now (sheet .entry)) ⌝ }
 {
-    8 + 8 * shape::variables(sheet, directory) + 1024
+    8 + 8 * elements::variables(sheet, directory) + 1024
 }
 
 // ---- cells

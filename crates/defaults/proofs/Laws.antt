@@ -9,16 +9,14 @@ use lib.Seq.{ext-getD, getD-set-same, getD-set-other}
 use lib.IntN.{ℤ, pos}
 use borrow.Author.Tests.{lt-ltb, le-ltb, le-leb, lt-leb, eq-eqb, ne-eqb}
 use Rattle.sheet.specs.declared.Record.{Record}
-use Rattle.sheet.specs.declared.Found.{Found}
 use Rattle.sheet.specs.declared.Found.the-variants.{Present, Absent}
-use Rattle.sheet.specs.Names.{head, charts, bindings, stepLimit, boundChart, chartVariables}
+use Rattle.sheet.specs.Names.{head, charts, stepLimit}
 use Rattle.sheet.specs.Sheet.{recordOf}
 use Rattle.laris.specs.Fields.{fieldOf, fieldAt, numberOr0, sumBelow, typeAt, externalsOf}
 use Rattle.laris.specs.Shape.{variablesBound}
 use Rattle.laris.specs.Values.{defaultOf, firstCell}
 use Rattle.laris.specs.Run.{localAt, listFrom, localsOf}
 use Rattle.laris.specs.Play.{limitOf}
-use Rattle.laris.proofs.Fields.{sum-more}
 use Rattle.defaults.specs.Bound.{chartBound}
 
 -- ---- defaults
@@ -96,17 +94,6 @@ chart-absent s i e = rw (chartBound, e) refl
 pub chart-present : (s : List ℕ) (i : ℕ) (b : Record) → recordOf s 7 i ≡ Present b → recordOf s 4 (b .f0) ≡ chartBound s i
 unfolding chartBound
 chart-present s i b e = rw (chartBound, e) refl
-
-pub bound-variables : (s : List ℕ) (i : ℕ) → variablesBound s i ≡ numberOr0 (chartBound s i) (λ c. c .f3)
-unfolding variablesBound chartBound numberOr0
-bound-variables s i = go (recordOf s bindings i)
-  where
-    go : (f : Found) → numberOr0 f (λ b. numberOr0 (recordOf s charts (boundChart b)) (λ c. chartVariables c .count)) ≡ numberOr0 (elim f [ Present b ↦ recordOf s charts (boundChart b) | Absent ↦ Absent ]) (λ c. c .f3)
-    go (Present b) = refl
-    go Absent = refl
-
-pub cells-more : (s : List ℕ) (i sum x : ℕ) → sum ≡ sumBelow i (variablesBound s) → x ≡ variablesBound s i → sum + x ≡ sumBelow (i + 1) (variablesBound s)
-cells-more s i sum x p q = rw (p, q) (sym (sum-more i (variablesBound s)))
 
 pub first-is : (s : List ℕ) (e first i sum : ℕ) → first ≡ fieldAt s 0 0 1 → e ≤ first + i → i ≤ e - first → sum ≡ sumBelow i (variablesBound s) → sum ≡ firstCell s e
 unfolding firstCell externalsOf fieldAt fieldOf

@@ -10,7 +10,6 @@ ghost use lib.IntN.{ℤ};
 ghost use Rattle.sheet.specs.Sheet.{directoryOf};
 ghost use Rattle.sheet.specs.Names.{chartVariables, bodyParameters, bodyLocals};
 ghost use Rattle.laris.specs.declared.Checked.the-variants.{Passed};
-ghost use Rattle.laris.specs.Shape.{variablesBound};
 ghost use Rattle.laris.specs.Values.{defaultOf, firstCell};
 ghost use Rattle.laris.specs.Run.{localAt, localsOf};
 ghost use Rattle.laris.specs.State.{cellAt, stateLength};
@@ -70,17 +69,6 @@ pub fn chart_bound(sheet: &[u8], directory: &[usize; 16], i: usize) -> Found
     reader::read(sheet, directory, 4, b.f0 as usize)
 }
 
-// How many variables the element of a binding has.
-fn variables_bound(sheet: &[u8], directory: &[usize; 16], i: usize) -> usize
-    requires { ⌜ now directory ≡ directoryOf (now sheet) ⌝ }
-    ensures { λ n. ⌜ (n ≡ variablesBound (now (sheet .entry)) i) × (n < 65536) ⌝ }
-{
-    let Found::Present(c) = chart_bound(sheet, directory, i) else {
-        return 0;
-    };
-    c.f3 as usize
-}
-
 // The cell of an element's first variable. A sheet has at most 64 components.
 pub fn first_cell(sheet: &[u8], directory: &[usize; 16], e: usize) -> usize
     requires { ⌜ (now directory ≡ directoryOf (now sheet)) × (e ≤ 64) ⌝ }
@@ -90,7 +78,7 @@ pub fn first_cell(sheet: &[u8], directory: &[usize; 16], e: usize) -> usize
     let mut sum: usize = 0;
     let mut i: usize = 0;
     while first + i < e {
-        sum += variables_bound(sheet, directory, i);
+        sum += elements::variables_bound(sheet, directory, i);
         i += 1;
     }
     sum

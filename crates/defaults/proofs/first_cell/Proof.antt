@@ -4,7 +4,8 @@ use mathlib.Core.Path.{_≡_, refl}
 use borrow.Author.Needs.{needs}
 use Rattle.laris.specs.Fields.{sumBelow}
 use Rattle.laris.specs.Shape.{variablesBound}
-use Rattle.defaults.proofs.Laws.{cells-more, first-is}
+use Rattle.elements.proofs.Laws.{variables-more}
+use Rattle.defaults.proofs.Laws.{first-is}
 use Rattle.defaults.proofs.first_cell.Statement.{statement}
 use Rattle.defaults.proofs.first_cell.Tie as tie
 
@@ -37,7 +38,7 @@ loop-less : tie.Need-loop-less Inv-loop μ-loop
 loop-less c = search needs
 
 loop-again : tie.Need-loop-again Inv-loop μ-loop
-loop-again c = let k = c .variables-bound .ensures .1 in (c .before .before .loop .inv .0, c .before .before .loop .inv .1, omega arith, omega arith, cells-more _ _ _ _ (c .before .before .loop .inv .4) (c .variables-bound .ensures .0))
+loop-again c = let k = c .variables-bound .ensures .1 in (c .before .before .loop .inv .0, c .before .before .loop .inv .1, omega arith, omega arith, variables-more _ _ _ _ (c .before .before .loop .inv .4) (c .variables-bound .ensures .0))
 
 returns : tie.Need-returns Inv-loop μ-loop
 returns c = first-is _ _ _ _ _ (c .before .before .field-at .ensures .0) (c .loop-test .left) (c .before .loop .inv .2) (c .before .loop .inv .4)

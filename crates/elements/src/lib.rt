@@ -1,0 +1,32 @@
+// The bound elements: how many variables each has, and all together.
+use sheet::Found;
+ghost use mathlib.Core.Path.{_≡_};
+ghost use Prim.Native.Nat.{_<_};
+ghost use Rattle.sheet.specs.Sheet.{directoryOf};
+ghost use Rattle.laris.specs.Shape.{variablesBound, variablesOf};
+
+// How many variables the element of a binding has.
+pub fn variables_bound(sheet: &[u8], directory: &[usize; 16], i: usize) -> usize
+    requires { ⌜ now directory ≡ directoryOf (now sheet) ⌝ }
+    ensures { λ n. ⌜ (n ≡ variablesBound (now (sheet .entry)) i) × (n < 65536) ⌝ }
+{
+    let Found::Present(b) = reader::read(sheet, directory, 7, i) else {
+        return 0;
+    };
+    fields::field_at(sheet, directory, 4, b.f0 as usize, 3)
+}
+
+// How many variables the bound elements have together.
+pub fn variables(sheet: &[u8], directory: &[usize; 16]) -> usize
+    requires { ⌜ now directory ≡ directoryOf (now sheet) ⌝ }
+    ensures { λ n. ⌜ n ≡ variablesOf (now (sheet .entry)) ⌝ }
+{
+    let count = reader::count_in(directory, 7);
+    let mut sum: usize = 0;
+    let mut i: usize = 0;
+    while i < count {
+        sum += variables_bound(sheet, directory, i);
+        i += 1;
+    }
+    sum
+}
