@@ -22,7 +22,7 @@ use Rattle.laris.specs.Forms.{assign, clockAct, arm}
 use Rattle.laris.specs.Shape.{variablesAt}
 use Rattle.laris.specs.Types.{clockOf}
 use Rattle.laris.specs.Values.{firstCell}
-use Rattle.laris.specs.State.{cellAt, placeAt, stateLength, putWords, on}
+use Rattle.laris.specs.State.{cellAt, placeAt, stateLength, putWords}
 use Rattle.laris.specs.Valid.{OfSheet}
 use Rattle.laris.specs.Check.{checkOf}
 use Rattle.laris.specs.Eval.{Context, boolWord, variableAtCell}
@@ -30,7 +30,6 @@ use Rattle.laris.specs.Run.{world, armed, clockSet, assigned, runOf}
 use Rattle.passed.proofs.Records.{variables-limit}
 use Rattle.sound.proofs.Locals.{few}
 use Rattle.ints.proofs.Range.{back}
-use Rattle.ints.specs.declared.Work.the-variants as work
 use Rattle.ready.specs.Ready.{contextAt, Running, Ready}
 use Rattle.ready.specs.Words.{fourWords}
 use Rattle.ready.proofs.Statements.{assign-inside, act-inside, arm-inside, started-word, stopped-word}

@@ -6,19 +6,19 @@ use mathlib.Core.Bool.{Bool, true, false}
 use lib.ListN.{length, replicate, length-replicate}
 use lib.Dec.{eqb}
 use lib.IntN.{ℤ, pos}
-use borrow.Author.Tests.{eqb-true, eq-eqb}
+use borrow.Author.Tests.{eq-eqb}
 use Rattle.laris.specs.declared.Answer.{Answer}
 use Rattle.laris.specs.declared.Checked.the-variants.{Passed}
 use Rattle.laris.specs.State.{stateLength}
 use Rattle.laris.specs.Valid.{OfSheet}
-use Rattle.laris.specs.Play.{Outcome, ended, stuck, isEvent, happens, turnedDown, startCall, eventCall}
+use Rattle.laris.specs.Play.{Outcome, ended, stuck, isEvent, startCall, eventCall}
 use Rattle.laris.specs.Check.{checkOf}
-use Rattle.laris.specs.Lists.{Played, played, nowhere, thenPlayed, afterAnswer, goesOn, eventsOf, playOf, StartGives, EventGives, EventsGive}
+use Rattle.laris.specs.Lists.{Played, played, thenPlayed, afterAnswer, goesOn, eventsOf, playOf, StartGives, EventGives, EventsGive}
 use Rattle.states.proofs.Parts.{of-content}
 use Rattle.turns.proofs.Laws.{start-is, event-malformed, event-happens}
-use Rattle.promise.specs.Promise.{OneOf, AllAnswered, OneReaction, StartKept, EventKept, ListKept}
+use Rattle.promise.specs.Promise.{StartKept, EventKept, ListKept}
 use Rattle.promise.proofs.Promise.{on-kept, promise}
-use Rattle.claim.specs.Claim.{Held, Claim, EveryList}
+use Rattle.claim.specs.Claim.{Held, EveryList}
 
 answerOf : Answer → Outcome → Answer
 answerOf d (ended a st) = a

@@ -9,7 +9,7 @@ use Rattle.laris.specs.declared.Checked.the-variants.{Passed}
 use Rattle.laris.specs.State.{stateLength}
 use Rattle.laris.specs.Valid.{OfSheet}
 use Rattle.laris.specs.Check.{checkOf}
-use Rattle.laris.specs.Lists.{Played, played, playOf, StartGives, EventsGive}
+use Rattle.laris.specs.Lists.{played, playOf, StartGives, EventsGive}
 use Rattle.promise.specs.Promise.{OneOf, AllAnswered, OneReaction}
 
 -- what holds after a list: the machine, with its own state, gave the same answers and has the same state, word for word, so it isn't stuck; every answer is 0 or 4 to 10; the state is of the sheet, and every internal name that waits or is armed has one reaction

@@ -5,9 +5,9 @@ use mathlib.Core.List.{List, [], _∷_}
 use mathlib.Core.Bool.{Bool, true, false, not}
 use native.Mathlib.Omega.{arith}
 use lib.ListN.{length, set, replicate, length-set}
-use lib.Dec.{ltb, eqb}
+use lib.Dec.{eqb}
 use lib.IntN.{ℤ, pos, _+ℤ_, _-ℤ_}
-use borrow.Author.Tests.{ltb-true, lt-ltb}
+use borrow.Author.Tests.{lt-ltb}
 use Rattle.sheet.specs.declared.Record.{Record}
 use Rattle.sheet.specs.declared.Found.the-variants.{Present}
 use Rattle.sheet.specs.All.{_and_}
@@ -17,7 +17,7 @@ use Rattle.laris.specs.declared.Telegram.{Telegram}
 use Rattle.laris.specs.Fields.{sumBelow, typeAt, externalsOf}
 use Rattle.laris.specs.Shape.{variablesBound, variablesOf}
 use Rattle.laris.specs.Values.{isBelow, isZero, chartOf, firstCell}
-use Rattle.laris.specs.State.{places, cellAt, placeAt, stateLength, wordOf, waiting, putWords, withTelegram, Changed, on, off}
+use Rattle.laris.specs.State.{cellAt, placeAt, stateLength, wordOf, waiting, putWords, withTelegram, Changed, on, off}
 use Rattle.laris.specs.Valid.{cellFits, headFits, OfSheet}
 use Rattle.laris.specs.Eval.{sameWord}
 use Rattle.laris.specs.Play.{thenSlice, clockTelegram, fires, ticks, slicedCell, slicedCells, slicedElement, slicedFrom}

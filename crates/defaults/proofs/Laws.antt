@@ -10,7 +10,7 @@ use lib.IntN.{ℤ, pos}
 use borrow.Author.Tests.{lt-ltb, le-ltb, le-leb, lt-leb, eq-eqb, ne-eqb}
 use Rattle.sheet.specs.declared.Record.{Record}
 use Rattle.sheet.specs.declared.Found.the-variants.{Present, Absent}
-use Rattle.sheet.specs.Names.{head, charts, stepLimit}
+use Rattle.sheet.specs.Names.{head, stepLimit}
 use Rattle.sheet.specs.Sheet.{recordOf}
 use Rattle.laris.specs.Fields.{fieldOf, fieldAt, numberOr0, sumBelow, typeAt, externalsOf}
 use Rattle.laris.specs.Shape.{variablesBound}

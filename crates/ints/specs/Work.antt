@@ -1,6 +1,6 @@
 -- What an expression gives in code: the word of its value. The static rules know its type, so no type is carried.
 use Prim.Native.Nat.{ℕ}
-use mathlib.Core.Bool.{Bool, true, false}
+use mathlib.Core.Bool.{true, false}
 use lib.Dec.{eqb}
 use lib.IntN.{ℤ}
 use lib.Signed.{ltZ}

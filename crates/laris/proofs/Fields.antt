@@ -1,14 +1,14 @@
 -- Laws of fields by number and of tests on records.
-use Prim.Native.Nat.{ℕ, zero, suc, _+_, _≤_, _<_}
-use mathlib.Core.Path.{_≡_, refl, sym, ap, _∙_}
-use mathlib.Core.List.{List, [], _∷_}
-use mathlib.Core.Bool.{Bool, true, false}
+use Prim.Native.Nat.{ℕ, _+_, _≤_}
+use mathlib.Core.Path.{_≡_, refl}
+use mathlib.Core.List.{[], _∷_}
+use mathlib.Core.Bool.{Bool, false}
 use native.Mathlib.Numerals.{add-one}
 use lib.ListN.{List·getD-eq-default}
 use Rattle.sheet.specs.declared.Record.{Record}
 use Rattle.sheet.specs.declared.Found.{Found}
 use Rattle.sheet.specs.declared.Found.the-variants.{Present, Absent}
-use Rattle.laris.specs.Fields.{fieldOf, holds, numberOr0, sumBelow, countBelow}
+use Rattle.laris.specs.Fields.{fieldOf, holds, numberOr0, sumBelow}
 
 pub field-past : (r : Record) (i : ℕ) → 8 ≤ i → fieldOf r i ≡ 0
 unfolding fieldOf

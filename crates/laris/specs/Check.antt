@@ -1,10 +1,10 @@
 -- What the checker passes: 0, or 1 for the shape, before 2 for a static rule.
-use Prim.Native.Nat.{ℕ, _+_, _-_}
+use Prim.Native.Nat.{ℕ}
 use mathlib.Core.List.{List}
 use mathlib.Core.Bool.{Bool, true, false}
 use lib.Dec.{leb, eqb}
 use Rattle.sheet.specs.All.{_and_, allBelow}
-use Rattle.sheet.specs.Names.{head, charts, bindings}
+use Rattle.sheet.specs.Names.{head, charts}
 use Rattle.sheet.specs.Sheet.{countOf, directoryRight, recordOf}
 use Rattle.laris.specs.declared.Checked.{Checked}
 use Rattle.laris.specs.declared.Checked.the-variants.{Passed, Shape, Static}

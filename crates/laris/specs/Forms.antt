@@ -1,11 +1,11 @@
 -- The forms of a node by its operator, and its operands.
-use Prim.Native.Nat.{ℕ, zero, suc, _+_, _-_}
+use Prim.Native.Nat.{ℕ, suc, _+_, _-_}
 use mathlib.Core.List.{List, [], _∷_}
-use mathlib.Core.Bool.{Bool, true, false}
-use lib.Dec.{ltb, leb, eqb}
+use mathlib.Core.Bool.{true, false}
+use lib.Dec.{ltb}
 use Rattle.sheet.specs.declared.Record.{Record}
 use Rattle.sheet.specs.declared.Found.{Found}
-use Rattle.sheet.specs.declared.Found.the-variants.{Present, Absent}
+use Rattle.sheet.specs.declared.Found.the-variants.{Absent}
 use Rattle.sheet.specs.Names.{names, bodies, operator, dataOf, chartBodies, bodyParameters}
 use Rattle.sheet.specs.Sheet.{recordOf}
 use Rattle.laris.specs.declared.Operands.{Operands}

@@ -2,16 +2,14 @@
 use Prim.Native.Nat.{ℕ, zero, suc, _+_, _*_, _-_}
 use mathlib.Core.List.{List, [], _∷_, _++_}
 use mathlib.Core.Bool.{Bool, true, false, not}
-use lib.ListN.{length, getD, set, replicate}
-use lib.Dec.{ltb, leb, eqb}
+use lib.ListN.{length, set, replicate}
+use lib.Dec.{ltb, eqb}
 use lib.IntN.{ℤ, pos, negsuc, natAbs, _+ℤ_, _-ℤ_}
-use lib.Signed.{leZ, ltZ}
 use Rattle.sheet.specs.declared.Record.{Record}
-use Rattle.sheet.specs.declared.Range.{Range}
 use Rattle.sheet.specs.declared.Found.{Found}
 use Rattle.sheet.specs.declared.Found.the-variants.{Present, Absent}
 use Rattle.sheet.specs.All.{_and_, allBelow}
-use Rattle.sheet.specs.Names.{head, names, bodies, bindings, stepLimit, dataOf, external, chartVariables, chartBodies, role, initial, panic, externalReaction, internalReaction, reactionPort, reactionName, bodyParameters, root, Timer-type, Timeout-type, isClock}
+use Rattle.sheet.specs.Names.{head, bodies, bindings, stepLimit, external, chartVariables, chartBodies, role, initial, panic, externalReaction, reactionPort, reactionName, bodyParameters, root, Timer-type, Timeout-type, isClock}
 use Rattle.sheet.specs.Sheet.{countOf, recordOf}
 use Rattle.laris.specs.declared.Checked.{Checked}
 use Rattle.laris.specs.declared.Checked.the-variants.{Passed, Shape, Static}
@@ -23,11 +21,11 @@ use Rattle.laris.specs.declared.Ran.{Ran}
 use Rattle.laris.specs.declared.Ran.the-variants.{Done, Refused, Stuck}
 use Rattle.laris.specs.Fields.{holds, numberOr0, typeAt, componentsOf, externalsOf, portsOf}
 use Rattle.laris.specs.Types.{reactsTo, nameRange}
-use Rattle.laris.specs.Values.{isBelow, isZero, defaultOf, isBound, bindingOf, chartOf, firstCell}
+use Rattle.laris.specs.Values.{isBelow, isZero, defaultOf, bindingOf, chartOf, firstCell}
 use Rattle.laris.specs.State.{places, cellAt, stateLength, wordOf, waiting, telegramOf, putWords, Changed, on, off, appended, withoutTelegram}
 use Rattle.laris.specs.Valid.{dataFit, nameFits, datumOf, isInternal, contentFits}
-use Rattle.laris.specs.Eval.{Context, sameWord}
-use Rattle.laris.specs.Run.{World, localsOf, listFrom, telegram, runOf}
+use Rattle.laris.specs.Eval.{sameWord}
+use Rattle.laris.specs.Run.{World, localsOf, telegram, runOf}
 use Rattle.laris.specs.Check.{checkOf}
 
 -- What a call comes to: an answer and what the result state then holds; or the machine is stuck.

@@ -1,11 +1,11 @@
 -- What a statement does.
-use Prim.Native.Nat.{ℕ, zero, suc, _+_, _*_, _-_}
-use mathlib.Core.List.{List, [], _∷_, _++_}
-use mathlib.Core.Bool.{Bool, true, false, not}
-use lib.ListN.{length, getD, set, replicate}
-use lib.Dec.{ltb, leb, eqb}
+use Prim.Native.Nat.{ℕ, zero, suc, _+_, _-_}
+use mathlib.Core.List.{List, [], _∷_}
+use mathlib.Core.Bool.{Bool, true, false}
+use lib.ListN.{getD, set, replicate}
+use lib.Dec.{ltb, eqb}
 use lib.IntN.{ℤ, pos, negsuc}
-use lib.Signed.{leZ, ltZ}
+use lib.Signed.{leZ}
 use Rattle.sheet.specs.declared.Record.{Record}
 use Rattle.sheet.specs.declared.Range.{Range}
 use Rattle.sheet.specs.declared.Found.{Found}
@@ -14,7 +14,6 @@ use Rattle.sheet.specs.All.{_and_}
 use Rattle.sheet.specs.Names
 use Rattle.sheet.specs.Names.{names, nodes, dataOf, chartVariables, bodyParameters, bodyLocals, root, operator, Bool-type, Int-type, Component-type, Port-type, Timer-type, Timeout-type, isClock}
 use Rattle.sheet.specs.Sheet.{recordOf}
-use Rattle.laris.specs.declared.Value.{Value}
 use Rattle.laris.specs.declared.Out.{Out}
 use Rattle.laris.specs.declared.Out.the-variants as out
 use Rattle.laris.specs.declared.Ran.{Ran}

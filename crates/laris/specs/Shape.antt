@@ -4,12 +4,10 @@ use mathlib.Core.List.{List}
 use mathlib.Core.Bool.{Bool, true, false}
 use lib.Dec.{ltb, leb, eqb}
 use Rattle.sheet.specs.declared.Record.{Record}
-use Rattle.sheet.specs.declared.Range.{Range}
-use Rattle.sheet.specs.declared.Found.{Found}
 use Rattle.sheet.specs.All.{_and_, allBelow}
 use Rattle.sheet.specs.Names
 use Rattle.sheet.specs.Names.{head, enumeratedTypes, declarations, names, charts, bodies, nodes, bindings, components, externals, ports, size, defaultMember, declaredType, dataOf, class, chartParameters, chartVariables, chartBodies, role, externalReaction, internalReaction, procedure, reactionPort, reactionName, bodyParameters, bodyLocals, root, boundChart, operator, isLiteral}
-use Rattle.sheet.specs.Sheet.{countOf, recordOf, directoryRight}
+use Rattle.sheet.specs.Sheet.{countOf, recordOf}
 use Rattle.laris.specs.Fields.{fieldOf, zeroFrom, holds, numberOr0, sumBelow, componentsOf, externalsOf, portsOf, inSection}
 use Rattle.laris.specs.Forms.{Form, literal, read, unary, binary, clock, skip, assign, externalSend, internalSend, arm, clockAct, call, choice, loop, sequence, unknown, formOf, callData, operandsOf, operandCount, operandAt}
 

@@ -1,11 +1,10 @@
 -- The state's words: head, a cell for each variable, 128 places for telegrams.
-use Prim.Native.Nat.{ℕ, zero, suc, _+_, _*_, _-_}
+use Prim.Native.Nat.{ℕ, _+_, _*_, _-_}
 use mathlib.Core.List.{List, [], _∷_, _++_}
-use mathlib.Core.Bool.{Bool, true, false}
+use mathlib.Core.Bool.{true, false}
 use lib.ListN.{length, getD, take, drop, set, replicate}
-use lib.Dec.{ltb, leb, eqb}
-use lib.IntN.{ℤ, pos, negsuc, natAbs}
-use Rattle.sheet.specs.All.{_and_, allBelow}
+use lib.Dec.{ltb}
+use lib.IntN.{ℤ, pos, natAbs}
 use Rattle.laris.specs.declared.Telegram.{Telegram}
 use Rattle.laris.specs.Shape.{variablesOf}
 

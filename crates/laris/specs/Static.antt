@@ -2,14 +2,14 @@
 use Prim.Native.Nat.{ℕ, _+_}
 use mathlib.Core.List.{List}
 use mathlib.Core.Bool.{Bool, true, false, not}
-use lib.Dec.{ltb, leb, eqb}
+use lib.Dec.{leb, eqb}
 use Rattle.sheet.specs.declared.Record.{Record}
 use Rattle.sheet.specs.declared.Range.{Range}
 use Rattle.sheet.specs.declared.Found.{Found}
 use Rattle.sheet.specs.All.{_and_, allBelow}
-use Rattle.sheet.specs.Names.{names, charts, bodies, nodes, bindings, dataOf, external, internal, chartParameters, chartBodies, role, initial, panic, externalReaction, internalReaction, reactionPort, reactionName, bodyParameters, bodyLocals, root, boundChart, isClock}
+use Rattle.sheet.specs.Names.{names, charts, bodies, nodes, bindings, dataOf, external, internal, chartParameters, chartBodies, role, initial, panic, externalReaction, reactionPort, reactionName, bodyParameters, bodyLocals, root, boundChart, isClock}
 use Rattle.sheet.specs.Sheet.{countOf, recordOf}
-use Rattle.laris.specs.Fields.{fieldOf, holds, countBelow, typeAt}
+use Rattle.laris.specs.Fields.{holds, countBelow, typeAt}
 use Rattle.laris.specs.Shape.{isReaction, constantOf}
 use Rattle.laris.specs.Types.{isStatement, literalType, hasClass, nameRange, typeOf}
 

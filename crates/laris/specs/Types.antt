@@ -2,7 +2,7 @@
 use Prim.Native.Nat.{ℕ, zero, suc, _+_, _-_}
 use mathlib.Core.List.{List}
 use mathlib.Core.Bool.{Bool, true, false, not}
-use lib.Dec.{ltb, leb, eqb}
+use lib.Dec.{ltb, eqb}
 use Rattle.sheet.specs.declared.Record.{Record}
 use Rattle.sheet.specs.declared.Range.{Range}
 use Rattle.sheet.specs.declared.Found.{Found}
@@ -13,7 +13,7 @@ use Rattle.sheet.specs.Names.{names, bodies, nodes, dataOf, class, external, in
 use Rattle.sheet.specs.Sheet.{recordOf}
 use Rattle.laris.specs.declared.Typed.{Typed}
 use Rattle.laris.specs.declared.Typed.the-variants.{Expression, Statement, Wrong}
-use Rattle.laris.specs.Fields.{fieldOf, holds, numberOr0, typeAt}
+use Rattle.laris.specs.Fields.{fieldOf, holds, typeAt}
 use Rattle.laris.specs.Forms.{Form, literal, read, unary, binary, clock, skip, assign, externalSend, internalSend, arm, clockAct, call, choice, loop, sequence, unknown, formOf, calledBody}
 
 -- ---- tests of what an operand is

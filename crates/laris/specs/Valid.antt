@@ -1,16 +1,13 @@
 -- "A state is of the sheet when all this paragraph holds": a test for each sentence of the paper's State paragraph.
-use Prim.Native.Nat.{ℕ, zero, suc, _+_, _*_, _-_}
+use Prim.Native.Nat.{ℕ, _+_, _-_}
 use mathlib.Core.List.{List, [], _∷_}
 use mathlib.Core.Path.{_≡_}
 use mathlib.Core.Bool.{Bool, true, false, not}
 use lib.ListN.{length, getD}
-use lib.Dec.{ltb, leb, eqb}
+use lib.Dec.{ltb, eqb}
 use lib.IntN.{ℤ, pos, negsuc, natAbs}
 use lib.Signed.{leZ, ltZ}
-use Rattle.sheet.specs.declared.Record.{Record}
 use Rattle.sheet.specs.declared.Range.{Range}
-use Rattle.sheet.specs.declared.Found.{Found}
-use Rattle.sheet.specs.declared.Found.the-variants.{Present, Absent}
 use Rattle.sheet.specs.All.{_and_, allBelow}
 use Rattle.sheet.specs.Names.{names, bindings, external, internal, chartVariables, Timer-type, Timeout-type, isClock}
 use Rattle.sheet.specs.Sheet.{countOf}
@@ -18,7 +15,7 @@ use Rattle.laris.specs.declared.Telegram.{Telegram}
 use Rattle.laris.specs.Fields.{holds, typeAt, componentsOf, externalsOf, portsOf}
 use Rattle.laris.specs.Types.{hasClass, hasReaction, nameRange}
 use Rattle.laris.specs.Values.{fits32, isBelow, isZero, inType, isBound, chartOf, firstCell}
-use Rattle.laris.specs.State.{places, cellAt, placeAt, stateLength, wordOf, waiting, telegramIn, telegramOf}
+use Rattle.laris.specs.State.{places, cellAt, placeAt, stateLength, wordOf, waiting, telegramOf}
 
 -- ---- data: "Surplus data are zero." "Data, also a clock's, fit their name's types"
 

@@ -4,27 +4,27 @@ use mathlib.Core.Path.{_≡_, refl, sym, ap, _∙_}
 use mathlib.Core.List.{List}
 use mathlib.Core.Bool.{Bool, true, false, not}
 use native.Mathlib.Omega.{arith}
-use lib.Dec.{ltb, leb, eqb}
-use borrow.Author.Tests.{ltb-true, leb-true, eqb-true, not-false}
+use lib.Dec.{eqb}
+use borrow.Author.Tests.{ltb-true, leb-true, eqb-true}
 use Rattle.sheet.specs.declared.Record.{Record}
 use Rattle.sheet.specs.declared.Found.{Found}
 use Rattle.sheet.specs.declared.Found.the-variants.{Present, Absent}
 use Rattle.sheet.specs.All.{_and_, allBelow}
 use Rattle.sheet.specs.Names.{charts, bodies, bindings, chartBodies, role, initial, panic, root, boundChart}
-use Rattle.sheet.specs.Sheet.{countOf, recordOf}
+use Rattle.sheet.specs.Sheet.{recordOf}
 use Rattle.sheet.proofs.All.{true-false, not-so, and-true, and-first, and-second, all-at}
-use Rattle.sheet.proofs.Sheet.{record-present, record-absent}
+use Rattle.sheet.proofs.Sheet.{record-present}
 use Rattle.laris.specs.declared.Checked.the-variants.{Passed}
 use Rattle.laris.specs.Fields.{holds, oneIf, sumBelow, countBelow, externalsOf, componentsOf}
-use Rattle.laris.specs.Shape.{treeShape, treesShape, bodyShape, bindingShape, constantsShape}
+use Rattle.laris.specs.Shape.{treeShape, treesShape, bindingShape}
 use Rattle.laris.specs.Types.{reactsTo, hasReaction}
-use Rattle.laris.specs.Static.{bodyOf, hasRole, bodiesWith, bodyStatic, bodiesStatic, chartStatic, noTwin, bindingStatic, constantsStatic}
+use Rattle.laris.specs.Static.{bodyOf, hasRole, bodiesWith, bodyStatic, bodiesStatic, chartStatic, noTwin}
 use Rattle.laris.specs.Values.{isBound, bindingOf, chartOf}
 use Rattle.laris.specs.Play.{bodyFrom, bodyWhere, isInitial, hasPanic}
 use Rattle.laris.specs.Check.{checkOf}
-use Rattle.laris.proofs.Fields.{holds-present, holds-absent}
+use Rattle.laris.proofs.Fields.{holds-present}
 use Rattle.passed.specs.Places.{InChart, Element}
-use Rattle.passed.proofs.Records.{held, one-record, present-below, elements-bound, binding-shape, binding-static, body-shape, chart-static, trees-shape}
+use Rattle.passed.proofs.Records.{held, one-record, elements-bound, binding-shape, chart-static, trees-shape}
 
 -- ---- elements
 

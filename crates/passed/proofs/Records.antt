@@ -1,28 +1,26 @@
 -- What is known of each record of a passed sheet.
-use Prim.Native.Nat.{ℕ, zero, suc, _+_, _-_, _<_, _≤_}
+use Prim.Native.Nat.{ℕ, _+_, _-_, _<_, _≤_}
 use mathlib.Core.Path.{_≡_, refl, sym, ap, _∙_}
 use mathlib.Core.List.{List}
 use mathlib.Core.Bool.{Bool, true, false}
 use native.Mathlib.Omega.{arith}
-use lib.Dec.{ltb, leb, eqb}
-use borrow.Author.Tests.{ltb-true, leb-true, eqb-true, le-leb}
+use borrow.Author.Tests.{leb-true, eqb-true}
 use native.Mathlib.Decide.{decLt}
 use Rattle.sheet.specs.declared.Record.{Record}
-use Rattle.sheet.specs.declared.Range.{Range}
 use Rattle.sheet.specs.declared.Found.{Found}
 use Rattle.sheet.specs.declared.Found.the-variants.{Present, Absent}
-use Rattle.sheet.specs.All.{_and_, allBelow}
-use Rattle.sheet.specs.Names.{head, enumeratedTypes, declarations, names, charts, bodies, nodes, bindings, declaredType, components, externals, ports}
+use Rattle.sheet.specs.All.{_and_}
+use Rattle.sheet.specs.Names.{head, enumeratedTypes, declarations, names, charts, bodies, bindings, declaredType, components, externals, ports}
 use Rattle.sheet.specs.Sheet.{directoryRight, countOf, recordOf}
 use Rattle.sheet.proofs.All.{true-false, and-first, and-second, all-at}
 use Rattle.sheet.proofs.Sheet.{record-present, record-absent}
 use Rattle.laris.specs.declared.Checked.{Checked}
 use Rattle.laris.specs.declared.Checked.the-variants.{Passed, Shape, Static}
-use Rattle.laris.specs.Fields.{holds, numberOr0, typeAt, componentsOf, externalsOf, portsOf, inSection}
+use Rattle.laris.specs.Fields.{holds, numberOr0, typeAt, componentsOf, externalsOf, portsOf}
 use Rattle.laris.specs.Shape.{headShape, enumeratedShape, typeExists, declarationShape, nameShape, chartShape, bodyShape, bindingShape, elementsBound, variablesOf, treesShape, recordShape, sectionShape, bodiesCovered}
 use Rattle.laris.specs.Static.{nameStatic, chartStatic, bindingStatic, recordStatic, sectionStatic, static}
 use Rattle.laris.specs.Check.{nodesShape, sectionsShape, shape, checkOf, checkNumber}
-use Rattle.laris.proofs.Fields.{holds-present, holds-absent, number-present}
+use Rattle.laris.proofs.Fields.{holds-present, number-present}
 
 -- ---- a record that is there
 

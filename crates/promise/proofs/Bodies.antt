@@ -2,44 +2,40 @@
 use Prim.Native.Nat.{ℕ, zero, suc, _+_, _-_, _<_, _≤_}
 use mathlib.Core.Path.{_≡_, refl, sym, ap, subst, _∙_}
 use mathlib.Core.List.{List, [], _∷_}
-use mathlib.Core.Logic.{_⊎_, inl, inr}
-use mathlib.Core.Bool.{Bool, true, false, not}
+use mathlib.Core.Logic.{inl, inr}
+use mathlib.Core.Bool.{Bool, true, false}
 use native.Mathlib.Omega.{arith}
-use lib.ListN.{length, getD}
 use lib.Dec.{ltb, leb, eqb}
-use lib.IntN.{ℤ, pos, negsuc, natAbs}
-use borrow.Author.Tests.{ltb-true, leb-true, eqb-true, lt-ltb, le-leb, eq-eqb}
+use lib.IntN.{ℤ, natAbs}
+use borrow.Author.Tests.{ltb-true, leb-true, eqb-true, lt-ltb, eq-eqb}
 use Rattle.sheet.specs.declared.Record.{Record}
 use Rattle.sheet.specs.declared.Range.{Range}
-use Rattle.sheet.specs.declared.Found.{Found}
-use Rattle.sheet.specs.declared.Found.the-variants.{Present, Absent}
-use Rattle.sheet.specs.All.{_and_, allBelow}
-use Rattle.sheet.specs.Names.{role, panic, externalReaction, internalReaction, reactionName, bodyParameters, root}
-use Rattle.sheet.proofs.All.{true-false, and-first, and-second, and-true, all-at}
+use Rattle.sheet.specs.declared.Found.the-variants.{Present}
+use Rattle.sheet.specs.All.{_and_}
+use Rattle.sheet.specs.Names.{role, panic, reactionName, bodyParameters, root}
+use Rattle.sheet.proofs.All.{and-first, and-second, and-true, all-at}
 use Rattle.laris.specs.declared.Ran.{Ran}
 use Rattle.laris.specs.declared.Ran.the-variants.{Done, Refused, Stuck}
 use Rattle.laris.specs.declared.Checked.the-variants.{Passed}
 use Rattle.laris.specs.declared.Telegram.{Telegram}
-use Rattle.laris.specs.declared.Handed.the-variants.{Nothing, Outside}
 use Rattle.laris.specs.Fields.{holds, typeAt}
 use Rattle.laris.specs.Shape.{isReaction, bodyShape}
-use Rattle.laris.specs.Types.{nameRange, reactsTo}
+use Rattle.laris.specs.Types.{nameRange}
 use Rattle.laris.specs.Static.{sameTypes, reactionStatic, roleStatic, bodyStatic}
-use Rattle.laris.specs.Values.{isZero, inType, bindingOf, chartOf}
+use Rattle.laris.specs.Values.{isZero, inType}
 use Rattle.laris.specs.Valid.{dataFit, datumOf, OfSheet}
 use Rattle.laris.specs.Eval.{Context}
-use Rattle.laris.specs.Run.{World, localsOf, datum, runOf}
-use Rattle.laris.specs.Play.{Outcome, ended, stuck, answer, limitOf, bodyWhere, hasPanic, isInitial, reactsOn, ranBody, elementBody, eventEnd, bodyEvent, brought, reacting, panicking}
+use Rattle.laris.specs.Run.{localsOf, datum, runOf}
+use Rattle.laris.specs.Play.{limitOf, bodyWhere, hasPanic, ranBody, elementBody, eventEnd, bodyEvent, brought, reacting, panicking}
 use Rattle.laris.specs.Check.{checkOf}
-use Rattle.laris.proofs.Fields.{holds-present}
-use Rattle.passed.specs.Places.{InChart, Element, Placed, Locals}
+use Rattle.passed.specs.Places.{InChart, Element, Placed}
 use Rattle.passed.proofs.Records.{body-shape}
 use Rattle.passed.proofs.Charts.{element-binding, element-chart, where-found, body-static, panic-there}
 use Rattle.states.proofs.Frame.{all-true}
 use Rattle.sound.specs.Gives.{Ends}
 use Rattle.sound.proofs.Locals.{fresh-locals}
 use Rattle.sound.proofs.Run.{body-ends}
-use Rattle.promise.specs.Promise.{OneOf, EventKept}
+use Rattle.promise.specs.Promise.{EventKept}
 
 module _ (s : List ℕ) (ok : checkOf s ≡ Passed) (e : ℕ) (b c : Record) (x : Element s e b c) where
   -- a body of the element's chart

@@ -6,13 +6,13 @@ use mathlib.Core.Logic.{inl, inr}
 use mathlib.Core.Bool.{Bool, true, false, not}
 use native.Mathlib.Omega.{arith}
 use lib.ListN.{length}
-use lib.Dec.{ltb, leb, eqb}
+use lib.Dec.{ltb, eqb}
 use lib.IntN.{ℤ, pos, negsuc, natAbs}
 use borrow.Author.Tests.{ltb-true, ltb-false, leb-true, eqb-true, lt-ltb, le-leb, eq-eqb, not-true}
 use Rattle.sheet.specs.declared.Found.{Found}
 use Rattle.sheet.specs.declared.Found.the-variants.{Present, Absent}
 use Rattle.sheet.specs.All.{_and_}
-use Rattle.sheet.specs.Names.{external, internal, role, externalReaction, internalReaction}
+use Rattle.sheet.specs.Names.{external, role, externalReaction, internalReaction}
 use Rattle.sheet.proofs.All.{true-false, and-first, and-second, and-true, and-false}
 use Rattle.laris.specs.declared.Checked.the-variants.{Passed}
 use Rattle.laris.specs.declared.Telegram.{Telegram}
@@ -21,10 +21,10 @@ use Rattle.laris.specs.Fields.{holds, componentsOf, externalsOf, portsOf}
 use Rattle.laris.specs.Shape.{isReaction}
 use Rattle.laris.specs.Types.{nameRange, hasReaction}
 use Rattle.laris.specs.Values.{isBelow, isZero, isBound, chartOf}
-use Rattle.laris.specs.State.{stateLength, wordOf, waiting, telegramOf, withoutTelegram, Changed, on, off, appended}
+use Rattle.laris.specs.State.{stateLength, wordOf, waiting, telegramOf, withoutTelegram, Changed, on, off}
 use Rattle.laris.specs.Valid.{dataFit, nameFits, reactionAwaits, datumOf, isInternal, internalFits, externalFits, telegramFits, contentFits, OfSheet}
 use Rattle.laris.specs.Eval.{sameWord}
-use Rattle.laris.specs.Play.{Outcome, ended, stuck, answer, reactsOn, elementBody, oldestFrom, oldest, goesFrom, innerOf, taking, reacting, panicking, outside, delivered, deliver, corrupt, inner, slice, restZero, boundWord, wellFormed, isEvent, telegramOfEvent, happens, turnedDown, ifPassed, eventCall, changeEnd}
+use Rattle.laris.specs.Play.{Outcome, ended, answer, reactsOn, elementBody, oldestFrom, oldest, goesFrom, innerOf, taking, reacting, panicking, outside, delivered, deliver, corrupt, inner, slice, restZero, boundWord, wellFormed, isEvent, telegramOfEvent, happens, turnedDown, ifPassed, eventCall, changeEnd}
 use Rattle.laris.specs.Check.{checkOf}
 use Rattle.laris.proofs.Fields.{holds-present}
 use Rattle.passed.proofs.Records.{externals-components}

@@ -1,19 +1,18 @@
 -- The promise of `specs/Promise`, for every sheet that the rules pass.
 use Prim.Native.Nat.{ℕ}
-use mathlib.Core.Path.{_≡_, refl, sym, ap, subst, _∙_}
+use mathlib.Core.Path.{_≡_, refl, subst}
 use mathlib.Core.List.{List, [], _∷_}
-use mathlib.Core.Logic.{_⊎_, inl, inr}
 use mathlib.Core.Bool.{Bool, true, false}
 use lib.Dec.{eqb}
 use lib.IntN.{ℤ}
-use borrow.Author.Tests.{eqb-true, eqb-false}
+use borrow.Author.Tests.{eqb-true}
 use Rattle.laris.specs.declared.Answer.{Answer}
 use Rattle.laris.specs.declared.Checked.the-variants.{Passed}
 use Rattle.laris.specs.Valid.{OfSheet}
 use Rattle.laris.specs.Play.{Outcome, ended, stuck, eventCall}
 use Rattle.laris.specs.Check.{checkOf}
 use Rattle.laris.specs.Lists.{Played, played, nowhere, thenPlayed, afterAnswer, goesOn, eventsOf}
-use Rattle.promise.specs.Promise.{OneOf, EventKept, StartKept, ListKept, Promise, PassedKept}
+use Rattle.promise.specs.Promise.{OneOf, EventKept, StartKept, ListKept, PassedKept}
 use Rattle.promise.proofs.Events.{event-kept}
 use Rattle.promise.proofs.Start.{start-kept}
 use Rattle.promise.proofs.Reactions.{one-reaction}

@@ -1,31 +1,29 @@
 -- On a passed sheet an internal name that waits or is armed has one reaction.
-use Prim.Native.Nat.{ℕ, zero, suc, _+_, _-_, _<_, _≤_}
+use Prim.Native.Nat.{ℕ, zero, suc, _-_, _<_}
 use mathlib.Core.Path.{_≡_, refl, sym, ap, subst, _∙_}
 use mathlib.Core.List.{List}
-use mathlib.Core.Bool.{Bool, true, false, not}
+use mathlib.Core.Bool.{Bool, true, false}
 use native.Mathlib.Omega.{arith}
 use native.Mathlib.Decide.{ℕ-discrete}
 use lib.Dec.{ltb, leb, eqb}
-use lib.IntN.{ℤ, natAbs}
+use lib.IntN.{ℤ}
 use borrow.Author.Tests.{eqb-true, eq-eqb, not-true}
 use Rattle.sheet.specs.declared.Record.{Record}
-use Rattle.sheet.specs.declared.Found.{Found}
 use Rattle.sheet.specs.declared.Found.the-variants.{Present}
-use Rattle.sheet.specs.All.{_and_, allBelow}
+use Rattle.sheet.specs.All.{_and_}
 use Rattle.sheet.specs.Names.{charts, chartBodies, role, internalReaction, externalReaction, reactionPort, reactionName, boundChart}
 use Rattle.sheet.specs.Sheet.{recordOf}
 use Rattle.sheet.proofs.All.{true-false, not-so, and-first, and-second, and-true, all-at}
 use Rattle.laris.specs.declared.Checked.the-variants.{Passed}
-use Rattle.laris.specs.declared.Telegram.{Telegram}
 use Rattle.laris.specs.Fields.{portsOf, holds, oneIf, sumBelow, countBelow}
 use Rattle.laris.specs.Shape.{isReaction, reactionShape, bodyShape}
 use Rattle.laris.specs.Types.{hasReaction, reactsTo}
-use Rattle.laris.specs.Static.{bodyOf, sameReaction, noTwin, bodyStatic}
+use Rattle.laris.specs.Static.{bodyOf, sameReaction, noTwin}
 use Rattle.laris.specs.Values.{chartOf}
-use Rattle.laris.specs.Valid.{isInternal, internalFits, telegramFits, reactionAwaits, OfSheet}
+use Rattle.laris.specs.Valid.{internalFits, reactionAwaits, OfSheet}
 use Rattle.laris.specs.Check.{checkOf}
 use Rattle.laris.proofs.Fields.{holds-present, number-present}
-use Rattle.passed.proofs.Records.{held, one-record, body-shape}
+use Rattle.passed.proofs.Records.{held, body-shape}
 use Rattle.passed.proofs.Charts.{One, body-there, chart-element, some-reacts}
 use Rattle.states.proofs.Parts.{cell-of, telegram-of}
 use Rattle.states.proofs.Clocks.{running, clock-awaits}

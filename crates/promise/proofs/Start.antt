@@ -1,17 +1,14 @@
 -- Start is not stuck, and after 0 its state is of the sheet.
-use Prim.Native.Nat.{ℕ, zero, suc, _+_, _-_, _<_, _≤_}
+use Prim.Native.Nat.{ℕ, zero, suc, _+_, _-_, _≤_}
 use mathlib.Core.Path.{_≡_, refl, sym, ap, subst, _∙_}
 use mathlib.Core.List.{List, []}
-use mathlib.Core.Logic.{_⊎_, inl, inr}
-use mathlib.Core.Bool.{Bool, true, false}
+use mathlib.Core.Logic.{inl, inr}
+use mathlib.Core.Bool.{true, false}
 use native.Mathlib.Omega.{arith}
 use lib.ListN.{length}
-use lib.Dec.{ltb, leb, eqb}
+use lib.Dec.{eqb}
 use lib.IntN.{ℤ}
 use borrow.Author.Tests.{eqb-true, lt-ltb, le-leb, eq-eqb}
-use Rattle.sheet.specs.declared.Record.{Record}
-use Rattle.sheet.specs.declared.Found.{Found}
-use Rattle.sheet.specs.declared.Found.the-variants.{Present}
 use Rattle.sheet.specs.All.{_and_}
 use Rattle.sheet.specs.Names.{bindings, role, initial}
 use Rattle.sheet.specs.Sheet.{countOf}
@@ -24,15 +21,13 @@ use Rattle.laris.specs.Values.{isBound}
 use Rattle.laris.specs.State.{stateLength}
 use Rattle.laris.specs.Valid.{OfSheet}
 use Rattle.laris.specs.Eval.{Context}
-use Rattle.laris.specs.Run.{World}
-use Rattle.laris.specs.Play.{Outcome, ended, stuck, isInitial, ranBody, elementBody, bodyWhere, defaultState, startNext, startFrom, started, turnedDown, ifPassed, startCall}
+use Rattle.laris.specs.Play.{Outcome, isInitial, ranBody, defaultState, startNext, startFrom, started, turnedDown, ifPassed, startCall}
 use Rattle.laris.specs.Check.{checkOf}
-use Rattle.passed.specs.Places.{Element}
 use Rattle.passed.proofs.Records.{elements-bound}
 use Rattle.passed.proofs.Charts.{bound-element, where-found, initial-there}
 use Rattle.states.proofs.Default.{default-of-sheet}
 use Rattle.sound.specs.Gives.{Ends}
-use Rattle.promise.specs.Promise.{OneOf, StartKept}
+use Rattle.promise.specs.Promise.{StartKept}
 use Rattle.promise.proofs.Bodies.{body-of, ran-ends, no-parameters}
 
 module _ (s : List ℕ) (ok : checkOf s ≡ Passed) where

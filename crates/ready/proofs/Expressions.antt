@@ -1,31 +1,30 @@
 -- What an expression of a passed sheet gives in words, form by form.
-use Prim.Native.Nat.{ℕ, zero, suc, _+_, _*_, _-_, _<_, _≤_}
+use Prim.Native.Nat.{ℕ, zero, suc, _+_, _-_, _<_, _≤_}
 use mathlib.Core.Path.{_≡_, refl, sym, ap, subst, _∙_}
 use mathlib.Core.List.{List}
-use mathlib.Core.Bool.{Bool, true, false, not}
+use mathlib.Core.Bool.{Bool, true, false}
 use native.Mathlib.Omega.{arith}
-use lib.ListN.{length, getD}
-use lib.Dec.{ltb, leb, eqb}
-use lib.IntN.{ℤ, pos}
+use lib.ListN.{length}
+use lib.Dec.{ltb, eqb}
+use lib.IntN.{ℤ}
 use lib.Signed.{ltZ}
-use borrow.Author.Tests.{ltb-true, lt-ltb, eq-eqb, ne-eqb, eqb-true}
+use borrow.Author.Tests.{ltb-true, lt-ltb, eq-eqb, ne-eqb}
 use Rattle.sheet.specs.declared.Record.{Record}
-use Rattle.sheet.specs.declared.Found.{Found}
 use Rattle.sheet.specs.declared.Found.the-variants.{Present, Absent}
 use Rattle.sheet.specs.All.{_and_}
 use Rattle.sheet.specs.Names
 use Rattle.sheet.specs.Names.{nodes, chartVariables, bodyParameters, bodyLocals, operator, isLiteral, Bool-type, Int-type}
 use Rattle.sheet.specs.Sheet.{recordOf}
-use Rattle.sheet.proofs.All.{true-false, and-first, and-second, and-true, all-at}
+use Rattle.sheet.proofs.All.{true-false, and-first, and-second, all-at}
 use Rattle.laris.specs.declared.Value.{Value}
 use Rattle.laris.specs.declared.Out.{Out}
 use Rattle.laris.specs.declared.Out.the-variants as out
 use Rattle.laris.specs.declared.Typed.{Typed}
-use Rattle.laris.specs.declared.Typed.the-variants.{Expression, Statement, Wrong}
+use Rattle.laris.specs.declared.Typed.the-variants.{Expression}
 use Rattle.laris.specs.Fields.{fieldOf, typeAt}
 use Rattle.laris.specs.Forms.{Form, literal, read, unary, binary, clock, skip, assign, externalSend, internalSend, arm, clockAct, call, choice, loop, sequence, unknown, formOf, operandsIn, operandsOf, operandAt, operandCount}
 use Rattle.laris.specs.Shape.{variablesAt, fieldsShape, treeShape, constantOf}
-use Rattle.laris.specs.Types.{variableAt, lowerType, typeIn, typeOf, notType, binaryType, readType, clockType}
+use Rattle.laris.specs.Types.{variableAt, lowerType, typeIn, typeOf}
 use Rattle.laris.specs.Values.{isZero, inType, firstCell}
 use Rattle.laris.specs.State.{cellAt, wordOf}
 use Rattle.laris.specs.Eval.{andThen, needs, onRecord, val, boolWord, isOne, sameWord, notVal, intVal, binaryVal, literalValue, within, ofType, Context, parameterVal, variableAtCell, readAs, readVal, clockVal, lowerEval, evalIn, evalOf}
@@ -33,8 +32,7 @@ use Rattle.laris.proofs.Fields.{holds-present}
 use Rattle.laris.proofs.Forms.{isExpressionForm}
 use Rattle.laris.proofs.Types.{lower-type}
 use Rattle.equations.proofs.Eval.{lower-eval, eval-none, eval-visit}
-use Rattle.passed.specs.Places.{Placed, Locals, Cells}
-use Rattle.passed.proofs.Records.{held}
+use Rattle.passed.specs.Places.{Placed, Cells}
 use Rattle.passed.proofs.Charts.{element-chart}
 use Rattle.states.proofs.Parts.{cell-of}
 use Rattle.states.proofs.Kept.{cell-in-state}
@@ -45,7 +43,7 @@ use Rattle.sound.proofs.Eval.{type-at, eval-gives}
 use Rattle.ints.specs.declared.Work.{Work}
 use Rattle.ints.specs.declared.Work.the-variants.{Word, Refused, Stuck}
 use Rattle.ints.specs.Work.{workOf, thenWork, notWork, binaryWork}
-use Rattle.ready.specs.Ready.{recordOr0, contextAt, Running, Ready, IsExpression}
+use Rattle.ready.specs.Ready.{contextAt, Ready, IsExpression}
 
 -- a test that holds is passed
 needs-word : (b : Bool) (o : Out) (w : Work) → (b ≡ true → workOf o ≡ w) → (workOf (needs b o) ≡ Stuck → ⊥) → workOf (needs b o) ≡ w

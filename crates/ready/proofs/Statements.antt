@@ -1,13 +1,12 @@
 -- What a statement of a passed sheet does in words, form by form.
-use Prim.Native.Nat.{ℕ, zero, suc, _+_, _*_, _-_, _<_, _≤_}
+use Prim.Native.Nat.{ℕ, zero, suc, _+_, _-_, _<_}
 use mathlib.Core.Path.{_≡_, refl, sym, ap, subst, _∙_, fun-ext}
 use mathlib.Core.List.{List}
 use mathlib.Core.Bool.{Bool, true, false, not}
 use native.Mathlib.Omega.{arith}
-use lib.ListN.{length, getD}
-use lib.Dec.{ltb, leb, eqb}
+use lib.Dec.{ltb, eqb}
 use lib.IntN.{ℤ, pos, negsuc}
-use borrow.Author.Tests.{ltb-true, lt-ltb, le-ltb, eq-eqb, ne-eqb, eqb-true, not-true}
+use borrow.Author.Tests.{ltb-true, lt-ltb, le-ltb, eq-eqb, ne-eqb, eqb-true}
 use Rattle.sheet.specs.declared.Record.{Record}
 use Rattle.sheet.specs.declared.Range.{Range}
 use Rattle.sheet.specs.declared.Found.{Found}
@@ -21,29 +20,27 @@ use Rattle.laris.specs.declared.Out.{Out}
 use Rattle.laris.specs.declared.Out.the-variants as out
 use Rattle.laris.specs.declared.Ran.the-variants.{Done, Refused, Stuck}
 use Rattle.laris.specs.declared.Typed.{Typed}
-use Rattle.laris.specs.declared.Typed.the-variants.{Expression, Statement, Wrong}
+use Rattle.laris.specs.declared.Typed.the-variants.{Statement}
 use Rattle.laris.specs.Fields.{fieldOf, holds, typeAt}
-use Rattle.laris.specs.Forms.{Form, literal, read, unary, binary, clock, skip, assign, externalSend, internalSend, arm, clockAct, call, choice, loop, sequence, unknown, formOf, nameData, calledBody, callData, operands, operandsIn, operandsOf, operandAt, operandCount}
+use Rattle.laris.specs.Forms.{Form, skip, assign, externalSend, internalSend, arm, clockAct, call, choice, loop, sequence, formOf, nameData, calledBody, callData, operands, operandsIn, operandsOf, operandAt, operandCount}
 use Rattle.laris.specs.Shape.{variablesAt, sendShape, fieldsShape, treeShape}
-use Rattle.laris.specs.Types.{given, isOf, isStatement, variableAt, hasClass, internalName, chartVariableType, nameRange, parametersOf, clockOf, dataMatch, lowerType, typeIn, typeOf, assignType, externalType, internalType, armType, clockActType, callType, choiceType, loopType, sequenceType}
+use Rattle.laris.specs.Types.{isOf, isStatement, variableAt, hasClass, internalName, chartVariableType, nameRange, parametersOf, clockOf, dataMatch, lowerType, typeIn, typeOf, assignType, externalType, internalType, armType, clockActType, callType, choiceType, loopType, sequenceType}
 use Rattle.laris.specs.Values.{isZero, firstCell}
 use Rattle.laris.specs.State.{cellAt}
-use Rattle.laris.specs.Valid.{OfSheet}
 use Rattle.laris.specs.Eval.{Context, variableAtCell, evalOf}
-use Rattle.laris.specs.Run.{World, world, goOn, thenRun, thenValue, withRecord, provided, thenData, datum, telegram, append, armed, clockSet, assigned, assignOf, nameDataOf, externalSendOf, internalSendOf, cellType, isVariable, armOf, clockActOf, entered, callOf, choiceOf, dataFrom, runIn, runOf}
+use Rattle.laris.specs.Run.{World, world, thenRun, thenValue, withRecord, provided, thenData, telegram, append, armed, clockSet, assigned, assignOf, nameDataOf, externalSendOf, internalSendOf, cellType, isVariable, armOf, clockActOf, entered, callOf, choiceOf, dataFrom, runIn, runOf}
 use Rattle.laris.proofs.Fields.{holds-present, number-present}
 use Rattle.laris.proofs.Types.{lower-type}
 use Rattle.equations.proofs.Run.{run-none, run-visit}
-use Rattle.passed.specs.Places.{Placed, Locals, Cells}
+use Rattle.passed.specs.Places.{Placed}
 use Rattle.passed.proofs.Records.{held}
 use Rattle.sound.specs.Gives.{Gives, Ends}
 use Rattle.sound.proofs.Leaves.{is-type}
 use Rattle.sound.proofs.Eval.{type-at, eval-gives}
 use Rattle.sound.proofs.Data.{range-of}
 use Rattle.sound.proofs.Run.{is-statement, stated, parameters-of, statement-ends}
-use Rattle.ints.specs.declared.Work.{Work}
 use Rattle.ints.specs.Work.{workOf}
-use Rattle.ready.specs.Ready.{contextAt, Running, Ready, IsExpression, IsStatement, HasData}
+use Rattle.ready.specs.Ready.{contextAt, Ready, IsExpression, IsStatement, HasData}
 use Rattle.ready.proofs.Expressions.{cells}
 use Rattle.ready.specs.Words.{thenWord}
 

@@ -2,14 +2,14 @@
 use Prim.Native.Nat.{ℕ, _+_, _<_}
 use mathlib.Core.Path.{_≡_}
 use mathlib.Core.List.{List}
-use mathlib.Core.Bool.{Bool, true, false}
-use lib.ListN.{length, getD}
+use mathlib.Core.Bool.{true}
+use lib.ListN.{getD}
 use lib.IntN.{ℤ}
 use Rattle.sheet.specs.declared.Record.{Record}
 use Rattle.sheet.specs.declared.Range.{Range}
 use Rattle.sheet.specs.declared.Found.{Found}
 use Rattle.sheet.specs.declared.Found.the-variants.{Present, Absent}
-use Rattle.sheet.specs.Names.{charts, bodies, nodes, bindings, chartBodies}
+use Rattle.sheet.specs.Names.{charts, bodies, bindings, chartBodies}
 use Rattle.sheet.specs.Sheet.{recordOf}
 use Rattle.laris.specs.declared.Typed.the-variants.{Expression, Statement}
 use Rattle.laris.specs.declared.Checked.the-variants.{Passed}

@@ -1,22 +1,19 @@
 -- Laws of the directory and of the records.
-use Prim.Native.Nat.{ℕ, zero, suc, _+_, _*_, _-_, _/_, _%_, _<_, _≤_}
-use mathlib.Core.Path.{_≡_, refl, sym, ap, _∙_}
-use mathlib.Core.List.{List, [], _∷_}
+use Prim.Native.Nat.{ℕ, zero, suc, _+_, _*_, _-_, _/_, _<_, _≤_}
+use mathlib.Core.Path.{_≡_, refl, sym, _∙_}
+use mathlib.Core.List.{List}
 use mathlib.Core.Bool.{Bool, true, false}
 use native.Mathlib.Omega.{arith}
-use native.Mathlib.Numerals.{add-one}
 use mathlib.Core.Logic.{_⊎_, inl, inr}
 use native.Mathlib.Decide.{decLt}
 use lib.ListN.{length, getD, replicate, getD-replicate}
 use lib.Seq.{ext-getD}
-use lib.Dec.{ltb, leb, eqb}
-use borrow.Author.Tests.{ltb-true, ltb-false, leb-true, eqb-true, lt-ltb, le-ltb}
-use Rattle.sheet.specs.declared.Record.{Record}
-use Rattle.sheet.specs.declared.Found.{Found}
+use lib.Dec.{ltb}
+use borrow.Author.Tests.{ltb-true, leb-true, eqb-true, lt-ltb, le-ltb}
 use Rattle.sheet.specs.declared.Found.the-variants.{Present, Absent}
-use Rattle.sheet.specs.All.{_and_, allBelow}
-use Rattle.sheet.specs.Sheet.{wordAt, offsetOf, lengthOf, startOf, pairRight, directoryRight, countOf, recordAt, recordOf, sectionsFrom, directoryOf}
-use Rattle.sheet.proofs.All.{and-first, and-second, and-true, and-false, false-and, all-at, not-so}
+use Rattle.sheet.specs.All.{_and_}
+use Rattle.sheet.specs.Sheet.{offsetOf, lengthOf, startOf, pairRight, directoryRight, countOf, recordAt, recordOf, sectionsFrom, directoryOf}
+use Rattle.sheet.proofs.All.{and-first, and-second, and-false, all-at, not-so}
 
 module _ (s : List ℕ) (right : directoryRight s ≡ true) where
   pub pair-right : (k : ℕ) → k < 8 → pairRight s k ≡ true

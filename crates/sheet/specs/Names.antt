@@ -1,7 +1,7 @@
 -- Names for the paper's numbers, so that later definitions read like it: sections, the fields by meaning, types, operators.
 use Prim.Native.Nat.{ℕ, _+_, _-_}
-use mathlib.Core.Bool.{Bool, true, false}
-use lib.Dec.{leb, ltb, eqb}
+use mathlib.Core.Bool.{Bool}
+use lib.Dec.{leb}
 use Rattle.sheet.specs.All.{_and_}
 use Rattle.sheet.specs.declared.Record.{Record}
 use Rattle.sheet.specs.declared.Range.{Range}

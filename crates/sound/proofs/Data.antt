@@ -1,40 +1,35 @@
 -- Data of a send, an arming or a call are of their declared types, and what is sent fits.
-use Prim.Native.Nat.{ℕ, zero, suc, _+_, _*_, _-_, _<_, _≤_}
+use Prim.Native.Nat.{ℕ, zero, suc, _+_, _-_, _<_, _≤_}
 use mathlib.Core.Path.{_≡_, refl, sym, ap, subst, _∙_}
-use mathlib.Core.List.{List, [], _∷_}
-use mathlib.Core.Bool.{Bool, true, false, not}
+use mathlib.Core.List.{List, _∷_}
+use mathlib.Core.Bool.{true, false}
 use native.Mathlib.Omega.{arith}
 use native.Mathlib.Decide.{decLt}
-use lib.ListN.{length, getD, List·getD-eq-default}
-use lib.Dec.{ltb, leb, eqb}
-use lib.IntN.{ℤ, pos, negsuc, natAbs}
-use lib.Signed.{leZ, ltZ}
-use borrow.Author.Tests.{ltb-true, leb-true, lt-ltb, le-ltb, le-leb, eq-eqb}
+use lib.ListN.{getD, List·getD-eq-default}
+use lib.IntN.{ℤ, pos}
+use borrow.Author.Tests.{leb-true, lt-ltb, le-ltb, eq-eqb}
 use Rattle.sheet.specs.declared.Record.{Record}
 use Rattle.sheet.specs.declared.Range.{Range}
-use Rattle.sheet.specs.declared.Found.the-variants.{Present, Absent}
-use Rattle.sheet.specs.All.{_and_, allBelow}
-use Rattle.sheet.specs.Names.{names, dataOf, class, external, internal, Component-type, Port-type}
-use Rattle.sheet.specs.Sheet.{countOf, recordOf}
-use Rattle.sheet.proofs.All.{true-false, not-so, and-first, and-second, and-true, and-false, all-at}
+use Rattle.sheet.specs.declared.Found.the-variants.{Present}
+use Rattle.sheet.specs.All.{_and_}
+use Rattle.sheet.specs.Names.{names, dataOf}
+use Rattle.sheet.specs.Sheet.{recordOf}
+use Rattle.sheet.proofs.All.{and-first, and-second, and-true}
 use Rattle.laris.specs.declared.Out.{Out}
 use Rattle.laris.specs.declared.Out.the-variants as out
 use Rattle.laris.specs.declared.Checked.the-variants.{Passed}
-use Rattle.laris.specs.declared.Telegram.{Telegram}
-use Rattle.laris.specs.Fields.{fieldOf, holds, typeAt, componentsOf, externalsOf, portsOf}
+use Rattle.laris.specs.Fields.{fieldOf, typeAt}
 use Rattle.laris.specs.Types.{hasClass, hasReaction, nameRange}
 use Rattle.laris.specs.Shape.{nameShape}
-use Rattle.laris.specs.Values.{isBelow, isZero, inType, isBound, chartOf}
-use Rattle.laris.specs.Valid.{dataFit, nameFits, reactionAwaits, datumOf, internalFits, externalFits, isInternal, telegramFits}
-use Rattle.laris.specs.Eval.{Context}
-use Rattle.laris.specs.Run.{Data, given, refused, stuck, before, nextDatum, dataFrom, datum, telegram}
+use Rattle.laris.specs.Values.{isBelow, isZero, inType, chartOf}
+use Rattle.laris.specs.Valid.{dataFit, nameFits, reactionAwaits}
+use Rattle.laris.specs.Run.{Data, given, refused, stuck, before, nextDatum, dataFrom, datum}
 use Rattle.laris.specs.Check.{checkOf}
 use Rattle.laris.proofs.Fields.{holds-present}
 use Rattle.passed.specs.Places.{Element}
 use Rattle.passed.proofs.Records.{present-below, name-shape}
 use Rattle.passed.proofs.Charts.{element-chart}
-use Rattle.states.proofs.Frame.{all-true, data-same, name-same}
-use Rattle.states.proofs.Parts.{below-abs, below-pos}
+use Rattle.states.proofs.Frame.{all-true}
 use Rattle.sound.specs.Gives.{Gives, DataGive}
 
 module _ (s : List ℕ) (g : Range) where

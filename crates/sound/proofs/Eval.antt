@@ -1,40 +1,39 @@
 -- An expression that has a type gives a value of it.
-use Prim.Native.Nat.{ℕ, zero, suc, _+_, _*_, _-_, _<_, _≤_}
+use Prim.Native.Nat.{ℕ, zero, suc, _+_, _-_, _<_}
 use mathlib.Core.Path.{_≡_, refl, sym, ap, subst, _∙_}
 use mathlib.Core.List.{List}
-use mathlib.Core.Bool.{Bool, true, false, not}
+use mathlib.Core.Bool.{Bool, true, false}
 use native.Mathlib.Omega.{arith}
-use lib.Dec.{ltb, leb, eqb}
+use lib.Dec.{ltb, eqb}
 use lib.IntN.{ℤ, pos, negsuc}
-use borrow.Author.Tests.{ltb-true, leb-true, eqb-true, eqb-false, lt-ltb, eq-eqb, ne-eqb, not-true}
+use borrow.Author.Tests.{ltb-true, eqb-true, lt-ltb, eq-eqb, ne-eqb, not-true}
 use Rattle.sheet.specs.declared.Record.{Record}
 use Rattle.sheet.specs.declared.Found.{Found}
-use Rattle.sheet.specs.declared.Found.the-variants.{Present, Absent}
-use Rattle.sheet.specs.All.{_and_, allBelow}
+use Rattle.sheet.specs.declared.Found.the-variants.{Present}
+use Rattle.sheet.specs.All.{_and_}
 use Rattle.sheet.specs.Names
-use Rattle.sheet.specs.Names.{charts, nodes, chartParameters, chartVariables, boundChart, bodyParameters, bodyLocals, operator, Bool-type, Int-type, isClock, isLiteral}
+use Rattle.sheet.specs.Names.{nodes, chartParameters, chartVariables, bodyParameters, bodyLocals, operator, Bool-type, Int-type, isClock}
 use Rattle.sheet.specs.Sheet.{recordOf}
 use Rattle.sheet.proofs.All.{true-false, and-first, and-second, and-true, all-at}
 use Rattle.laris.specs.declared.Out.{Out}
-use Rattle.laris.specs.declared.Out.the-variants.{Val, Refused, Stuck}
 use Rattle.laris.specs.declared.Typed.{Typed}
-use Rattle.laris.specs.declared.Typed.the-variants.{Expression, Statement, Wrong}
+use Rattle.laris.specs.declared.Typed.the-variants.{Expression}
 use Rattle.laris.specs.declared.Checked.the-variants.{Passed}
 use Rattle.laris.specs.declared.Operands.{Operands}
-use Rattle.laris.specs.Fields.{fieldOf, holds, typeAt, componentsOf}
+use Rattle.laris.specs.Fields.{fieldOf, typeAt, componentsOf}
 use Rattle.laris.specs.Forms.{Form, literal, read, unary, binary, clock, skip, assign, externalSend, internalSend, arm, clockAct, call, choice, loop, sequence, unknown, formOf, operandsIn, operandsOf, operandAt, operandCount}
-use Rattle.laris.specs.Shape.{literalShape, variablesAt, fieldsShape, treeShape, constantOf, constantShape, constantsShape, bindingShape}
-use Rattle.laris.specs.Types.{literalType, variableAt, readType, clockType, notType, binaryType, lowerType, typeIn, typeStep, typeOf, assignType, externalType, internalType, armType, clockActType, callType, choiceType, loopType, sequenceType}
+use Rattle.laris.specs.Shape.{variablesAt, fieldsShape, treeShape, constantShape, constantsShape, bindingShape}
+use Rattle.laris.specs.Types.{literalType, variableAt, readType, clockType, lowerType, typeIn, typeStep, typeOf, assignType, externalType, internalType, armType, clockActType, callType, choiceType, loopType, sequenceType}
 use Rattle.laris.specs.Static.{constantStatic, constantsStatic, bindingStatic}
 use Rattle.laris.specs.Values.{fits32, isBelow, isZero, inType, isBound, firstCell}
 use Rattle.laris.specs.State.{cellAt, wordOf}
 use Rattle.laris.specs.Valid.{zeroWords, runningClock, clockCell, cellFits}
-use Rattle.laris.specs.Eval.{andThen, needs, onRecord, val, notVal, binaryVal, literalValue, within, ofType, Context, parameterVal, variableAtCell, readAs, readVal, clockVal, lowerEval, evalIn, evalOf}
+use Rattle.laris.specs.Eval.{onRecord, val, notVal, literalValue, within, ofType, Context, parameterVal, variableAtCell, readAs, readVal, clockVal, lowerEval, evalIn, evalOf}
 use Rattle.laris.specs.Check.{checkOf}
 use Rattle.laris.proofs.Fields.{holds-present}
 use Rattle.laris.proofs.Types.{type-step, lower-type}
 use Rattle.equations.proofs.Eval.{lower-eval, eval-none, eval-visit}
-use Rattle.passed.specs.Places.{InChart, Element, Placed, Locals, Cells}
+use Rattle.passed.specs.Places.{Placed, Locals, Cells}
 use Rattle.passed.proofs.Records.{held, binding-shape, binding-static}
 use Rattle.sound.specs.Gives.{Gives}
 use Rattle.sound.proofs.Leaves.{no-statement, not-wrong, one-type, asked, then, met, value-within, int-in, not-gives, binary-gives, literal-fine}

@@ -1,33 +1,29 @@
 -- Literals, variables and operators give values of their types.
-use Prim.Native.Nat.{ℕ, zero, suc, _+_, _*_, _-_, _<_, _≤_}
+use Prim.Native.Nat.{ℕ, suc, _+_, _*_, _-_, _<_, _≤_}
 use mathlib.Core.Path.{_≡_, refl, sym, ap, subst, _∙_}
 use mathlib.Core.List.{List}
-use mathlib.Core.Bool.{Bool, true, false, not}
+use mathlib.Core.Bool.{Bool, true, false}
 use native.Mathlib.Omega.{arith}
-use native.Mathlib.Decide.{decLt}
 use lib.Dec.{ltb, leb, eqb}
-use lib.IntN.{ℤ, pos, negsuc, _+ℤ_, _-ℤ_, _*ℤ_}
+use lib.IntN.{ℤ, pos, _+ℤ_, _-ℤ_, _*ℤ_}
 use lib.Signed.{mag, ltZ}
 use mir.Syntax.{w32}
 use mir.Val.{toZ}
-use borrow.Author.Tests.{ltb-true, ltb-false, leb-true, eqb-true, eqb-false, lt-ltb, le-ltb, le-leb, ne-eqb, eq-eqb}
+use borrow.Author.Tests.{ltb-true, ltb-false, leb-true, eqb-true, lt-ltb, le-leb, ne-eqb, eq-eqb}
 use Rattle.sheet.specs.declared.Record.{Record}
-use Rattle.sheet.specs.declared.Found.{Found}
-use Rattle.sheet.specs.declared.Found.the-variants.{Present, Absent}
 use Rattle.sheet.specs.All.{_and_}
-use Rattle.sheet.specs.Names.{enumeratedTypes, nodes, operator, size, Bool-type, Int-type, Component-type, Port-type, enumerated, isLiteral}
-use Rattle.sheet.specs.Sheet.{recordOf}
+use Rattle.sheet.specs.Names.{Bool-type, Int-type, Component-type, Port-type, enumerated}
 use Rattle.sheet.proofs.All.{true-false, and-first, and-second, and-true}
 use Rattle.laris.specs.declared.Value.{Value}
 use Rattle.laris.specs.declared.Out.{Out}
 use Rattle.laris.specs.declared.Out.the-variants.{Val, Refused, Stuck}
 use Rattle.laris.specs.declared.Typed.{Typed}
 use Rattle.laris.specs.declared.Typed.the-variants.{Expression, Statement, Wrong}
-use Rattle.laris.specs.Fields.{zeroFrom, numberOr0, componentsOf, portsOf}
+use Rattle.laris.specs.Fields.{zeroFrom, componentsOf, portsOf}
 use Rattle.laris.specs.Shape.{literalShape}
-use Rattle.laris.specs.Types.{given, isOf, isStatement, sameType, literalType, binaryType, notType}
+use Rattle.laris.specs.Types.{given, isOf, sameType, literalType, binaryType, notType}
 use Rattle.laris.specs.Values.{fits32, isBelow, isZero, membersOf, inType}
-use Rattle.laris.specs.Eval.{andThen, needs, onRecord, val, boolWord, intOut, dividing, isOne, sameWord, notVal, intVal, binaryVal, literalValue, within, quotient, remainder}
+use Rattle.laris.specs.Eval.{andThen, needs, val, boolWord, intOut, dividing, isOne, sameWord, notVal, intVal, binaryVal, literalValue, within, quotient, remainder}
 use Rattle.sound.specs.Gives.{Gives}
 
 -- ---- tests that the type asks

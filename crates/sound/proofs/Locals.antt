@@ -1,31 +1,27 @@
 -- The variables of a body: "Each run of a body has fresh default locals".
 use Prim.Native.Nat.{ℕ, zero, suc, _+_, _-_, _<_, _≤_}
-use mathlib.Core.Path.{_≡_, refl, sym, ap, _∙_}
-use mathlib.Core.List.{List, []}
-use mathlib.Core.Bool.{Bool, true, false}
+use mathlib.Core.Path.{_≡_, refl, ap, _∙_}
+use mathlib.Core.List.{List}
+use mathlib.Core.Bool.{true, false}
 use native.Mathlib.Omega.{arith}
 use native.Mathlib.Decide.{decLt, ℕ-discrete}
 use lib.ListN.{length, set, length-set}
-use lib.Dec.{ltb, eqb}
-use lib.IntN.{ℤ, pos}
+use lib.IntN.{ℤ}
 use borrow.Author.Tests.{leb-true, lt-ltb, le-ltb, not-true}
-use Rattle.sheet.specs.declared.Record.{Record}
-use Rattle.sheet.specs.declared.Found.the-variants.{Present}
-use Rattle.sheet.specs.All.{_and_, allBelow}
-use Rattle.sheet.specs.Names.{charts, bodies, chartBodies, bodyParameters, bodyLocals, bodyVariable, boundChart, isClock}
-use Rattle.sheet.specs.Sheet.{recordOf}
+use Rattle.sheet.specs.All.{_and_}
+use Rattle.sheet.specs.Names.{bodyParameters, bodyLocals, bodyVariable, isClock}
 use Rattle.sheet.proofs.All.{and-first, and-second, all-at}
 use Rattle.laris.specs.declared.Checked.the-variants.{Passed}
 use Rattle.laris.specs.Fields.{typeAt}
 use Rattle.laris.specs.Shape.{bodyShape}
 use Rattle.laris.specs.Types.{variableAt}
 use Rattle.laris.specs.Static.{noClocks, bodyStatic}
-use Rattle.laris.specs.Values.{inType, defaultOf}
+use Rattle.laris.specs.Values.{inType}
 use Rattle.laris.specs.State.{wordOf}
 use Rattle.laris.specs.Eval.{Context}
 use Rattle.laris.specs.Run.{datum, localAt, listFrom, localsOf}
 use Rattle.laris.specs.Check.{checkOf}
-use Rattle.passed.specs.Places.{InChart, Element, Placed, Locals}
+use Rattle.passed.specs.Places.{Placed, Locals}
 use Rattle.passed.proofs.Records.{declared-exists, body-shape}
 use Rattle.passed.proofs.Charts.{body-static}
 use Rattle.states.proofs.Passed.{default-in}

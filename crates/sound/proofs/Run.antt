@@ -1,52 +1,51 @@
 -- A statement on a passed sheet is not stuck, and leaves a state of the sheet.
-use Prim.Native.Nat.{ℕ, zero, suc, _+_, _*_, _-_, _<_, _≤_}
+use Prim.Native.Nat.{ℕ, zero, suc, _+_, _-_, _<_, _≤_}
 use mathlib.Core.Path.{_≡_, refl, sym, ap, subst, _∙_}
-use mathlib.Core.List.{List, []}
+use mathlib.Core.List.{List}
 use mathlib.Core.Bool.{Bool, true, false, not}
 use native.Mathlib.Omega.{arith}
-use lib.ListN.{set}
 use lib.Dec.{ltb, leb, eqb}
-use lib.IntN.{ℤ, pos, negsuc}
+use lib.IntN.{ℤ, pos}
 use lib.Signed.{leZ}
-use borrow.Author.Tests.{ltb-true, eqb-true, eqb-false, lt-ltb, le-ltb, eq-eqb, ne-eqb, lt-leb, not-true, not-false}
+use borrow.Author.Tests.{ltb-true, eqb-true, le-ltb, lt-leb}
 use Rattle.sheet.specs.declared.Record.{Record}
 use Rattle.sheet.specs.declared.Range.{Range}
 use Rattle.sheet.specs.declared.Found.{Found}
 use Rattle.sheet.specs.declared.Found.the-variants.{Present, Absent}
-use Rattle.sheet.specs.All.{_and_, allBelow}
+use Rattle.sheet.specs.All.{_and_}
 use Rattle.sheet.specs.Names
-use Rattle.sheet.specs.Names.{names, charts, bodies, nodes, dataOf, external, internal, chartVariables, chartBodies, role, procedure, root, boundChart, bodyParameters, bodyLocals, bodyVariable, operator, Bool-type, Int-type, Component-type, Port-type, Timer-type, Timeout-type, isClock}
+use Rattle.sheet.specs.Names.{names, bodies, dataOf, external, internal, chartVariables, chartBodies, root, bodyParameters, operator, Bool-type, Int-type, Component-type, Port-type, Timer-type, isClock}
 use Rattle.sheet.specs.Sheet.{recordOf}
-use Rattle.sheet.proofs.All.{true-false, not-so, and-first, and-second, and-true, and-false, all-at}
+use Rattle.sheet.proofs.All.{true-false, and-first, and-second, and-true, and-false, all-at}
 use Rattle.laris.specs.declared.Typed.{Typed}
 use Rattle.laris.specs.declared.Typed.the-variants.{Expression, Statement, Wrong}
 use Rattle.laris.specs.declared.Checked.the-variants.{Passed}
 use Rattle.laris.specs.declared.Operands.{Operands}
 use Rattle.laris.specs.declared.Ran.{Ran}
 use Rattle.laris.specs.declared.Ran.the-variants.{Done, Refused, Stuck}
-use Rattle.laris.specs.Fields.{fieldOf, holds, numberOr0, typeAt}
+use Rattle.laris.specs.Fields.{fieldOf, typeAt}
 use Rattle.laris.specs.Forms.{Form, literal, read, unary, binary, clock, skip, assign, externalSend, internalSend, arm, clockAct, call, choice, loop, sequence, unknown, formOf, nameData, calledBody, callData, operands, operandsIn, operandsOf, operandAt, operandCount}
 use Rattle.laris.specs.Shape.{variablesAt, sendShape, fieldsShape, treeShape}
-use Rattle.laris.specs.Types.{given, isOf, isStatement, sameType, variableAt, hasClass, hasReaction, internalName, nameRange, parametersOf, clockOf, dataMatch, lowerType, readType, clockType, notType, binaryType, assignType, externalType, internalType, armType, clockActType, callType, choiceType, loopType, sequenceType, typeIn, typeStep, typeOf}
+use Rattle.laris.specs.Types.{given, isOf, isStatement, sameType, variableAt, internalName, nameRange, parametersOf, clockOf, dataMatch, lowerType, readType, clockType, notType, binaryType, assignType, externalType, internalType, armType, clockActType, callType, choiceType, loopType, sequenceType, typeIn, typeOf}
 use Rattle.laris.specs.Static.{bodyStatic}
-use Rattle.laris.specs.Values.{fits32, isZero, inType, chartOf, firstCell}
+use Rattle.laris.specs.Values.{isZero, inType, chartOf, firstCell}
 use Rattle.laris.specs.State.{cellAt}
 use Rattle.laris.specs.Valid.{nameFits, reactionAwaits, OfSheet}
 use Rattle.laris.specs.Eval.{Context, variableAtCell, evalOf}
-use Rattle.laris.specs.Run.{World, world, goOn, thenRun, thenValue, withRecord, provided, given as had, dataFrom, thenData, datum, telegram, localsOf, append, armed, clockSet, inBody, assigned, assignOf, nameDataOf, externalSendOf, internalSendOf, cellType, isVariable, armOf, clockActOf, entered, callOf, choiceOf, runIn, runOf, openCalls}
+use Rattle.laris.specs.Run.{World, given as had, dataFrom, thenData, datum, localsOf, armed, clockSet, inBody, assigned, assignOf, nameDataOf, externalSendOf, internalSendOf, cellType, armOf, clockActOf, entered, callOf, choiceOf, runIn, runOf, openCalls}
 use Rattle.laris.specs.Check.{checkOf}
-use Rattle.laris.proofs.Fields.{holds-present, number-present}
+use Rattle.laris.proofs.Fields.{number-present}
 use Rattle.laris.proofs.Types.{lower-type}
-use Rattle.equations.proofs.Left.{Within, eval-left, data-left, run-left}
+use Rattle.equations.proofs.Left.{eval-left, data-left, run-left}
 use Rattle.equations.proofs.Run.{run-none, run-visit}
-use Rattle.passed.specs.Places.{InChart, Element, Placed, Locals, Cells}
+use Rattle.passed.specs.Places.{InChart, Placed, Locals, Cells}
 use Rattle.passed.proofs.Records.{held}
 use Rattle.passed.proofs.Charts.{element-chart, body-static, body-tree}
 use Rattle.states.proofs.Parts.{cell-of}
 use Rattle.states.proofs.Kept.{data-set}
 use Rattle.states.proofs.Telegrams.{own-telegram, sent-telegram}
 use Rattle.states.proofs.Acts.{armed-kept, stopped-kept, started-kept}
-use Rattle.sound.specs.Gives.{Gives, DataGive, Ends, Refusal}
+use Rattle.sound.specs.Gives.{Gives, DataGive, Ends}
 use Rattle.sound.proofs.Leaves.{is-type}
 use Rattle.sound.proofs.Eval.{no-place, type-at, eval-gives}
 use Rattle.sound.proofs.Data.{data-gives, range-of, name-fits, awaited}

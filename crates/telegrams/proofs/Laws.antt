@@ -16,7 +16,7 @@ use Rattle.sheet.specs.All.{_and_}
 use Rattle.sheet.proofs.All.{true-false, and-true, and-first, false-and, and-false}
 use Rattle.laris.specs.declared.Telegram.{Telegram}
 use Rattle.laris.specs.Values.{isBelow}
-use Rattle.laris.specs.State.{places, placeAt, stateLength, wordOf, waiting, setWaiting, telegramOf, wordsOf, putWords, withTelegram}
+use Rattle.laris.specs.State.{placeAt, stateLength, wordOf, waiting, setWaiting, telegramOf, wordsOf, putWords, withTelegram}
 use Rattle.laris.specs.Valid.{headFits, OfSheet}
 use Rattle.laris.specs.Play.{oldestFrom, oldest}
 use Rattle.states.proofs.Parts.{below-abs, below-pos}

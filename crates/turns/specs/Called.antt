@@ -1,8 +1,8 @@
 -- A body that an event or start runs.
-use Prim.Native.Nat.{ℕ, _+_, _<_, _≤_}
+use Prim.Native.Nat.{ℕ, _+_, _<_}
 use mathlib.Core.Path.{_≡_}
 use mathlib.Core.List.{List}
-use mathlib.Core.Bool.{Bool, true, false}
+use mathlib.Core.Bool.{true}
 use lib.IntN.{ℤ}
 use Rattle.sheet.specs.declared.Record.{Record}
 use Rattle.sheet.specs.Names.{chartBodies, bodyParameters}

@@ -1,17 +1,16 @@
 use native.Mathlib.Omega.{arith}
-use mathlib.Core.Path.{_≡_, refl, sym, ap, _∙_}
-use mathlib.Core.Bool.{Bool, true, false, not}
+use mathlib.Core.Path.{_≡_, sym, _∙_}
+use mathlib.Core.Bool.{true}
 use mathlib.Core.List.{List}
-use Prim.Native.Nat.{ℕ, _+_, _-_, _*_, _≤_, _<_}
-use borrow.Author.Tests.{lt-ltb, le-ltb, le-leb, lt-leb, eq-eqb, ne-eqb, not-true, not-false}
+use Prim.Native.Nat.{ℕ, _+_, _-_}
+use borrow.Author.Tests.{le-leb, lt-leb, eq-eqb, ne-eqb, not-true, not-false}
 use borrow.Author.Needs.{needs}
-use Rattle.sheet.specs.All.{_and_, allBelow}
-use Rattle.sheet.proofs.All.{first-fails, rest-fails, first-holds, all-more, all-fails}
+use Rattle.sheet.proofs.All.{first-fails, rest-fails, first-holds}
 use Rattle.sheet.specs.Sheet.{countOf, directoryRight}
 use Rattle.sheet.proofs.Sheet.{count-some, count-limit}
 use Rattle.laris.specs.Fields.{fieldOf, fieldAt, componentsOf, externalsOf}
 use Rattle.laris.specs.Shape.{elementsBound}
-use Rattle.laris.specs.Check.{shape, checkOf, nodesShape, sectionsShape}
+use Rattle.laris.specs.Check.{shape}
 use Rattle.checker.proofs.shape_holds.Statement.{statement}
 use Rattle.checker.proofs.shape_holds.Tie as tie
 

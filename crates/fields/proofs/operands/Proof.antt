@@ -7,7 +7,7 @@ use borrow.Author.Needs.{needs}
 use Rattle.sheet.specs.declared.Record.{Record}
 use Rattle.laris.specs.declared.Operands.{Operands}
 use Rattle.laris.specs.Fields.{fieldOf, fieldAt}
-use Rattle.laris.specs.Forms.{Form, unary, binary, read, skip, assign, externalSend, internalSend, arm, call, choice, loop, sequence, formIn, formOf, nameData, callData, operands, operandsIn, operandsOf}
+use Rattle.laris.specs.Forms.{Form, binary, externalSend, internalSend, arm, formIn, formOf, nameData, operands, operandsIn, operandsOf}
 use Rattle.laris.proofs.Forms.{form-literal, form-binary, form-clock, form-arm, form-clockAct, form-unknown}
 use Rattle.fields.proofs.operands.Statement.{statement}
 use Rattle.fields.proofs.operands.Tie as tie

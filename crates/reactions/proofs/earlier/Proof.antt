@@ -1,6 +1,5 @@
 use native.Mathlib.Omega.{arith}
-use mathlib.Core.Path.{_≡_, refl, sym, ap, _∙_}
-use borrow.Author.Needs.{needs}
+use mathlib.Core.Path.{sym}
 use Rattle.reactions.proofs.Entries.{up-past, up-in}
 use Rattle.reactions.proofs.earlier.Statement.{statement}
 use Rattle.reactions.proofs.earlier.Tie as tie

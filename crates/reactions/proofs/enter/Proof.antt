@@ -1,5 +1,5 @@
 use native.Mathlib.Omega.{arith}
-use mathlib.Core.Path.{_≡_, refl, sym, ap, _∙_}
+use mathlib.Core.Path.{sym, _∙_}
 use borrow.Author.Needs.{needs}
 use Rattle.reactions.proofs.Entries.{body-small, enter-absent, enter-other, enter-past, enter-it}
 use Rattle.reactions.proofs.enter.Statement.{statement}

@@ -1,6 +1,5 @@
 use mathlib.Core.Path.{sym}
 use borrow.Author.Tests.{le-leb, lt-leb}
-use borrow.Author.Needs.{needs}
 use Rattle.sheet.proofs.All.{true-and, false-and}
 use Rattle.laris.specs.Shape.{isReaction}
 use Rattle.reactions.proofs.is_reaction.Statement.{statement}

@@ -1,8 +1,8 @@
 use native.Mathlib.Omega.{arith}
-use mathlib.Core.Path.{_≡_, refl, sym, ap, _∙_}
-use Prim.Native.Nat.{_+_, _-_, _≤_}
+use mathlib.Core.Path.{sym, ap, _∙_}
+use Prim.Native.Nat.{_+_, _-_}
 use borrow.Author.Tests.{not-true, not-false}
-use mathlib.Core.Bool.{true, not}
+use mathlib.Core.Bool.{not}
 use borrow.Author.Needs.{needs}
 use Rattle.laris.proofs.Fields.{holds-present, holds-absent}
 use Rattle.reactions.proofs.Entries.{no-twins, a-twin, twin-less, Walked, walk-start, walk-more}

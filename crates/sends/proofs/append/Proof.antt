@@ -1,5 +1,3 @@
-use mathlib.Core.Path.{_∙_, ap}
-use native.Mathlib.Omega.{arith}
 use borrow.Author.Needs.{needs}
 use Rattle.sends.proofs.Sends.{append-done, append-refused}
 use Rattle.sends.proofs.append.Statement.{statement}

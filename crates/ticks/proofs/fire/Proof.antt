@@ -6,9 +6,7 @@ use lib.ListN.{getD}
 use lib.IntN.{ℤ, pos, negsuc}
 use borrow.Author.Needs.{needs}
 use Rattle.laris.specs.State.{wordOf, appended}
-use Rattle.laris.specs.State.{on}
 use Rattle.store.proofs.Laws.{given}
-use Rattle.telegrams.specs.Changed.{changedTo}
 use Rattle.ticks.proofs.Laws.{laid, number-back}
 use Rattle.ticks.proofs.fire.Statement.{statement}
 use Rattle.ticks.proofs.fire.Tie as tie
