@@ -33,7 +33,7 @@ use Rattle.ints.proofs.Range.{back}
 use Rattle.ready.specs.Ready.{contextAt, Running, Ready}
 use Rattle.ready.specs.Words.{fourWords}
 use Rattle.ready.proofs.Statements.{assign-inside, act-inside, arm-inside, started-word, stopped-word}
-use Rattle.sends.specs.Visit.{Visit}
+use Rattle.sending.specs.Visit.{Visit}
 use Rattle.acts.specs.Armed.{armedValue}
 
 -- ---- a value to a variable

@@ -10,7 +10,7 @@ use Rattle.sheet.specs.Names.{dataOf, operator, Timeout-type}
 use Rattle.laris.specs.Types.{clockOf}
 use Rattle.laris.specs.State.{cellAt}
 use Rattle.laris.specs.Run.{World, thenData, armed}
-use Rattle.sends.specs.Sent.{dataAt}
+use Rattle.sending.specs.Sent.{dataAt}
 
 -- "Arming a Timeout sets its value to the period, a Cycler's to 0", as the machine says it
 abbrev pub armedValue : ℕ → ℤ → ℤ

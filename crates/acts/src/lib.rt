@@ -17,7 +17,7 @@ ghost use Rattle.laris.specs.Values.{firstCell};
 ghost use Rattle.laris.specs.Eval.{Context};
 ghost use Rattle.laris.specs.Run.{world, assigned, runOf};
 ghost use Rattle.ready.specs.Ready.{contextAt};
-ghost use Rattle.sends.specs.Visit.{Visit};
+ghost use Rattle.sending.specs.Visit.{Visit};
 ghost use Rattle.acts.specs.Armed.{armedValue, armedWith};
 
 // A value to a variable: place 1 of the chart, 2 of the body.
@@ -95,7 +95,7 @@ fn arm_with(
         first: a.f0 as usize,
         count: a.f1 as usize,
     };
-    let o = sends::gather(sheet, directory, context, st, lo, r, g, &mut d, left);
+    let o = sending::gather(sheet, directory, context, st, lo, r, g, &mut d, left);
     match o {
         Ran::Done { left } => {
             if period < 1 {

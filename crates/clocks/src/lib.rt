@@ -11,7 +11,7 @@ ghost use Rattle.laris.specs.Check.{checkOf};
 ghost use Rattle.laris.specs.State.{cellAt};
 ghost use Rattle.laris.specs.Valid.{OfSheet};
 ghost use Rattle.laris.specs.Play.{ticks, slicedCell, slicedCells, slicedFrom};
-ghost use Rattle.telegrams.specs.Changed.{changedTo};
+ghost use Rattle.queue.specs.Changed.{changedTo};
 ghost use Rattle.clocks.specs.Cells.{Cell, Cells};
 
 // "stopped ones passed over": a word that is 0 needs no look at its type.

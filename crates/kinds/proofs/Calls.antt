@@ -23,7 +23,7 @@ use Rattle.laris.specs.Eval.{sameWord}
 use Rattle.laris.specs.Play.{Outcome, ended, answer, outside, deliver, corrupt, inner, slice, slicedFrom, restZero, boundWord, wellFormed, isEvent, telegramOfEvent, happens, changeEnd}
 use Rattle.promise.proofs.Events.{same-word, bound-word}
 use Rattle.turns.proofs.Laws.{happens-outside, happens-deliver, happens-corrupt, happens-inner, happens-slice}
-use Rattle.telegrams.specs.Changed.{changedTo}
+use Rattle.queue.specs.Changed.{changedTo}
 
 -- an answer without a telegram
 pub down : (a : Answer) (n k : ℕ) (st : List ℤ) (w : Outcome) → a ≡ answer n k Nothing → w ≡ ended (answer n k Nothing) st → ended a st ≡ w

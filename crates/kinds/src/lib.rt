@@ -30,7 +30,7 @@ fn sent_outside(sheet: &[u8], directory: &[usize; 16], st: &mut [i32], ev: &[i32
     requires { ⌜ Playing (now sheet) (now directory) (now st) × (length (now ev) ≡ 9) ⌝ }
     ensures { λ a. ⌜ ended a (now (st .exit)) ≡ outside (now (sheet .entry)) (now (st .entry)) (telegramOfEvent (now (ev .entry))) ⌝ }
 {
-    let number = telegrams::append(st, store::telegram_in(ev, 1));
+    let number = queue::append(st, store::telegram_in(ev, 1));
     answered(number, 0)
 }
 
@@ -89,12 +89,12 @@ fn delivers(
     requires { ⌜ Playing (now sheet) (now directory) (now st) × (now old ≡ now st) ⌝ }
     ensures { λ x. ⌜ ended x (now (st .exit)) ≡ deliver (now (sheet .entry)) (now (old .entry)) a r ⌝ }
 {
-    let j = telegrams::oldest_external(st, a, r);
-    if telegrams::waiting_count(st) <= j {
+    let j = queue::oldest_external(st, a, r);
+    if queue::waiting_count(st) <= j {
         return answered(5, 0);
     }
-    let t = telegrams::telegram_at(st, j);
-    telegrams::remove(st, j);
+    let t = queue::telegram_at(st, j);
+    queue::remove(st, j);
     if tests::is_below(t.receiver, values::externals(sheet, directory)) {
         return Answer {
             number: 0,
@@ -117,11 +117,11 @@ fn corrupts(
     requires { ⌜ Playing (now sheet) (now directory) (now st) × (now old ≡ now st) × (isBound (now sheet) (natAbs r) ≡ true) × (leZ (pos 0) r ≡ true) ⌝ }
     ensures { λ x. ⌜ ended x (now (st .exit)) ≡ corrupt (now (sheet .entry)) (now (old .entry)) a r ⌝ }
 {
-    let j = telegrams::oldest_external(st, a, r);
-    if telegrams::waiting_count(st) <= j {
+    let j = queue::oldest_external(st, a, r);
+    if queue::waiting_count(st) <= j {
         return answered(5, 0);
     }
-    telegrams::remove(st, j);
+    queue::remove(st, j);
     panicked(sheet, directory, old, st, tests::number(r))
 }
 
@@ -130,12 +130,12 @@ fn inners(sheet: &[u8], directory: &[usize; 16], old: &[i32], st: &mut [i32], r:
     requires { ⌜ Playing (now sheet) (now directory) (now st) × (now old ≡ now st) ⌝ }
     ensures { λ x. ⌜ ended x (now (st .exit)) ≡ inner (now (sheet .entry)) (now (old .entry)) r ⌝ }
 {
-    let j = telegrams::oldest_internal(st, r);
-    if telegrams::waiting_count(st) <= j {
+    let j = queue::oldest_internal(st, r);
+    if queue::waiting_count(st) <= j {
         return answered(5, 0);
     }
-    let t = telegrams::telegram_at(st, j);
-    telegrams::remove(st, j);
+    let t = queue::telegram_at(st, j);
+    queue::remove(st, j);
     let e = tests::number(t.receiver);
     let Found::Present(c) = values::chart_of(sheet, directory, e) else {
         return answered(0, 0);

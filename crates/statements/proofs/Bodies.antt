@@ -38,9 +38,9 @@ use Rattle.sound.proofs.Run.{called-in, is-statement}
 use Rattle.ready.specs.Ready.{recordOr0, contextAt, Running, Ready, IsStatement, HasData}
 use Rattle.ready.specs.Words.{ranData, fourWords}
 use Rattle.ready.proofs.Statements.{called-there, call-data, call-word}
-use Rattle.sends.specs.Visit.{Visit}
-use Rattle.sends.specs.Sent.{dataAt}
-use Rattle.sends.proofs.Sends.{on-given, data-ends-refused, data-ends-stuck}
+use Rattle.sending.specs.Visit.{Visit}
+use Rattle.sending.specs.Sent.{dataAt}
+use Rattle.sending.proofs.Sends.{on-given, data-ends-refused, data-ends-stuck}
 use Rattle.statements.specs.Callable.{Callable}
 
 -- ---- parameters in four words

@@ -28,9 +28,9 @@ use Rattle.ints.specs.Work.{workOf}
 use Rattle.ready.specs.Ready.{contextAt, Ready, IsStatement}
 use Rattle.ready.specs.Words.{thenWord}
 use Rattle.ready.proofs.Statements.{no-steps, absent, ready-after, skipped, choice-word, loop-word, loop-body, sequence-runs}
-use Rattle.sends.specs.Visit.{Visit}
-use Rattle.sends.specs.Sent.{wordAt}
-use Rattle.sends.proofs.Sends.{on-word, on-refused, on-stuck}
+use Rattle.sending.specs.Visit.{Visit}
+use Rattle.sending.specs.Sent.{wordAt}
+use Rattle.sending.proofs.Sends.{on-word, on-refused, on-stuck}
 
 -- ---- fewer steps are left
 

@@ -13,7 +13,7 @@ ghost use Rattle.sheet.specs.Sheet.{directoryOf};
 ghost use Rattle.laris.specs.Forms.{call, loop};
 ghost use Rattle.laris.specs.Run.{world, entered, runOf};
 ghost use Rattle.ready.specs.Ready.{contextAt, Ready, IsStatement};
-ghost use Rattle.sends.specs.Visit.{Visit};
+ghost use Rattle.sending.specs.Visit.{Visit};
 ghost use Rattle.statements.specs.Callable.{Callable};
 
 // "a 17th open call": 9. The called body has variables of its own.
@@ -79,7 +79,7 @@ fn call(
         first: b.f3 as usize,
         count: b.f4 as usize,
     };
-    let o = sends::gather(sheet, directory, context, st, lo, r, g, &mut d, left);
+    let o = sending::gather(sheet, directory, context, st, lo, r, g, &mut d, left);
     match o {
         Ran::Done { left } => enter(sheet, directory, context, st, depth, number, b, &d, left),
         Ran::Refused { number, left } => Ran::Refused { number, left },
@@ -167,8 +167,8 @@ pub fn run(
     match op {
         32 => Ran::Done { left: rest },
         33 => acts::assign(sheet, directory, context, st, lo, n, r, rest),
-        34 => sends::external_send(sheet, directory, context, st, lo, n, r, rest),
-        35 => sends::internal_send(sheet, directory, context, st, lo, n, r, rest),
+        34 => sending::external_send(sheet, directory, context, st, lo, n, r, rest),
+        35 => sending::internal_send(sheet, directory, context, st, lo, n, r, rest),
         36..=37 => acts::arming(sheet, directory, context, st, lo, n, r, rest),
         38..=39 => acts::clock(context, st, r, rest),
         40 => call(sheet, directory, context, st, lo, depth, n, r, rest),

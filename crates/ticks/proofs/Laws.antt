@@ -19,9 +19,9 @@ use Rattle.laris.specs.Eval.{sameWord}
 use Rattle.laris.specs.Play.{thenSlice, clockTelegram, fires, ticks}
 use Rattle.states.proofs.Words.{with-length, with-before}
 use Rattle.states.proofs.Clocks.{timer-int}
-use Rattle.telegrams.specs.Laid.{Laid}
+use Rattle.queue.specs.Laid.{Laid}
 use Rattle.store.proofs.Laws.{given}
-use Rattle.telegrams.specs.Changed.{changedTo}
+use Rattle.queue.specs.Changed.{changedTo}
 use Rattle.ticks.specs.Running.{Running}
 
 -- ---- words

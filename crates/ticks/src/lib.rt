@@ -6,7 +6,7 @@ ghost use Prim.Native.Nat.{ℕ, _+_, _<_};
 ghost use lib.ListN.{length};
 ghost use Rattle.laris.specs.State.{stateLength, appended};
 ghost use Rattle.laris.specs.Play.{clockTelegram, ticks};
-ghost use Rattle.telegrams.specs.Changed.{changedTo};
+ghost use Rattle.queue.specs.Changed.{changedTo};
 ghost use Rattle.ticks.specs.Running.{Running};
 
 // "plus 1, or 6 at 2,147,483,647"
@@ -37,7 +37,7 @@ fn fire(st: &mut [i32], e: usize, at: usize) -> u8
         d2: st[at + 6],
         d3: st[at + 7],
     };
-    telegrams::append(st, telegram)
+    queue::append(st, telegram)
 }
 
 // "at 1 its telegram is appended and it stops, otherwise minus 1"

@@ -11,7 +11,7 @@ use Rattle.ints.proofs.Range.{back}
 use Rattle.laris.specs.State.{cellAt}
 use Rattle.laris.specs.Types.{clockOf}
 use Rattle.ready.proofs.Statements.{arm-data}
-use Rattle.sends.proofs.Sends.{four-data, data-given, on-given, data-ends-refused, data-ends-stuck}
+use Rattle.sending.proofs.Sends.{four-data, data-given, on-given, data-ends-refused, data-ends-stuck}
 use Rattle.acts.proofs.Acts.{state-short, armed-not, armed-so, value-back, arm-cell}
 use Rattle.acts.proofs.arm_with.Statement.{statement}
 use Rattle.acts.proofs.arm_with.Tie as tie

@@ -3,7 +3,7 @@ use borrow.Author.Needs.{needs}
 use Rattle.store.proofs.Laws.{given}
 use Rattle.ready.specs.Ready.{contextAt}
 use Rattle.ready.proofs.Statements.{period-operand, arm-name, arm-word}
-use Rattle.sends.proofs.Sends.{on-word, on-refused, on-stuck, no-record}
+use Rattle.sending.proofs.Sends.{on-word, on-refused, on-stuck, no-record}
 use Rattle.acts.proofs.arming.Statement.{statement}
 use Rattle.acts.proofs.arming.Tie as tie
 

@@ -3,7 +3,7 @@ use borrow.Author.Needs.{needs}
 use Rattle.store.proofs.Laws.{given}
 use Rattle.ready.specs.Ready.{contextAt}
 use Rattle.ready.proofs.Statements.{assign-operand, assign-word}
-use Rattle.sends.proofs.Sends.{on-word, on-refused, on-stuck}
+use Rattle.sending.proofs.Sends.{on-word, on-refused, on-stuck}
 use Rattle.acts.proofs.Acts.{assign-cell, assign-local}
 use Rattle.acts.proofs.assign.Statement.{statement}
 use Rattle.acts.proofs.assign.Tie as tie

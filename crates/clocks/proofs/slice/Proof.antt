@@ -9,7 +9,7 @@ use Rattle.laris.specs.State.{cellAt}
 use Rattle.laris.specs.Play.{slicedFrom}
 use Rattle.passed.proofs.Records.{variables-limit, components-limit, elements-bound}
 use Rattle.defaults.proofs.State.{bound-there, bound-chart, bound-inside, bound-next}
-use Rattle.telegrams.specs.Changed.{changedTo}
+use Rattle.queue.specs.Changed.{changedTo}
 use Rattle.ticks.proofs.Laws.{then-refused, then-done, goes-on}
 use Rattle.clocks.proofs.Onward.{After, after-first, from-first, from-here, from-none, element-now, element-next}
 use Rattle.clocks.proofs.slice.Statement.{statement}

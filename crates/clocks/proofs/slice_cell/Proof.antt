@@ -6,7 +6,7 @@ use lib.IntN.{pos}
 use borrow.Author.Needs.{needs}
 use Rattle.laris.specs.State.{cellAt, placeAt, stateLength, wordOf}
 use Rattle.laris.specs.Play.{ticks}
-use Rattle.telegrams.specs.Changed.{changedTo}
+use Rattle.queue.specs.Changed.{changedTo}
 use Rattle.ticks.proofs.Laws.{bits-zero, bits-some}
 use Rattle.clocks.proofs.Cells.{cell-stopped, cell-data, cell-ticks, no-clock, cell-runs, is-clock}
 use Rattle.clocks.proofs.slice_cell.Statement.{statement}

@@ -4,7 +4,7 @@ use mathlib.Core.Path.{_≡_, sym, _∙_}
 use borrow.Author.Needs.{needs}
 use Rattle.laris.specs.State.{cellAt}
 use Rattle.laris.specs.Play.{slicedCells}
-use Rattle.telegrams.specs.Changed.{changedTo}
+use Rattle.queue.specs.Changed.{changedTo}
 use Rattle.ticks.proofs.Laws.{then-refused, then-done, goes-on}
 use Rattle.clocks.proofs.Onward.{After, pass-first, pass-next, cells-first, cells-here, cells-none, cell-now}
 use Rattle.clocks.proofs.slice_cells.Statement.{statement}

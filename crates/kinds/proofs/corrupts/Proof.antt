@@ -7,7 +7,7 @@ use Rattle.laris.specs.Values.{isBound}
 use Rattle.laris.specs.State.{withoutTelegram}
 use Rattle.laris.specs.Play.{ended, goesFrom, oldest, panicking, corrupt}
 use Rattle.ints.proofs.Range.{back}
-use Rattle.telegrams.proofs.Laws.{laid}
+use Rattle.queue.proofs.Laws.{laid}
 use Rattle.kinds.proofs.Laws.{none-taken, one-taken, taken-kept, taken-length}
 use Rattle.kinds.proofs.corrupts.Statement.{statement}
 use Rattle.kinds.proofs.corrupts.Tie as tie

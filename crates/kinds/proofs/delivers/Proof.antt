@@ -11,7 +11,7 @@ use Rattle.promise.proofs.Events.{outer}
 use Rattle.turns.proofs.Laws.{handed-outside}
 use Rattle.ints.proofs.Range.{back}
 use Rattle.store.proofs.Laws.{given}
-use Rattle.telegrams.proofs.Laws.{laid}
+use Rattle.queue.proofs.Laws.{laid}
 use Rattle.kinds.proofs.Laws.{none-taken, one-taken, taken-meets, taken-fits, taken-low, taken-kept, taken-length}
 use Rattle.kinds.proofs.delivers.Statement.{statement}
 use Rattle.kinds.proofs.delivers.Tie as tie

@@ -17,7 +17,7 @@ use Rattle.turns.specs.Called.{Called}
 use Rattle.turns.proofs.Called.{has-chart}
 use Rattle.ints.proofs.Range.{back}
 use Rattle.store.proofs.Laws.{given}
-use Rattle.telegrams.proofs.Laws.{laid}
+use Rattle.queue.proofs.Laws.{laid}
 use Rattle.kinds.proofs.Laws.{data-read, none-taken, one-taken, taken-meets, taken-fits, taken-low, taken-kept, taken-length, receiver-number, inner-name, inner-bound, reaction-inside, reaction-runs}
 use Rattle.kinds.proofs.inners.Statement.{statement}
 use Rattle.kinds.proofs.inners.Tie as tie

@@ -1,6 +1,6 @@
 use native.Mathlib.Omega.{arith}
 use borrow.Author.Needs.{needs}
-use Rattle.telegrams.proofs.Laws.{laid}
+use Rattle.queue.proofs.Laws.{laid}
 use Rattle.kinds.proofs.Calls.{sent}
 use Rattle.kinds.proofs.sent_outside.Statement.{statement}
 use Rattle.kinds.proofs.sent_outside.Tie as tie

@@ -13,8 +13,8 @@ use Rattle.laris.proofs.Forms.{form-arm, form-clockAct}
 use Rattle.ints.proofs.Range.{is-zero, not-zero}
 use Rattle.ready.specs.Ready.{contextAt, Ready}
 use Rattle.ready.proofs.Statements.{ready-after, choice-operand, choice-then, choice-else, loop-operand, loop-body, sequence-first, sequence-second}
-use Rattle.sends.specs.Visit.{Visit}
-use Rattle.sends.proofs.Sends.{data-given, no-record}
+use Rattle.sending.specs.Visit.{Visit}
+use Rattle.sending.proofs.Sends.{data-given, no-record}
 use Rattle.acts.proofs.Acts.{act-cell}
 use Rattle.statements.proofs.Bodies.{body-called, number-small, has-data, four-parameters, callable, given-left, call-done, called-refused, called-stuck, too-deep, body-runs, innerOf, inner-context, few-parameters, few-variables, inner-ready, inner-statement}
 use Rattle.statements.proofs.Steps.{word-left, done-left, none-left, no-node, other-stuck, visit, skips, choice-no, choice-yes, choice-refused, choice-stuck, loop-ends, loop-refused, loop-stuck, turn-refused, turn-stuck, turn-visit, turn-none, turn-again, first-done, first-refused, first-stuck, with-ran, step-back, past-four, below-next, form-assign, form-external, form-internal, form-call, form-choice, form-loop, form-sequence}
@@ -33,9 +33,9 @@ use Rattle.statements.proofs.+call+enter+repeat+run.Lts-run as run-lts
 use Rattle.acts.proofs.arming.Reads as arming-reads
 use Rattle.acts.proofs.assign.Reads as assign-reads
 use Rattle.acts.proofs.clock.Reads as clock-reads
-use Rattle.sends.proofs.external_send.Reads as external-send-reads
-use Rattle.sends.proofs.gather.Reads as gather-reads
-use Rattle.sends.proofs.internal_send.Reads as internal-send-reads
+use Rattle.sending.proofs.external_send.Reads as external-send-reads
+use Rattle.sending.proofs.gather.Reads as gather-reads
+use Rattle.sending.proofs.internal_send.Reads as internal-send-reads
 use Rattle.defaults.proofs.fresh_locals.Reads as fresh-locals-reads
 use Rattle.expressions.proofs.eval.Reads as eval-reads
 use Rattle.reader.proofs.read.Reads as read-reads

@@ -7,7 +7,7 @@ use borrow.Author.Needs.{needs}
 use Rattle.laris.specs.State.{wordOf}
 use Rattle.laris.specs.State.{on}
 use Rattle.store.proofs.Laws.{given}
-use Rattle.telegrams.specs.Changed.{changedTo}
+use Rattle.queue.specs.Changed.{changedTo}
 use Rattle.ticks.proofs.Laws.{last-int, one-less, bits-zero, bits-some, then-refused, then-done, goes-on, fired-word, put-two, cycler-goes, cycler-fires}
 use Rattle.ticks.proofs.tick_cycler.Statement.{statement}
 use Rattle.ticks.proofs.tick_cycler.Tie as tie

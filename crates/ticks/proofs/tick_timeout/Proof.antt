@@ -7,7 +7,7 @@ use borrow.Author.Needs.{needs}
 use Rattle.laris.specs.State.{wordOf}
 use Rattle.laris.specs.State.{on}
 use Rattle.store.proofs.Laws.{given, bits-same, bits-differ}
-use Rattle.telegrams.specs.Changed.{changedTo}
+use Rattle.queue.specs.Changed.{changedTo}
 use Rattle.ticks.proofs.Laws.{last-int, one-less, then-refused, then-done, timeout-goes, timeout-fires}
 use Rattle.ticks.proofs.tick_timeout.Statement.{statement}
 use Rattle.ticks.proofs.tick_timeout.Tie as tie

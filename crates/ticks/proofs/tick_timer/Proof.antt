@@ -5,7 +5,7 @@ use lib.IntN.{pos, _+ℤ_}
 use borrow.Author.Needs.{needs}
 use Rattle.laris.specs.State.{wordOf}
 use Rattle.store.proofs.Laws.{given, bits-same, bits-differ}
-use Rattle.telegrams.specs.Changed.{changedTo}
+use Rattle.queue.specs.Changed.{changedTo}
 use Rattle.ticks.proofs.Laws.{next-int, timer-last, timer-goes}
 use Rattle.ticks.proofs.tick_timer.Statement.{statement}
 use Rattle.ticks.proofs.tick_timer.Tie as tie
