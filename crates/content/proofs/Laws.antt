@@ -2,37 +2,31 @@
 use Prim.Native.Nat.{ℕ, zero, suc, _+_, _*_, _-_, _≤_, _<_}
 use mathlib.Core.Path.{_≡_, refl, sym, ap, _∙_}
 use mathlib.Core.List.{List}
-use mathlib.Core.Bool.{Bool, true, false, not}
+use mathlib.Core.Bool.{Bool, true, false}
 use native.Mathlib.Omega.{arith}
 use lib.ListN.{length, getD}
 use lib.IntN.{ℤ, pos, natAbs}
-use lib.Signed.{leZ, ltZ}
-use mir.Syntax.{w8, w32}
-use mir.Val.{Fits, toZ, ofZ}
-use borrow.Author.Tests.{eq-eqb, ne-eqb}
+use lib.Signed.{leZ}
+use mir.Syntax.{w8}
+use mir.Val.{Fits}
 use Rattle.sheet.specs.declared.Record.{Record}
 use Rattle.sheet.specs.declared.Found.{Found}
 use Rattle.sheet.specs.declared.Found.the-variants.{Present, Absent}
 use Rattle.sheet.specs.All.{_and_, allBelow}
 use Rattle.sheet.specs.Sheet.{wordAt, offsetOf, countOf, recordAt, recordOf}
-use Rattle.sheet.specs.Names.{isClock}
-use Rattle.sheet.proofs.All.{true-false, and-true, and-first, and-second, first-fails, first-holds}
+use Rattle.sheet.proofs.All.{and-first}
 use Rattle.sheet.proofs.Sheet.{count-limit, record-present}
-use Rattle.laris.specs.Fields.{holds, numberOr0, typeAt, sumBelow, componentsOf, externalsOf}
+use Rattle.laris.specs.Fields.{numberOr0, typeAt, sumBelow, externalsOf}
 use Rattle.laris.proofs.Fields.{number-present, holds-present, holds-absent, sum-more}
-use Rattle.laris.specs.declared.Telegram.{Telegram}
-use Rattle.laris.specs.Types.{hasReaction}
 use Rattle.laris.specs.Shape.{variablesBound, variablesOf}
-use Rattle.laris.specs.Values.{fits32, isBelow, isZero, inType, chartOf, firstCell}
+use Rattle.laris.specs.Values.{chartOf, firstCell}
 use Rattle.laris.specs.State.{cellAt, placeAt, stateLength, wordOf, waiting, telegramIn, telegramOf}
-use Rattle.laris.specs.Valid.{nameFits, reactionAwaits, zeroWords, runningClock, clockCell, cellFits, elementFits, datumOf, internalFits, externalFits, isInternal, telegramFits, headFits, cellsFit, waitingFit, unusedZero}
-use Rattle.states.proofs.Frame.{all-same, name-same}
+use Rattle.laris.specs.Valid.{zeroWords, cellFits, elementFits, telegramFits, headFits, cellsFit, waitingFit, unusedZero}
+use Rattle.states.proofs.Frame.{all-same}
 use Rattle.states.proofs.Parts.{below-abs}
 use Rattle.states.proofs.Elements.{element-count, element-cells}
 use Rattle.passed.proofs.Records.{present-below}
-use Rattle.types.proofs.Laws.{no, so}
-use Rattle.tests.proofs.Laws.{read-back, below-from}
-use Rattle.content.specs.Parts.{valueFits}
+use Rattle.tests.proofs.Laws.{below-from}
 
 -- ---- how many variables: a field is below 65,536, as bytes are below 256
 
@@ -58,86 +52,7 @@ module _ (s : List ℕ) (byte : (i : ℕ) → Fits w8 (getD s i 0)) where
   unfolding variablesOf variablesBound
   variables-small = omega (arith, sum-small (countOf s 7) (variablesBound s) (λ i. number-small _ _ 65535 (λ b p. number-small _ _ 65535 (λ c q. field-small 4 (b .f0) c q))), count-limit s 7)
 
--- ---- names
-
-module _ (s : List ℕ) (k : ℕ) (z : ℤ) (d : ℕ → ℤ) where
-  -- a name is a number from 0 on
-  pub name-from : nameFits s k z d ≡ true → leZ (pos 0) z ≡ true
-  unfolding nameFits
-  name-from h = below-from z _ (and-first _ _ h)
-
--- a clock's name and data
-pub clock-data : (s : List ℕ) (k : ℕ) (st : List ℤ) (at : ℕ) → nameFits s k (wordOf st (at + 3)) (λ j. wordOf st (at + 3 + 1 + j)) ≡ nameFits s k (wordOf st (at + 3)) (λ j. wordOf st (at + 4 + j))
-clock-data s k st at = name-same s k _ _ _ _ refl (λ j l. let e : at + 3 + 1 + j ≡ at + 4 + j = omega arith in ap (wordOf st) e)
-
-pub awaits-same : (s : List ℕ) (e n : ℕ) (z : ℤ) → n ≡ natAbs z → reactionAwaits s e (pos n) ≡ reactionAwaits s e z
-unfolding reactionAwaits
-awaits-same s e n z p = ap (λ (m : ℕ). holds (chartOf s e) (λ c. hasReaction s c m)) p
-
-word-fits : (z w : ℤ) → z ≡ w → fits32 z ≡ true → fits32 w ≡ true
-word-fits z w e h = sym (ap fits32 e) ∙ h
-
--- ---- cells
-
-pub none-left : (st : List ℤ) (at from : ℕ) → 8 ≤ from → true ≡ zeroWords st at from
-unfolding zeroWords allBelow
-none-left st at from h = let e : 8 - from ≡ 0 = omega arith in rw e refl
-
-module _ (t : ℕ) (z p : ℤ) where
-  pub of-timeout : t ≡ 5 → leZ (pos 1) z and leZ z p ≡ valueFits t z p
-  unfolding valueFits
-  of-timeout e = rw (valueFits, eq-eqb t 5 e) refl
-
-  pub of-cycler : (t ≡ 5 → ⊥) → leZ (pos 0) z and ltZ z p ≡ valueFits t z p
-  unfolding valueFits
-  of-cycler n = rw (valueFits, ne-eqb t 5 n) refl
-
--- a running clock, where z and p are its value and period as read, and a the first test
-module _ (s : List ℕ) (e t : ℕ) (st : List ℤ) (at : ℕ) (z p : ℤ) (a : Bool) (i : z ≡ wordOf st (at + 1)) (f : fits32 z ≡ true) (j : p ≡ wordOf st (at + 2)) (g : fits32 p ≡ true) where
-  a-timer : t ≡ 4 → leZ (pos 0) (wordOf st (at + 1)) and zeroWords st at 2 ≡ runningClock s e t st at
-  unfolding runningClock _and_
-  a-timer q = rw (runningClock, word-fits z _ i f, word-fits p _ j g, eq-eqb t 4 q) refl
-
-  another-clock : (t ≡ 4 → ⊥) → valueFits t (wordOf st (at + 1)) (wordOf st (at + 2)) and nameFits s 1 (wordOf st (at + 3)) (λ k. wordOf st (at + 4 + k)) and reactionAwaits s e (wordOf st (at + 3)) ≡ runningClock s e t st at
-  unfolding runningClock valueFits _and_
-  another-clock n = rw (runningClock, word-fits z _ i f, word-fits p _ j g, ne-eqb t 4 n) refl
-
-  module _ (q : a ≡ leZ (pos 0) (toZ w32 (ofZ w32 z))) where
-    from-0 : a ≡ leZ (pos 0) (wordOf st (at + 1))
-    from-0 = q ∙ ap (λ (x : ℤ). leZ (pos 0) x) (read-back z _ i f)
-
-    pub timer-below : t ≡ 4 → not a ≡ true → false ≡ runningClock s e t st at
-    timer-below h k = first-fails _ _ (no from-0 k) ∙ a-timer h
-
-    pub timer-zeros : (x : Bool) → t ≡ 4 → not a ≡ false → x ≡ zeroWords st at 2 → x ≡ runningClock s e t st at
-    timer-zeros x h k y = first-holds _ _ _ (so from-0 k) y ∙ a-timer h
-
-  module _ (q : a ≡ valueFits t (toZ w32 (ofZ w32 z)) (toZ w32 (ofZ w32 p))) where
-    in-period : a ≡ valueFits t (wordOf st (at + 1)) (wordOf st (at + 2))
-    in-period = q ∙ ap (λ (x : ℤ). valueFits t x (toZ w32 (ofZ w32 p))) (read-back z _ i f) ∙ ap (valueFits t (wordOf st (at + 1))) (read-back p _ j g)
-
-    pub not-in-period : (t ≡ 4 → ⊥) → not a ≡ true → false ≡ runningClock s e t st at
-    not-in-period h k = first-fails _ _ (no in-period k) ∙ another-clock h
-
-    pub clock-name : (x : Bool) → (t ≡ 4 → ⊥) → not a ≡ false → x ≡ nameFits s 1 (wordOf st (at + 3)) (λ k. wordOf st (at + 4 + k)) and reactionAwaits s e (wordOf st (at + 3)) → x ≡ runningClock s e t st at
-    clock-name x h k y = first-holds _ _ _ (so in-period k) y ∙ another-clock h
-
-module _ (s : List ℕ) (e t : ℕ) (st : List ℤ) (at : ℕ) where
-  pub stopped : isZero (wordOf st at) ≡ true → zeroWords st at 1 ≡ clockCell s e t st at
-  unfolding clockCell
-  stopped h = rw (clockCell, h) refl
-
-  pub runs : isZero (wordOf st at) ≡ false → isBelow (wordOf st at) 2 and runningClock s e t st at ≡ clockCell s e t st at
-  unfolding clockCell
-  runs h = rw (clockCell, h) refl
-
-  pub clock-in : isClock t ≡ true → clockCell s e t st at ≡ cellFits s e t st at
-  unfolding cellFits
-  clock-in h = rw (cellFits, h) refl
-
-  pub value-in : isClock t ≡ false → inType s t (wordOf st at) and zeroWords st at 1 ≡ cellFits s e t st at
-  unfolding cellFits
-  value-in h = rw (cellFits, h) refl
+-- ---- the cells of an element
 
 -- variable j of an element whose first cell is `first` and whose variables are declared from d on
 abbrev pub cellOf : List ℕ → List ℤ → ℕ → ℕ → ℕ → ℕ → Bool
@@ -172,49 +87,6 @@ cells-are s st from p = rw p refl
 pub no-element : (s : List ℕ) (st : List ℤ) (e : ℕ) → chartOf s e ≡ Absent → elementFits s st e ≡ false
 unfolding elementFits
 no-element s st e p = holds-absent (chartOf s e) _ p
-
--- ---- telegrams
-
-datum-of : (st : List ℤ) (at j : ℕ) → j < 4 → wordOf st (at + 3 + 1 + j) ≡ datumOf (telegramIn st at) j
-unfolding telegramIn
-datum-of st at zero l = let e : at + 3 + 1 + 0 ≡ at + 4 = omega arith in ap (wordOf st) e
-datum-of st at (suc zero) l = let e : at + 3 + 1 + 1 ≡ at + 5 = omega arith in ap (wordOf st) e
-datum-of st at (suc (suc zero)) l = let e : at + 3 + 1 + 2 ≡ at + 6 = omega arith in ap (wordOf st) e
-datum-of st at (suc (suc (suc zero))) l = let e : at + 3 + 1 + 3 ≡ at + 7 = omega arith in ap (wordOf st) e
-datum-of st at (suc (suc (suc (suc j)))) l = absurd (omega arith)
-
-pub name-of : (s : List ℕ) (k : ℕ) (st : List ℤ) (at : ℕ) → nameFits s k (wordOf st (at + 3)) (λ j. wordOf st (at + 3 + 1 + j)) ≡ nameFits s k (telegramIn st at .name) (datumOf (telegramIn st at))
-unfolding telegramIn
-name-of s k st at = name-same s k _ _ _ _ refl (datum-of st at)
-
--- a telegram whose ends are tested, b being the answer
-module _ (s : List ℕ) (t : Telegram) (b : Bool) (p : b ≡ isBelow (t .sender) (componentsOf s) and isBelow (t .receiver) (componentsOf s)) where
-  pub no-component : not b ≡ true → false ≡ telegramFits s t
-  unfolding telegramFits _and_
-  no-component h = go (isBelow (t .sender) (componentsOf s)) (isBelow (t .receiver) (componentsOf s)) refl refl
-    where
-      go : (x y : Bool) → isBelow (t .sender) (componentsOf s) ≡ x → isBelow (t .receiver) (componentsOf s) ≡ y → false ≡ telegramFits s t
-      go true true e f = absurd (true-false (and-true _ _ e f) (no p h))
-      go true false e f = rw (telegramFits, e, f) refl
-      go false y e f = rw (telegramFits, e) refl
-
-  module _ (h : not b ≡ false) where
-    sender-in : isBelow (t .sender) (componentsOf s) ≡ true
-    sender-in = and-first _ _ (so p h)
-
-    receiver-in : isBelow (t .receiver) (componentsOf s) ≡ true
-    receiver-in = and-second _ _ (so p h)
-
-    pub receiver-from : leZ (pos 0) (t .receiver) ≡ true
-    receiver-from = below-from (t .receiver) _ receiver-in
-
-    pub internal-one : isInternal t ≡ true → internalFits s t ≡ telegramFits s t
-    unfolding telegramFits _and_
-    internal-one i = rw (telegramFits, sender-in, receiver-in, i) refl
-
-    pub external-one : isInternal t ≡ false → externalFits s t ≡ telegramFits s t
-    unfolding telegramFits _and_
-    external-one i = rw (telegramFits, sender-in, receiver-in, i) refl
 
 -- ---- how many wait, by the head
 

@@ -49,7 +49,7 @@ fn outside_formed(sheet: &[u8], directory: &[usize; 16], ev: &[i32]) -> bool
     if !tests::below_at(ev, 3, values::ports(sheet, directory)) {
         return false;
     }
-    values::name_fits(sheet, directory, 0, ev, 4)
+    names::name_fits(sheet, directory, 0, ev, 4)
 }
 
 // Kind 2, Deliver: between components that are not both external.

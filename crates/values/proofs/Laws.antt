@@ -1,23 +1,19 @@
--- Laws of values, names and bound elements, one for a path of the code.
-use Prim.Native.Nat.{ℕ, _+_, _-_, _≤_, _<_}
+-- Laws of values and bound elements, one for a path of the code.
+use Prim.Native.Nat.{ℕ, _-_, _≤_, _<_}
 use mathlib.Core.Path.{_≡_, refl, sym, ap, _∙_}
 use mathlib.Core.List.{List}
-use mathlib.Core.Bool.{Bool, true, false, not}
+use mathlib.Core.Bool.{Bool, false}
 use native.Mathlib.Omega.{arith}
 use lib.Dec.{ltb, leb}
-use lib.IntN.{ℤ, natAbs}
+use lib.IntN.{ℤ}
 use borrow.Author.Tests.{lt-ltb, le-ltb, le-leb, lt-leb, eq-eqb, ne-eqb}
 use Rattle.sheet.specs.declared.Record.{Record}
-use Rattle.sheet.specs.declared.Range.{Range}
 use Rattle.sheet.specs.declared.Found.the-variants.{Present, Absent}
-use Rattle.sheet.specs.All.{_and_, allBelow}
+use Rattle.sheet.specs.All.{_and_}
 use Rattle.sheet.specs.Sheet.{recordOf}
-use Rattle.sheet.proofs.All.{and-true, and-false, false-and, all-fails}
-use Rattle.laris.specs.Fields.{holds, typeAt, componentsOf, externalsOf, portsOf}
-use Rattle.laris.specs.Types.{hasClass, nameRange, reactsTo, hasReaction}
-use Rattle.laris.specs.Values.{fits32, isBelow, isZero, membersOf, inType, isBound, bindingOf, chartOf}
-use Rattle.laris.specs.Valid.{dataFit}
-use Rattle.values.specs.Parts.{datumFits}
+use Rattle.sheet.proofs.All.{and-true, and-false, false-and}
+use Rattle.laris.specs.Fields.{componentsOf, externalsOf, portsOf}
+use Rattle.laris.specs.Values.{fits32, isBelow, membersOf, inType, isBound, bindingOf, chartOf}
 
 -- ---- bound elements
 
@@ -76,41 +72,7 @@ module _ (s : List ℕ) (t : ℕ) (z : ℤ) where
 pub from-four : (t : ℕ) → (t ≡ 0 → ⊥) → (t ≡ 1 → ⊥) → (t ≡ 2 → ⊥) → (t ≡ 3 → ⊥) → 4 ≤ t
 from-four t a b c d = omega arith
 
--- ---- data
-
-module _ (s : List ℕ) (g : Range) (j : ℕ) (z : ℤ) (b : Bool) where
-  pub datum-typed : (t : ℕ) → j < g .count → t ≡ typeAt s (g .first + j) → b ≡ inType s t z → b ≡ datumFits s g j z
-  unfolding datumFits
-  datum-typed t h p e = e ∙ rw (datumFits, p, lt-ltb j (g .count) h) refl
-
-  pub datum-surplus : g .count ≤ j → b ≡ isZero z → b ≡ datumFits s g j z
-  unfolding datumFits
-  datum-surplus h e = e ∙ rw (datumFits, le-ltb j (g .count) h) refl
-
 -- ---- words
 
 pub below-same : (z : ℤ) (n m : ℕ) (b : Bool) → b ≡ isBelow z n → n ≡ m → b ≡ isBelow z m
 below-same z n m b e p = e ∙ ap (isBelow z) p
-
--- ---- names
-
-module _ (s : List ℕ) (n : ℕ) (z : ℤ) (b : Bool) (p : n ≡ natAbs z) where
-  pub name-class : (k : ℕ) → b ≡ hasClass s n k → b ≡ hasClass s (natAbs z) k
-  name-class k e = e ∙ ap (λ (m : ℕ). hasClass s m k) p
-
-  pub name-data : (g : Range) (d : ℕ → ℤ) → g ≡ nameRange s n → b ≡ dataFit s g d → b ≡ dataFit s (nameRange s (natAbs z)) d
-  name-data g d q e = e ∙ ap (λ (h : Range). dataFit s h d) (q ∙ ap (nameRange s) p)
-
--- ---- reactions
-
--- body j of a chart is no internal reaction to name n
-abbrev pub noReaction : List ℕ → ℕ → ℕ → ℕ → Bool
-noReaction s first n j = not (holds (recordOf s 5 (first + j)) (reactsTo n))
-
-pub reaction-found : (s : List ℕ) (c : Record) (n j : ℕ) → j < c .f5 → holds (recordOf s 5 (c .f4 + j)) (reactsTo n) ≡ true → true ≡ hasReaction s c n
-unfolding hasReaction
-reaction-found s c n j l h = sym (ap not (all-fails (c .f5) (noReaction s (c .f4) n) j l (ap not h)))
-
-pub reaction-none : (s : List ℕ) (c : Record) (n : ℕ) → allBelow (c .f5) (noReaction s (c .f4) n) ≡ true → false ≡ hasReaction s c n
-unfolding hasReaction
-reaction-none s c n h = sym (ap not h)

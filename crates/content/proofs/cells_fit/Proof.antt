@@ -1,15 +1,14 @@
 use native.Mathlib.Omega.{arith}
-use mathlib.Core.Path.{_≡_, refl, sym, ap, _∙_}
+use mathlib.Core.Path.{_≡_, refl, sym, _∙_}
 use mathlib.Core.List.{List}
 use mathlib.Core.Bool.{Bool, true}
-use Prim.Native.Nat.{ℕ, _+_, _*_, _-_, _≤_, _<_}
+use Prim.Native.Nat.{ℕ, _+_, _*_, _-_, _≤_}
 use lib.IntN.{ℤ}
 use borrow.Author.Needs.{needs}
 use Rattle.sheet.specs.All.{allBelow}
-use Rattle.sheet.specs.Sheet.{countOf}
 use Rattle.sheet.proofs.All.{all-more, loop-fails, loop-ends}
 use Rattle.sheet.proofs.Sheet.{count-limit}
-use Rattle.laris.specs.Fields.{sumBelow, externalsOf}
+use Rattle.laris.specs.Fields.{sumBelow}
 use Rattle.laris.specs.Shape.{variablesBound}
 use Rattle.laris.specs.Valid.{elementFits}
 use Rattle.types.proofs.Laws.{no, so}

@@ -1,5 +1,4 @@
 use native.Mathlib.Omega.{arith}
-use mathlib.Core.Path.{sym, _∙_}
 use borrow.Author.Needs.{needs}
 use Rattle.sheet.proofs.All.{first-fails, rest-fails, first-holds}
 use Rattle.laris.specs.Valid.{contentFits}

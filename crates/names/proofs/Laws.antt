@@ -1,0 +1,63 @@
+-- Laws of names, data and reactions, one for a path of the code.
+use Prim.Native.Nat.{ℕ, _+_, _≤_, _<_}
+use mathlib.Core.Path.{_≡_, refl, sym, ap, _∙_}
+use mathlib.Core.List.{List}
+use mathlib.Core.Bool.{Bool, true, false, not}
+use lib.IntN.{ℤ, pos, natAbs}
+use lib.Signed.{leZ}
+use borrow.Author.Tests.{lt-ltb, le-ltb}
+use Rattle.sheet.specs.declared.Record.{Record}
+use Rattle.sheet.specs.declared.Range.{Range}
+use Rattle.sheet.specs.All.{_and_, allBelow}
+use Rattle.sheet.specs.Sheet.{recordOf}
+use Rattle.sheet.proofs.All.{and-first, all-fails}
+use Rattle.laris.specs.Fields.{holds, typeAt}
+use Rattle.laris.specs.Types.{hasClass, nameRange, reactsTo, hasReaction}
+use Rattle.laris.specs.Values.{isZero, inType, chartOf}
+use Rattle.laris.specs.Valid.{dataFit, nameFits, reactionAwaits}
+use Rattle.tests.proofs.Laws.{below-from}
+use Rattle.names.specs.Parts.{datumFits}
+
+-- ---- data
+
+module _ (s : List ℕ) (g : Range) (j : ℕ) (z : ℤ) (b : Bool) where
+  pub datum-typed : (t : ℕ) → j < g .count → t ≡ typeAt s (g .first + j) → b ≡ inType s t z → b ≡ datumFits s g j z
+  unfolding datumFits
+  datum-typed t h p e = e ∙ rw (datumFits, p, lt-ltb j (g .count) h) refl
+
+  pub datum-surplus : g .count ≤ j → b ≡ isZero z → b ≡ datumFits s g j z
+  unfolding datumFits
+  datum-surplus h e = e ∙ rw (datumFits, le-ltb j (g .count) h) refl
+
+-- ---- names
+
+module _ (s : List ℕ) (n : ℕ) (z : ℤ) (b : Bool) (p : n ≡ natAbs z) where
+  pub name-class : (k : ℕ) → b ≡ hasClass s n k → b ≡ hasClass s (natAbs z) k
+  name-class k e = e ∙ ap (λ (m : ℕ). hasClass s m k) p
+
+  pub name-data : (g : Range) (d : ℕ → ℤ) → g ≡ nameRange s n → b ≡ dataFit s g d → b ≡ dataFit s (nameRange s (natAbs z)) d
+  name-data g d q e = e ∙ ap (λ (h : Range). dataFit s h d) (q ∙ ap (nameRange s) p)
+
+-- a name is a number from 0 on
+pub name-from : (s : List ℕ) (k : ℕ) (z : ℤ) (d : ℕ → ℤ) → nameFits s k z d ≡ true → leZ (pos 0) z ≡ true
+unfolding nameFits
+name-from s k z d h = below-from z _ (and-first _ _ h)
+
+-- ---- reactions
+
+-- body j of a chart is no internal reaction to name n
+abbrev pub noReaction : List ℕ → ℕ → ℕ → ℕ → Bool
+noReaction s first n j = not (holds (recordOf s 5 (first + j)) (reactsTo n))
+
+pub reaction-found : (s : List ℕ) (c : Record) (n j : ℕ) → j < c .f5 → holds (recordOf s 5 (c .f4 + j)) (reactsTo n) ≡ true → true ≡ hasReaction s c n
+unfolding hasReaction
+reaction-found s c n j l h = sym (ap not (all-fails (c .f5) (noReaction s (c .f4) n) j l (ap not h)))
+
+pub reaction-none : (s : List ℕ) (c : Record) (n : ℕ) → allBelow (c .f5) (noReaction s (c .f4) n) ≡ true → false ≡ hasReaction s c n
+unfolding hasReaction
+reaction-none s c n h = sym (ap not h)
+
+-- the name as a word
+pub awaits-same : (s : List ℕ) (e n : ℕ) (z : ℤ) → n ≡ natAbs z → reactionAwaits s e (pos n) ≡ reactionAwaits s e z
+unfolding reactionAwaits
+awaits-same s e n z p = ap (λ (m : ℕ). holds (chartOf s e) (λ c. hasReaction s c m)) p
