@@ -1,8 +1,10 @@
 // Replays calls from standard input and prints each answer on a line. A call is its kind (0 check,
-// 1 start, 2 event), the sheet's length and the sheet; for start the result state's length; for
-// event the old state's length and words, the result's length, the event's length and words.
-// Numbers are 32-bit little-endian. The lent result is filled with 777. An incomplete last call
-// ends it, and so does a kind or a length that it doesn't take.
+// 1 start, 2 event, 3 a run), the sheet's length and the sheet; for start the result state's
+// length; for event the old state's length and words, the result's length, the event's length and
+// words; for a run the number of its events and nine words for each, and what it prints is the
+// listing of `play`. Numbers are 32-bit little-endian. The lent result is filled with 777. An
+// incomplete last call ends it, a run after the events that came, and so does a kind or a length
+// that it doesn't take.
 use laris::Answer;
 use laris::Checked;
 use laris::Handed;
@@ -142,11 +144,37 @@ fn replay_event(sheet: &[u8]) -> bool {
     true
 }
 
+// Reads past `count` events, and gives whether they came.
+fn skip_events(count: usize) -> bool {
+    let mut ev = [0u8; 36];
+    let mut left = count;
+    while 0 < left {
+        if io::read_full(STDIN_FILENO, &mut ev) < 36 {
+            return false;
+        }
+        left -= 1;
+    }
+    true
+}
+
+// After a start other than 0 the events are still there.
+fn replay_run(sheet: &[u8]) -> bool {
+    let count = read_number();
+    if NONE <= count {
+        return false;
+    }
+    if runs::play(sheet, count as u64) == 0 {
+        return true;
+    }
+    skip_events(count)
+}
+
 fn replay(kind: usize, sheet: &[u8]) -> bool {
     match kind {
         0 => replay_check(sheet),
         1 => replay_start(sheet),
         2 => replay_event(sheet),
+        3 => replay_run(sheet),
         _ => false,
     }
 }

@@ -2,8 +2,8 @@ use mathlib.Core.Path.{sym}
 use native.Mathlib.Omega.{arith}
 use lib.Seq.{length-take-le}
 use borrow.Author.Needs.{needs}
-use Rattle.play.proofs.print_start.Statement.{statement}
-use Rattle.play.proofs.print_start.Tie as tie
+use Rattle.runs.proofs.print_start.Statement.{statement}
+use Rattle.runs.proofs.print_start.Tie as tie
 
 slice-aggregate-put-start : tie.Need-slice-aggregate-put-start
 slice-aggregate-put-start c = search needs

@@ -4,15 +4,15 @@ use native.Mathlib.Omega.{arith}
 use lib.ListN.{length}
 use borrow.Author.Needs.{needs}
 use Rattle.kinds.specs.Playing.{Playing}
-use Rattle.play.proofs.Kept.{goes-on}
-use Rattle.play.proofs.round.Statement.{statement}
-use Rattle.play.proofs.round.Tie as tie
+use Rattle.runs.proofs.Kept.{goes-on}
+use Rattle.runs.proofs.round.Statement.{statement}
+use Rattle.runs.proofs.round.Tie as tie
 
 abbrev Inv-loop : tie.InvT-loop
-Inv-loop sheet directory st₀ spare₀ events count first out₀ from ev₀ at₀ i₀ st spare out ev at i = Playing sheet directory st × (length st ≡ length st₀) × (length spare ≡ length spare₀) × (length out ≡ length out₀) × (at + 220 ≤ 32768) × (i ≤ count) × (length ev ≡ 9)
+Inv-loop sheet directory st₀ spare₀ events count done out₀ from ev₀ at₀ i₀ st spare out ev at i = Playing sheet directory st × (length st ≡ length st₀) × (length spare ≡ length spare₀) × (length out ≡ length out₀) × (at + 220 ≤ 32768) × (i ≤ count) × (length ev ≡ 9)
 
 abbrev μ-loop : tie.MeasureT-loop
-μ-loop sheet directory st₀ spare₀ events count first out₀ from ev₀ at₀ i₀ st spare out ev at i = count - i
+μ-loop sheet directory st₀ spare₀ events count done out₀ from ev₀ at₀ i₀ st spare out ev at i = count - i
 
 loop-holds : tie.Need-loop-holds Inv-loop μ-loop
 loop-holds c = (c .before .before .before .pre .0, refl, refl, refl, c .before .before .before .pre .5, omega arith, refl)
@@ -34,6 +34,9 @@ next-requires c κs = (c .before .before .before .before .before .before .before
 
 add-put-event : tie.Need-add-put-event Inv-loop μ-loop
 add-put-event c = search needs
+
+add-put-event-2 : tie.Need-add-put-event-2 Inv-loop μ-loop
+add-put-event-2 c = search needs
 
 put-event-requires : tie.Need-put-event-requires Inv-loop μ-loop
 put-event-requires c κs = let a = c .before .before .before .before .before .before .before .before .before .before .before .loop .inv .4 in let o = c .before .before .before .before .before .before .before .before .before .before .before .loop .inv .3 in let q = c .before .before .before .before .before .before .before .before .before .before .before .before .before .before .before .pre .4 in omega arith
@@ -75,6 +78,7 @@ round-spec =
     slice-aggregate-next
     next-requires
     add-put-event
+    add-put-event-2
     put-event-requires
     with-room-requires
     add-i

@@ -1,7 +1,8 @@
 use mathlib.Core.Path.{sym, _∙_}
 use borrow.Author.Needs.{needs}
-use Rattle.play.proofs.play.Statement.{statement}
-use Rattle.play.proofs.play.Tie as tie
+use Rattle.runs.proofs.Kept.{shape-answers, static-answers}
+use Rattle.runs.proofs.play.Statement.{statement}
+use Rattle.runs.proofs.play.Tie as tie
 
 check-requires : tie.Need-check-requires
 check-requires c κs = search needs
@@ -28,10 +29,10 @@ play-passed-requires : tie.Need-play-passed-requires
 play-passed-requires c κs = (c .before .directory .ensures, sym (c .before .before .before .before .check .ensures) ∙ c .before .before .enum-told3 .given .1)
 
 returns : tie.Need-returns
-returns c = search needs
+returns c = shape-answers (c .before .before .before .before .before .args .sheet .now) (sym (c .before .before .before .check .ensures) ∙ c .before .enum-told .given .1)
 
 returns-2 : tie.Need-returns-2
-returns-2 c = search needs
+returns-2 c = static-answers (c .before .before .before .before .before .args .sheet .now) (sym (c .before .before .before .check .ensures) ∙ c .before .enum-told2 .given .1)
 
 returns-3 : tie.Need-returns-3
 returns-3 c = search needs

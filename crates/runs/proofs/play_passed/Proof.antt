@@ -3,10 +3,10 @@ use mathlib.Core.Path.{sym, _∙_}
 use native.Mathlib.Omega.{arith}
 use lib.IntN.{pos}
 use borrow.Author.Needs.{needs}
-use Rattle.play.proofs.Kept.{room}
+use Rattle.runs.proofs.Kept.{room}
 use Rattle.text.proofs.Parts.{fresh-front}
-use Rattle.play.proofs.play_passed.Statement.{statement}
-use Rattle.play.proofs.play_passed.Tie as tie
+use Rattle.runs.proofs.play_passed.Statement.{statement}
+use Rattle.runs.proofs.play_passed.Tie as tie
 
 state-length-requires : tie.Need-state-length-requires
 state-length-requires c κs = search needs

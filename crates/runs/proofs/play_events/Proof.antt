@@ -4,30 +4,33 @@ use native.Mathlib.Omega.{arith}
 use lib.ListN.{length}
 use borrow.Author.Needs.{needs}
 use Rattle.kinds.specs.Playing.{Playing}
-use Rattle.play.proofs.play_events.Statement.{statement}
-use Rattle.play.proofs.play_events.Tie as tie
+use Rattle.runs.proofs.play_events.Statement.{statement}
+use Rattle.runs.proofs.play_events.Tie as tie
 
 abbrev Inv-loop : tie.InvT-loop
-Inv-loop sheet directory st₀ spare₀ out₀ from events₀ at₀ first₀ st spare out events at first = Playing sheet directory st × (length st ≡ length st₀) × (length spare ≡ length spare₀) × (length out ≡ length out₀) × (at + 220 ≤ 32768) × (length events ≡ 36000)
+Inv-loop sheet directory st₀ spare₀ out₀ from most events₀ at₀ done₀ st spare out events at done = Playing sheet directory st × (length st ≡ length st₀) × (length spare ≡ length spare₀) × (length out ≡ length out₀) × (at + 220 ≤ 32768) × (length events ≡ 36000)
 
 abbrev μ-loop : tie.MeasureT-loop
-μ-loop sheet directory st₀ spare₀ out₀ from events₀ at₀ first₀ st spare out events at first = 18446744073709550000 - first
+μ-loop sheet directory st₀ spare₀ out₀ from most events₀ at₀ done₀ st spare out events at done = most - done
 
 loop-holds : tie.Need-loop-holds Inv-loop μ-loop
 loop-holds c = (c .before .before .pre .0, refl, refl, refl, c .before .before .pre .3, refl)
 
-slice-aggregate-read-full : tie.Need-slice-aggregate-read-full Inv-loop μ-loop
-slice-aggregate-read-full c = sym (c .before .before .loop .inv .5)
+slice-aggregate-read-events : tie.Need-slice-aggregate-read-events Inv-loop μ-loop
+slice-aggregate-read-events c = sym (c .before .before .loop .inv .5)
 
-read-full-requires : tie.Need-read-full-requires Inv-loop μ-loop
-read-full-requires c κs = search needs
+sub-read-events : tie.Need-sub-read-events Inv-loop μ-loop
+sub-read-events c = search needs
+
+read-events-requires : tie.Need-read-events-requires Inv-loop μ-loop
+read-events-requires c κs = c .before .before .loop .inv .5
 
 slice-aggregate-round : tie.Need-slice-aggregate-round Inv-loop μ-loop
-slice-aggregate-round c = sym (c .before .before .before .before .read-full .kept .1 .0 ∙ c .before .before .before .before .before .before .before .loop .inv .5)
+slice-aggregate-round c = sym (c .before .before .before .before .read-events .kept .0 ∙ c .before .before .before .before .before .before .before .loop .inv .5)
 
 round-requires : tie.Need-round-requires Inv-loop μ-loop
 round-requires c κs =
-    let g = c .before .before .before .before .before .read-full .ensures .0 in let k = c .before .before .before .before .before .read-full .kept .1 .0 in let e = c .before .before .before .before .before .before .before .before .loop .inv .5 in let l = c .before .before .before .before .before .before .before .loop-test .taken in
+    let k = c .before .before .before .before .before .read-events .kept .0 in let e = c .before .before .before .before .before .read-events .ensures in let i = c .before .before .before .before .before .before .before .before .loop .inv .5 in let l = c .before .before .before .before .before .before .before .loop-test .taken in let f = c .before .before .before .before .before .before .before .before .before .before .before .fits .most in
     (c .before .before .before .before .before .before .before .before .loop .inv .0, c .before .before .before .before .before .before .before .before .loop .inv .2 ∙ c .before .before .before .before .before .before .before .before .before .before .before .pre .1 ∙ sym (c .before .before .before .before .before .before .before .before .loop .inv .1), omega arith, omega arith, c .before .before .before .before .before .before .before .before .loop .inv .3 ∙ c .before .before .before .before .before .before .before .before .before .before .before .pre .2, c .before .before .before .before .before .before .before .before .loop .inv .4)
 
 same-length : tie.Need-same-length Inv-loop μ-loop
@@ -42,14 +45,14 @@ same-length-3 c = c .before .before .before .before .before .round .kept .1 .1 .
 returns : tie.Need-returns Inv-loop μ-loop
 returns c = let r = c .before .before .before .before .before .round .ensures .1 in omega arith
 
-add-first : tie.Need-add-first Inv-loop μ-loop
-add-first c = search needs
+add-done : tie.Need-add-done Inv-loop μ-loop
+add-done c = let e = c .before .before .before .before .before .before .before .before .before .before .before .read-events .ensures .1 in let l = c .if1 .left in let f = c .before .before .before .before .before .before .before .before .before .before .before .before .before .before .before .before .before .fits .most in omega arith
 
 loop-less : tie.Need-loop-less Inv-loop μ-loop
 loop-less c = let l = c .before .before .before .before .before .before .before .before .before .before .before .before .before .loop-test .taken in omega arith
 
 loop-again : tie.Need-loop-again Inv-loop μ-loop
-loop-again c = (c .before .before .before .before .before .round .ensures .0, c .before .before .before .before .before .round .kept .1 .1 .0 ∙ c .before .before .before .before .before .before .before .before .before .before .before .before .before .before .loop .inv .1, c .before .before .before .before .before .round .kept .1 .1 .1 .0 ∙ c .before .before .before .before .before .before .before .before .before .before .before .before .before .before .loop .inv .2, c .before .before .before .before .before .round .kept .1 .1 .1 .1 .1 .1 .1 .0 ∙ c .before .before .before .before .before .before .before .before .before .before .before .before .before .before .loop .inv .3, c .before .before .before .before .before .round .ensures .1, c .before .before .before .before .before .before .before .before .before .before .before .read-full .kept .1 .0 ∙ c .before .before .before .before .before .before .before .before .before .before .before .before .before .before .loop .inv .5)
+loop-again c = (c .before .before .before .before .before .round .ensures .0, c .before .before .before .before .before .round .kept .1 .1 .0 ∙ c .before .before .before .before .before .before .before .before .before .before .before .before .before .before .loop .inv .1, c .before .before .before .before .before .round .kept .1 .1 .1 .0 ∙ c .before .before .before .before .before .before .before .before .before .before .before .before .before .before .loop .inv .2, c .before .before .before .before .before .round .kept .1 .1 .1 .1 .1 .1 .1 .0 ∙ c .before .before .before .before .before .before .before .before .before .before .before .before .before .before .loop .inv .3, c .before .before .before .before .before .round .ensures .1, c .before .before .before .before .before .before .before .before .before .before .before .read-events .kept .0 ∙ c .before .before .before .before .before .before .before .before .before .before .before .before .before .before .loop .inv .5)
 
 same-length-4 : tie.Need-same-length-4 Inv-loop μ-loop
 same-length-4 c = c .before .loop .inv .1
@@ -70,15 +73,16 @@ play-events-spec =
     Inv-loop
     μ-loop
     loop-holds
-    slice-aggregate-read-full
-    read-full-requires
+    slice-aggregate-read-events
+    sub-read-events
+    read-events-requires
     slice-aggregate-round
     round-requires
     same-length
     same-length-2
     same-length-3
     returns
-    add-first
+    add-done
     loop-less
     loop-again
     same-length-4
