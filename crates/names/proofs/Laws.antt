@@ -1,18 +1,16 @@
 -- Laws of names, data and reactions, one for a path of the code.
 use Prim.Native.Nat.{ℕ, _+_, _≤_, _<_}
-use mathlib.Core.Path.{_≡_, refl, sym, ap, _∙_}
+use mathlib.Core.Path.{_≡_, refl, ap, _∙_}
 use mathlib.Core.List.{List}
-use mathlib.Core.Bool.{Bool, true, false, not}
+use mathlib.Core.Bool.{Bool, true}
 use lib.IntN.{ℤ, pos, natAbs}
 use lib.Signed.{leZ}
 use borrow.Author.Tests.{lt-ltb, le-ltb}
-use Rattle.sheet.specs.declared.Record.{Record}
 use Rattle.sheet.specs.declared.Range.{Range}
-use Rattle.sheet.specs.All.{_and_, allBelow}
-use Rattle.sheet.specs.Sheet.{recordOf}
-use Rattle.sheet.proofs.All.{and-first, all-fails}
+use Rattle.sheet.specs.All.{_and_}
+use Rattle.sheet.proofs.All.{and-first}
 use Rattle.laris.specs.Fields.{holds, typeAt}
-use Rattle.laris.specs.Types.{hasClass, nameRange, reactsTo, hasReaction}
+use Rattle.laris.specs.Types.{hasClass, nameRange, hasReaction}
 use Rattle.laris.specs.Values.{isZero, inType, chartOf}
 use Rattle.laris.specs.Valid.{dataFit, nameFits, reactionAwaits}
 use Rattle.tests.proofs.Laws.{below-from}
@@ -45,19 +43,7 @@ name-from s k z d h = below-from z _ (and-first _ _ h)
 
 -- ---- reactions
 
--- body j of a chart is no internal reaction to name n
-abbrev pub noReaction : List ℕ → ℕ → ℕ → ℕ → Bool
-noReaction s first n j = not (holds (recordOf s 5 (first + j)) (reactsTo n))
-
-pub reaction-found : (s : List ℕ) (c : Record) (n j : ℕ) → j < c .f5 → holds (recordOf s 5 (c .f4 + j)) (reactsTo n) ≡ true → true ≡ hasReaction s c n
-unfolding hasReaction
-reaction-found s c n j l h = sym (ap not (all-fails (c .f5) (noReaction s (c .f4) n) j l (ap not h)))
-
-pub reaction-none : (s : List ℕ) (c : Record) (n : ℕ) → allBelow (c .f5) (noReaction s (c .f4) n) ≡ true → false ≡ hasReaction s c n
-unfolding hasReaction
-reaction-none s c n h = sym (ap not h)
-
--- the name as a word
+-- the number that a word is
 pub awaits-same : (s : List ℕ) (e n : ℕ) (z : ℤ) → n ≡ natAbs z → reactionAwaits s e (pos n) ≡ reactionAwaits s e z
 unfolding reactionAwaits
 awaits-same s e n z p = ap (λ (m : ℕ). holds (chartOf s e) (λ c. hasReaction s c m)) p

@@ -79,58 +79,58 @@ pub fn type_of(
     let op = r.f0;
     match op {
         1..=6 => Typed::Expression(types::literal_type(r)),
-        7 => types::read_type(sheet, directory, c, b, r),
-        8 => types::not_type(operand_type(sheet, directory, table, c, b, n, r.f1 as usize)),
+        7 => forms::read_type(sheet, directory, c, b, r),
+        8 => forms::not_type(operand_type(sheet, directory, table, c, b, n, r.f1 as usize)),
         9..=16 => {
             let x = operand_type(sheet, directory, table, c, b, n, r.f1 as usize);
             let y = operand_type(sheet, directory, table, c, b, n, r.f2 as usize);
-            types::binary_type(op, x, y)
+            forms::binary_type(op, x, y)
         }
-        17..=18 => types::clock_type(sheet, directory, c, r),
+        17..=18 => forms::clock_type(sheet, directory, c, r),
         32 => Typed::Statement,
         33 => {
             let x = operand_type(sheet, directory, table, c, b, n, r.f3 as usize);
-            types::assign_type(sheet, directory, c, b, r, x)
+            forms::assign_type(sheet, directory, c, b, r, x)
         }
         34 => {
             let x = operand_type(sheet, directory, table, c, b, n, r.f1 as usize);
             let y = operand_type(sheet, directory, table, c, b, n, r.f2 as usize);
             let g = types::name_range(sheet, directory, r.f3 as usize);
             let d = data_match(sheet, directory, table, c, b, n, g, r);
-            types::external_type(sheet, directory, r, x, y, d)
+            sends::external_type(sheet, directory, r, x, y, d)
         }
         35 => {
             let g = types::name_range(sheet, directory, r.f3 as usize);
             let d = data_match(sheet, directory, table, c, b, n, g, r);
-            types::internal_type(sheet, directory, table, c, r, d)
+            sends::internal_type(sheet, directory, table, c, r, d)
         }
         36..=37 => {
             let x = operand_type(sheet, directory, table, c, b, n, r.f2 as usize);
             let g = types::name_range(sheet, directory, r.f3 as usize);
             let d = data_match(sheet, directory, table, c, b, n, g, r);
-            types::arm_type(sheet, directory, table, c, r, x, d)
+            sends::arm_type(sheet, directory, table, c, r, x, d)
         }
-        38..=39 => types::clock_act_type(sheet, directory, c, r),
+        38..=39 => forms::clock_act_type(sheet, directory, c, r),
         40 => {
             let g = types::called_range(sheet, directory, c, r);
             let d = data_match(sheet, directory, table, c, b, n, g, r);
-            types::call_type(sheet, directory, c, r, d)
+            sends::call_type(sheet, directory, c, r, d)
         }
         41 => {
             let x = operand_type(sheet, directory, table, c, b, n, r.f1 as usize);
             let y = operand_type(sheet, directory, table, c, b, n, r.f2 as usize);
             let z = operand_type(sheet, directory, table, c, b, n, r.f3 as usize);
-            types::choice_type(x, y, z)
+            forms::choice_type(x, y, z)
         }
         42 => {
             let x = operand_type(sheet, directory, table, c, b, n, r.f1 as usize);
             let y = operand_type(sheet, directory, table, c, b, n, r.f2 as usize);
-            types::loop_type(x, y)
+            forms::loop_type(x, y)
         }
         43 => {
             let x = operand_type(sheet, directory, table, c, b, n, r.f1 as usize);
             let y = operand_type(sheet, directory, table, c, b, n, r.f2 as usize);
-            types::sequence_type(x, y)
+            forms::sequence_type(x, y)
         }
         _ => Typed::Wrong,
     }

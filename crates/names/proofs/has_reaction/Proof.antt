@@ -5,7 +5,7 @@ use mathlib.Core.Path.{_≡_, refl, sym, ap, _∙_}
 use borrow.Author.Needs.{needs}
 use Rattle.sheet.specs.All.{allBelow}
 use Rattle.sheet.proofs.All.{all-more}
-use Rattle.names.proofs.Laws.{noReaction, reaction-found, reaction-none}
+use Rattle.types.proofs.Table.{noReaction, reaction-found, reaction-none}
 use Rattle.names.proofs.has_reaction.Statement.{statement}
 use Rattle.names.proofs.has_reaction.Tie as tie
 

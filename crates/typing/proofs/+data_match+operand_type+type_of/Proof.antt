@@ -22,23 +22,23 @@ use Rattle.typing.proofs.type_of.Kinds as type-of-kinds
 use Rattle.typing.proofs.+data_match+operand_type+type_of.Lts-type_of as type-of-lts
 use Rattle.fields.proofs.field.Reads as field-reads
 use Rattle.reader.proofs.read.Reads as read-reads
-use Rattle.types.proofs.arm_type.Reads as arm-type-reads
-use Rattle.types.proofs.assign_type.Reads as assign-type-reads
-use Rattle.types.proofs.binary_type.Reads as binary-type-reads
-use Rattle.types.proofs.call_type.Reads as call-type-reads
+use Rattle.sends.proofs.arm_type.Reads as arm-type-reads
+use Rattle.forms.proofs.assign_type.Reads as assign-type-reads
+use Rattle.forms.proofs.binary_type.Reads as binary-type-reads
+use Rattle.sends.proofs.call_type.Reads as call-type-reads
 use Rattle.types.proofs.called_range.Reads as called-range-reads
-use Rattle.types.proofs.choice_type.Reads as choice-type-reads
-use Rattle.types.proofs.clock_act_type.Reads as clock-act-type-reads
-use Rattle.types.proofs.clock_type.Reads as clock-type-reads
-use Rattle.types.proofs.external_type.Reads as external-type-reads
-use Rattle.types.proofs.internal_type.Reads as internal-type-reads
+use Rattle.forms.proofs.choice_type.Reads as choice-type-reads
+use Rattle.forms.proofs.clock_act_type.Reads as clock-act-type-reads
+use Rattle.forms.proofs.clock_type.Reads as clock-type-reads
+use Rattle.sends.proofs.external_type.Reads as external-type-reads
+use Rattle.sends.proofs.internal_type.Reads as internal-type-reads
 use Rattle.types.proofs.is_of.Reads as is-of-reads
 use Rattle.types.proofs.literal_type.Reads as literal-type-reads
-use Rattle.types.proofs.loop_type.Reads as loop-type-reads
+use Rattle.forms.proofs.loop_type.Reads as loop-type-reads
 use Rattle.types.proofs.name_range.Reads as name-range-reads
-use Rattle.types.proofs.not_type.Reads as not-type-reads
-use Rattle.types.proofs.read_type.Reads as read-type-reads
-use Rattle.types.proofs.sequence_type.Reads as sequence-type-reads
+use Rattle.forms.proofs.not_type.Reads as not-type-reads
+use Rattle.forms.proofs.read_type.Reads as read-type-reads
+use Rattle.forms.proofs.sequence_type.Reads as sequence-type-reads
 use Rattle.types.proofs.type_at.Reads as type-at-reads
 use Rattle.typing.proofs.+data_match+operand_type+type_of.{statement}
 use Rattle.typing.proofs.+data_match+operand_type+type_of.Tie.{close}
