@@ -17,7 +17,7 @@ use Rattle.laris.specs.Lists.{StartGives, EventGives}
 use Rattle.passed.proofs.Records.{variables-limit}
 use Rattle.promise.specs.Promise.{StartKept, EventKept}
 use Rattle.promise.proofs.Promise.{promise}
-use Rattle.kinds.specs.Playing.{Playing}
+use Rattle.turns.specs.Playing.{Playing}
 
 pub begun : (s d : List ℕ) (lent : List ℤ) (a : Answer) (st : List ℤ) → d ≡ directoryOf s → checkOf s ≡ Passed → length lent ≡ stateLength s → StartGives s lent a st → a .number ≡ 0 → Playing s d st
 begun s d lent a st e ok l g z = record { directory = e; passed = ok; state = subst (StartKept s) (sym g) (promise s ok .start lent l) .1 z }

@@ -12,7 +12,7 @@ ghost use Rattle.sheet.specs.Sheet.{directoryOf};
 ghost use Rattle.laris.specs.declared.Checked.the-variants.{Passed};
 ghost use Rattle.laris.specs.State.{stateLength};
 ghost use Rattle.laris.specs.Check.{checkOf};
-ghost use Rattle.kinds.specs.Playing.{Playing};
+ghost use Rattle.turns.specs.Playing.{Playing};
 
 // Plays `count` events, the first of which has number `first`.
 fn round(

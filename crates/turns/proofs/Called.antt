@@ -1,11 +1,11 @@
 -- The bodies that events and start run, found by number.
-use Prim.Native.Nat.{ℕ, zero, suc, _+_, _-_, _<_, _≤_}
+use Prim.Native.Nat.{ℕ, _+_, _-_, _<_, _≤_}
 use mathlib.Core.Path.{_≡_, refl, sym, ap, subst, _∙_}
 use mathlib.Core.List.{List, [], _∷_}
 use mathlib.Core.Bool.{Bool, true, false}
 use native.Mathlib.Omega.{arith}
 use native.Mathlib.Decide.{decLt}
-use lib.Dec.{ltb, leb, eqb}
+use lib.Dec.{leb}
 use lib.IntN.{ℤ, pos, natAbs}
 use borrow.Author.Tests.{eqb-true, lt-ltb, le-ltb}
 use Rattle.sheet.specs.declared.Record.{Record}
@@ -17,14 +17,14 @@ use Rattle.sheet.specs.Sheet.{recordOf}
 use Rattle.sheet.proofs.All.{true-false, and-first, and-second, and-true}
 use Rattle.laris.specs.declared.Checked.the-variants.{Passed}
 use Rattle.laris.specs.declared.Telegram.{Telegram}
-use Rattle.laris.specs.Fields.{holds, typeAt, externalsOf}
+use Rattle.laris.specs.Fields.{typeAt, externalsOf}
 use Rattle.laris.specs.Shape.{isReaction}
 use Rattle.laris.specs.Types.{nameRange, reactsTo, hasReaction}
 use Rattle.laris.specs.Static.{bodyOf}
 use Rattle.laris.specs.Values.{isBelow, inType, isBound, chartOf}
 use Rattle.laris.specs.Valid.{dataFit, datumOf}
-use Rattle.laris.specs.Run.{World, datum}
-use Rattle.laris.specs.Play.{Outcome, bodyWhere, hasPanic, isInitial, reactsOn, elementBody, bodyEvent, reacting, panicking, delivered, ranBody}
+use Rattle.laris.specs.Run.{datum}
+use Rattle.laris.specs.Play.{bodyWhere, hasPanic, isInitial, reactsOn, elementBody, bodyEvent, reacting, panicking, delivered, ranBody}
 use Rattle.laris.specs.Check.{checkOf}
 use Rattle.passed.specs.Places.{InChart, Element, StandsAt}
 use Rattle.passed.proofs.Charts.{bound-element, element-chart, where-found, body-there, panic-there, initial-there, reaction-there}
@@ -32,7 +32,7 @@ use Rattle.promise.proofs.Bodies.{brought-so, brought-data, no-parameters}
 use Rattle.turns.specs.Called.{Called}
 use Rattle.turns.proofs.Laws.{element-body, delivered-reaction, delivered-panic, reacting-is, panicking-is, initial-ran}
 
-abbrev fourZeros : List ℤ
+abbrev pub fourZeros : List ℤ
 fourZeros = pos 0 ∷ pos 0 ∷ pos 0 ∷ pos 0 ∷ []
 
 abbrev pub dataIn : Telegram → List ℤ
