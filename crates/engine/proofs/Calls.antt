@@ -1,6 +1,6 @@
 -- What calls come to, path by path.
 use Prim.Native.Nat.{ℕ}
-use mathlib.Core.Path.{_≡_, sym, ap, _∙_}
+use mathlib.Core.Path.{_≡_, sym, ap, subst, _∙_}
 use mathlib.Core.List.{List}
 use mathlib.Core.Bool.{true, false}
 use lib.ListN.{length}
@@ -10,13 +10,13 @@ use Rattle.laris.specs.declared.Answer.{Answer}
 use Rattle.laris.specs.declared.Checked.the-variants.{Passed, Shape, Static}
 use Rattle.laris.specs.declared.Handed.the-variants.{Nothing}
 use Rattle.laris.specs.State.{stateLength}
-use Rattle.laris.specs.Valid.{contentFits}
+use Rattle.laris.specs.Valid.{contentFits, OfSheet}
 use Rattle.laris.specs.Play.{ended, answer, isEvent, happens}
 use Rattle.laris.specs.Check.{checkOf}
 use Rattle.laris.specs.Lists.{EventGives}
 use Rattle.states.proofs.Parts.{of-content, content-of}
 use Rattle.turns.proofs.Laws.{event-shape, event-static, event-old-length, event-result-length, event-content, event-malformed, event-happens}
-use Rattle.kinds.specs.Playing.{Playing}
+use Rattle.turns.specs.Playing.{Playing}
 use Rattle.kinds.proofs.Calls.{down}
 
 -- ---- the next event of a list
@@ -25,8 +25,8 @@ module _ (s d : List ℕ) (st ev : List ℤ) (p : Playing s d st) where
   pub malformed-next : (a : Answer) → a ≡ answer 4 0 Nothing → isEvent s ev ≡ false → EventGives s st st ev a st
   malformed-next a e q = down a 4 0 st _ e (event-malformed s st st ev (p .passed) (p .state .whole) (p .state .whole) (of-content s st (p .state)) q)
 
-  pub happened-next : (a : Answer) (new old : List ℤ) → old ≡ st → isEvent s ev ≡ true → ended a new ≡ happens s old ev → EventGives s st st ev a new
-  happened-next a new old o q e = e ∙ ap (λ o. happens s o ev) o ∙ sym (event-happens s st st ev (p .passed) (p .state .whole) (p .state .whole) (of-content s st (p .state)) q)
+  pub happened-next : (a : Answer) (new : List ℤ) → isEvent s ev ≡ true → ended a new ≡ happens s st ev → EventGives s st st ev a new
+  happened-next a new q e = e ∙ sym (event-happens s st st ev (p .passed) (p .state .whole) (p .state .whole) (of-content s st (p .state)) q)
 
 -- ---- any state and words, on a passed sheet
 
@@ -44,11 +44,11 @@ module _ (s : List ℕ) (old result ev : List ℤ) (ok : checkOf s ≡ Passed) (
     pub malformed-event : (a : Answer) → a ≡ answer 4 0 Nothing → contentFits s old ≡ true → isEvent s ev ≡ false → EventGives s old result ev a result
     malformed-event a e c q = down a 4 0 result _ e (event-malformed s old result ev ok (h ∙ l) (k ∙ l) c q)
 
-    pub happened-event : (a : Answer) (new : List ℤ) → contentFits s old ≡ true → isEvent s ev ≡ true → ended a new ≡ happens s old ev → EventGives s old result ev a new
-    happened-event a new c q e = e ∙ sym (event-happens s old result ev ok (h ∙ l) (k ∙ l) c q)
+    pub happened-event : (a : Answer) (new st : List ℤ) → st ≡ old → contentFits s old ≡ true → isEvent s ev ≡ true → ended a new ≡ happens s st ev → EventGives s old result ev a new
+    happened-event a new st o c q e = e ∙ ap (λ o. happens s o ev) o ∙ sym (event-happens s old result ev ok (h ∙ l) (k ∙ l) c q)
 
-    pub old-plays : (d : List ℕ) → d ≡ directoryOf s → contentFits s old ≡ true → Playing s d old
-    old-plays d q c = record { directory = q; passed = ok; state = content-of s old (h ∙ l) c }
+    pub copy-plays : (d : List ℕ) → d ≡ directoryOf s → contentFits s old ≡ true → (st : List ℤ) → st ≡ old → Playing s d st
+    copy-plays d q c st o = record { directory = q; passed = ok; state = subst (OfSheet s) (sym o) (content-of s old (h ∙ l) c) }
 
 -- ---- any sheet
 

@@ -1,4 +1,5 @@
 // Plays: start, one event, and one event after another.
+use delivery::answered;
 use laris::Answer;
 use laris::Checked;
 use laris::Ran;
@@ -14,10 +15,10 @@ ghost use Rattle.laris.specs.State.{stateLength};
 ghost use Rattle.laris.specs.Play.{isInitial, elementBody, ranBody};
 ghost use Rattle.laris.specs.Check.{checkOf};
 ghost use Rattle.laris.specs.Lists.{StartGives, EventGives};
-ghost use Rattle.kinds.specs.Playing.{Playing};
+ghost use Rattle.turns.specs.Playing.{Playing};
 
 // The next event of a list: the sheet is passed, the state is of it and becomes the state that goes
-// on; `spare` is a second state's room.
+// on; `spare` is a second state's room, used where there may be work to undo.
 pub fn next(
     sheet: &[u8],
     directory: &[usize; 16],
@@ -29,10 +30,13 @@ pub fn next(
     ensures { λ a. ⌜ EventGives (now (sheet .entry)) (now (st .entry)) (now (st .entry)) (now (ev .entry)) a (now (st .exit)) ⌝ }
 {
     if !events::is_event(sheet, directory, ev) {
-        return kinds::answered(4, 0);
+        return answered(4, 0);
     }
-    store::copy(st, spare);
-    kinds::happened(sheet, directory, spare, st, ev)
+    let j = kinds::sought(st, ev);
+    if kinds::may_undo(sheet, directory, st, ev, j) {
+        store::copy(st, spare);
+    }
+    kinds::happened(sheet, directory, spare, st, ev, j)
 }
 
 // An event on any sheet, state and words.
@@ -40,8 +44,8 @@ pub fn event(sheet: &[u8], old: &[i32], result: &mut [i32], ev: &[i32]) -> Answe
     ensures { λ a. ⌜ EventGives (now (sheet .entry)) (now (old .entry)) (now (result .entry)) (now (ev .entry)) a (now (result .exit)) ⌝ }
 {
     match checker::check(sheet) {
-        Checked::Shape => kinds::answered(1, 0),
-        Checked::Static => kinds::answered(2, 0),
+        Checked::Shape => answered(1, 0),
+        Checked::Static => answered(2, 0),
         Checked::Passed => {
             let directory = reader::directory(sheet);
             on_passed(sheet, &directory, old, result, ev)
@@ -61,19 +65,20 @@ fn on_passed(
 {
     let length = content::state_length(sheet, directory);
     if old.len() != length {
-        return kinds::answered(3, 0);
+        return answered(3, 0);
     }
     if result.len() != length {
-        return kinds::answered(3, 0);
+        return answered(3, 0);
     }
     if !content::content_fits(sheet, directory, old) {
-        return kinds::answered(3, 0);
+        return answered(3, 0);
     }
     if !events::is_event(sheet, directory, ev) {
-        return kinds::answered(4, 0);
+        return answered(4, 0);
     }
     store::copy(old, result);
-    kinds::happened(sheet, directory, old, result, ev)
+    let j = kinds::sought(result, ev);
+    kinds::happened(sheet, directory, old, result, ev, j)
 }
 
 // The initial body of element e.
@@ -109,15 +114,15 @@ pub fn begin(sheet: &[u8], directory: &[usize; 16], st: &mut [i32]) -> Answer
             Ran::Refused { number, left } => {
                 let all = steps + (most - left);
                 store::zero(st);
-                return kinds::answered(number, all);
+                return answered(number, all);
             }
             Ran::Stuck => {
-                return kinds::answered(0, 0);
+                return answered(0, 0);
             }
         }
         i += 1;
     }
-    kinds::answered(0, steps)
+    answered(0, steps)
 }
 
 // Start on any sheet and state.
@@ -125,8 +130,8 @@ pub fn start(sheet: &[u8], result: &mut [i32]) -> Answer
     ensures { λ a. ⌜ StartGives (now (sheet .entry)) (now (result .entry)) a (now (result .exit)) ⌝ }
 {
     match checker::check(sheet) {
-        Checked::Shape => kinds::answered(1, 0),
-        Checked::Static => kinds::answered(2, 0),
+        Checked::Shape => answered(1, 0),
+        Checked::Static => answered(2, 0),
         Checked::Passed => {
             let directory = reader::directory(sheet);
             start_passed(sheet, &directory, result)
@@ -139,7 +144,7 @@ fn start_passed(sheet: &[u8], directory: &[usize; 16], result: &mut [i32]) -> An
     ensures { λ a. ⌜ StartGives (now (sheet .entry)) (now (result .entry)) a (now (result .exit)) ⌝ }
 {
     if result.len() != content::state_length(sheet, directory) {
-        return kinds::answered(3, 0);
+        return answered(3, 0);
     }
     begin(sheet, directory, result)
 }

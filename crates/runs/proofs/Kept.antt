@@ -19,7 +19,7 @@ use Rattle.passed.proofs.Records.{variables-limit}
 use Rattle.promise.specs.Promise.{StartKept, EventKept}
 use Rattle.promise.proofs.Promise.{promise}
 use Rattle.turns.proofs.Laws.{start-shape, start-static, start-is}
-use Rattle.kinds.specs.Playing.{Playing}
+use Rattle.turns.specs.Playing.{Playing}
 use Rattle.runs.specs.Start.{StartAnswers}
 
 module _ (s : List ℕ) where

@@ -10,7 +10,7 @@ ghost use Rattle.sheet.specs.Sheet.{directoryOf};
 ghost use Rattle.laris.specs.declared.Checked.the-variants.{Passed};
 ghost use Rattle.laris.specs.State.{stateLength};
 ghost use Rattle.laris.specs.Check.{checkOf};
-ghost use Rattle.kinds.specs.Playing.{Playing};
+ghost use Rattle.turns.specs.Playing.{Playing};
 ghost use Rattle.runs.specs.Start.{StartAnswers};
 
 // Plays `count` events, before which `done` were played.

@@ -32,7 +32,7 @@ use Rattle.promise.proofs.Bodies.{brought-so, brought-data, no-parameters}
 use Rattle.turns.specs.Called.{Called}
 use Rattle.turns.proofs.Laws.{element-body, delivered-reaction, delivered-panic, reacting-is, panicking-is, initial-ran}
 
-abbrev fourZeros : List ℤ
+abbrev pub fourZeros : List ℤ
 fourZeros = pos 0 ∷ pos 0 ∷ pos 0 ∷ pos 0 ∷ []
 
 abbrev pub dataIn : Telegram → List ℤ

@@ -1,2 +1,4 @@
 pub mod Laws
 pub mod Called
+pub mod Taken
+pub mod Received

@@ -1,9 +1,11 @@
+use mathlib.Core.Path.{_≡_, sym, ap, _∙_}
+use mathlib.Core.Bool.{true}
+use lib.ListN.{length}
 use borrow.Author.Tests.{not-true, not-false}
-use mathlib.Core.Path.{_≡_, refl, sym, ap, subst, _∙_}
 use borrow.Author.Needs.{needs}
-use denote.Ref.{now as nowOf}
-use Rattle.kinds.specs.Playing.{Playing}
-use Rattle.engine.proofs.Calls.{old-long, result-long, other-content, malformed-event, happened-event, old-plays}
+use Rattle.turns.proofs.Taken.{nine, kind-from-0}
+use Rattle.queue.proofs.Laws.{laid}
+use Rattle.engine.proofs.Calls.{old-long, result-long, other-content, malformed-event, happened-event, copy-plays}
 use Rattle.engine.proofs.on_passed.Statement.{statement}
 use Rattle.engine.proofs.on_passed.Tie as tie
 
@@ -43,14 +45,17 @@ returns-4 c = malformed-event _ _ _ _ (c .before .before .before .before .before
 copy-requires : tie.Need-copy-requires
 copy-requires c κs = search needs
 
+sought-requires : tie.Need-sought-requires
+sought-requires c κs = (laid _ _ (copy-plays _ _ (c .before .before .before .before .before .before .before .before .before .before .before .before .args .result .now) (c .before .before .before .before .before .before .before .before .before .before .before .before .args .ev .now) (c .before .before .before .before .before .before .before .before .before .before .before .before .pre .1) _ (c .before .before .before .before .before .before .before .before .before .before .state-length .ensures) (c .before .before .before .before .before .before .before .before .before .if1 .left) (c .before .before .before .before .before .before .before .before .if2 .left) _ (c .before .before .before .before .before .before .before .before .before .before .before .before .pre .0) (sym (c .before .before .before .before .before .before .before .content-fits .ensures) ∙ not-false _ (c .before .before .before .before .before .before .if3 .left)) _ (c .before .before .copy .ensures) .state), nine _ _ (sym (c .before .before .before .before .before .is-event .ensures) ∙ not-false _ (c .before .before .before .before .if4 .left)), kind-from-0 _ _ (sym (c .before .before .before .before .before .is-event .ensures) ∙ not-false _ (c .before .before .before .before .if4 .left)))
+
 happened-requires : tie.Need-happened-requires
-happened-requires c κs = (subst (Playing (nowOf (c .before .before .before .before .before .before .before .before .before .before .before .before .args .sheet)) (nowOf (c .before .before .before .before .before .before .before .before .before .before .before .before .args .directory))) (sym (c .before .before .copy .ensures)) (old-plays _ _ (nowOf (c .before .before .before .before .before .before .before .before .before .before .before .before .args .result)) (nowOf (c .before .before .before .before .before .before .before .before .before .before .before .before .args .ev)) (c .before .before .before .before .before .before .before .before .before .before .before .before .pre .1) _ (c .before .before .before .before .before .before .before .before .before .before .state-length .ensures) (c .before .before .before .before .before .before .before .before .before .if1 .left) (c .before .before .before .before .before .before .before .before .if2 .left) _ (c .before .before .before .before .before .before .before .before .before .before .before .before .pre .0) (sym (c .before .before .before .before .before .before .before .content-fits .ensures) ∙ not-false _ (c .before .before .before .before .before .before .if3 .left))), sym (c .before .before .copy .ensures), sym (c .before .before .before .before .before .is-event .ensures) ∙ not-false _ (c .before .before .before .before .if4 .left))
+happened-requires c κs = let p = copy-plays _ _ (c .before .before .before .before .before .before .before .before .before .before .before .before .before .before .args .result .now) (c .before .before .before .before .before .before .before .before .before .before .before .before .before .before .args .ev .now) (c .before .before .before .before .before .before .before .before .before .before .before .before .before .before .pre .1) _ (c .before .before .before .before .before .before .before .before .before .before .before .before .state-length .ensures) (c .before .before .before .before .before .before .before .before .before .before .before .if1 .left) (c .before .before .before .before .before .before .before .before .before .before .if2 .left) _ (c .before .before .before .before .before .before .before .before .before .before .before .before .before .before .pre .0) (sym (c .before .before .before .before .before .before .before .before .before .content-fits .ensures) ∙ not-false _ (c .before .before .before .before .before .before .before .before .if3 .left)) _ (c .before .before .before .before .copy .ensures) in (p, (sym (c .before .before .before .before .before .before .before .is-event .ensures) ∙ not-false _ (c .before .before .before .before .before .before .if4 .left)), c .before .sought .ensures _ (p .state .whole), ap length (sym (c .before .before .before .before .copy .ensures)), λ u. sym (c .before .before .before .before .copy .ensures))
 
 same-length : tie.Need-same-length
 same-length c = search needs
 
 returns-5 : tie.Need-returns-5
-returns-5 c = happened-event _ _ _ _ (c .before .before .before .before .before .before .before .before .before .before .before .before .before .before .pre .1) _ (c .before .before .before .before .before .before .before .before .before .before .before .before .state-length .ensures) (c .before .before .before .before .before .before .before .before .before .before .before .if1 .left) (c .before .before .before .before .before .before .before .before .before .before .if2 .left) _ _ (sym (c .before .before .before .before .before .before .before .before .before .content-fits .ensures) ∙ not-false _ (c .before .before .before .before .before .before .before .before .if3 .left)) (sym (c .before .before .before .before .before .before .before .is-event .ensures) ∙ not-false _ (c .before .before .before .before .before .before .if4 .left)) (c .before .happened .ensures)
+returns-5 c = happened-event _ _ _ _ (c .before .before .before .before .before .before .before .before .before .before .before .before .before .before .before .before .pre .1) _ (c .before .before .before .before .before .before .before .before .before .before .before .before .before .before .state-length .ensures) (c .before .before .before .before .before .before .before .before .before .before .before .before .before .if1 .left) (c .before .before .before .before .before .before .before .before .before .before .before .before .if2 .left) _ _ _ (c .before .before .before .before .before .before .copy .ensures) (sym (c .before .before .before .before .before .before .before .before .before .before .before .content-fits .ensures) ∙ not-false _ (c .before .before .before .before .before .before .before .before .before .before .if3 .left)) (sym (c .before .before .before .before .before .before .before .before .before .is-event .ensures) ∙ not-false _ (c .before .before .before .before .before .before .before .before .if4 .left)) (c .before .happened .ensures)
 
 pub on-passed-spec : {M : Type 1} → statement M
 on-passed-spec =
@@ -68,6 +73,7 @@ on-passed-spec =
     answered-requires-4
     returns-4
     copy-requires
+    sought-requires
     happened-requires
     same-length
     returns-5)

@@ -1,73 +1,86 @@
-use mathlib.Core.Path.{_≡_, refl, sym, ap, _∙_}
+use mathlib.Core.Path.{_≡_, sym, ap, subst, _∙_}
 use native.Mathlib.Omega.{arith}
+use lib.ListN.{length}
+use lib.IntN.{pos, natAbs}
+use lib.Signed.{leZ}
 use borrow.Author.Needs.{needs}
-use Rattle.tests.proofs.Laws.{read-back}
-use Rattle.kinds.proofs.Calls.{long, nine-words, kind-from-0, corrupt-bound, as-outside, outside-old, as-deliver, as-corrupt, as-inner, as-slice}
+use Rattle.states.proofs.Parts.{waiting-limit}
+use Rattle.turns.proofs.Taken.{nine, kind-from-0, as-outside, slice-copied, as-slice, none-happens, taken-fits, taken-kept, taken-outer, taken-inner, corrupt-bound, as-deliver, as-corrupt, as-inner}
+use Rattle.turns.proofs.Received.{receiver-number}
+use Rattle.store.proofs.Laws.{given}
+use Rattle.queue.proofs.Laws.{laid}
+use Rattle.kinds.proofs.Calls.{down}
 use Rattle.kinds.proofs.happened.Statement.{statement}
 use Rattle.kinds.proofs.happened.Tie as tie
 
 number-at-requires : tie.Need-number-at-requires
-number-at-requires c κs = (long _ _ (c .before .pre .2) 0 (omega arith), kind-from-0 _ _ (c .before .pre .2))
+number-at-requires c κs = (omega (arith, nine _ _ (c .before .pre .1)), kind-from-0 _ _ (c .before .pre .1))
 
 sent-outside-requires : tie.Need-sent-outside-requires
-sent-outside-requires c κs = (c .before .before .before .before .pre .0, nine-words _ _ (c .before .before .before .before .pre .2))
-
-word-requires : tie.Need-word-requires
-word-requires c κs = long _ _ (c .before .before .before .pre .2) 1 (omega arith)
-
-word-requires-2 : tie.Need-word-requires-2
-word-requires-2 c κs = long _ _ (c .before .before .before .before .pre .2) 2 (omega arith)
-
-delivers-requires : tie.Need-delivers-requires
-delivers-requires c κs = search needs
-
-word-requires-3 : tie.Need-word-requires-3
-word-requires-3 c κs = long _ _ (c .before .before .before .pre .2) 1 (omega arith)
-
-word-requires-4 : tie.Need-word-requires-4
-word-requires-4 c κs = long _ _ (c .before .before .before .before .pre .2) 2 (omega arith)
-
-corrupts-requires : tie.Need-corrupts-requires
-corrupts-requires c κs = (c .before .before .before .before .before .before .pre .0, c .before .before .before .before .before .before .pre .1, corrupt-bound _ _ (c .before .before .before .before .before .before .pre .2) _ (c .before .before .before .before .number-at .ensures) (c .before .before .before .match .keys3) _ (read-back _ _ (c .before .word4 .ensures .0) (c .before .word4 .ensures .1)) .0, corrupt-bound _ _ (c .before .before .before .before .before .before .pre .2) _ (c .before .before .before .before .number-at .ensures) (c .before .before .before .match .keys3) _ (read-back _ _ (c .before .word4 .ensures .0) (c .before .word4 .ensures .1)) .1)
-
-word-requires-5 : tie.Need-word-requires-5
-word-requires-5 c κs = long _ _ (c .before .before .before .pre .2) 2 (omega arith)
-
-inners-requires : tie.Need-inners-requires
-inners-requires c κs = search needs
-
-sliced-requires : tie.Need-sliced-requires
-sliced-requires c κs = search needs
+sent-outside-requires c κs = (c .before .before .before .before .pre .0, nine _ _ (c .before .before .before .before .pre .1))
 
 same-length : tie.Need-same-length
 same-length c = search needs
 
 returns : tie.Need-returns
-returns c = as-outside _ _ (c .before .before .before .before .before .before .pre .2) _ _ _ (c .before .before .before .before .number-at .ensures) (c .before .before .before .match .keys1) (outside-old _ _ _ _ _ (c .before .before .before .before .before .before .pre .1) (c .before .sent-outside .ensures))
+returns c = as-outside _ _ _ (c .before .before .before .before .before .before .pre .1) _ (c .before .before .before .before .number-at .ensures) (c .before .before .before .if1 .taken) _ (c .before .sent-outside .ensures)
+
+sliced-requires : tie.Need-sliced-requires
+sliced-requires c κs = (c .before .before .before .before .before .pre .0, slice-copied _ _ _ (c .before .before .before .before .before .pre .1) _ (c .before .before .before .number-at .ensures) _ (c .before .before .before .before .before .pre .4) (c .before .if2 .taken))
 
 same-length-2 : tie.Need-same-length-2
 same-length-2 c = search needs
 
 returns-2 : tie.Need-returns-2
-returns-2 c = as-deliver _ _ (c .before .before .before .before .before .before .before .before .pre .2) _ _ _ (c .before .before .before .before .before .before .number-at .ensures) (c .before .before .before .before .before .match .keys2) _ _ (read-back _ _ (c .before .before .before .before .word .ensures .0) (c .before .before .before .before .word .ensures .1)) (read-back _ _ (c .before .before .before .word2 .ensures .0) (c .before .before .before .word2 .ensures .1)) (c .before .delivers .ensures)
+returns-2 c = as-slice _ _ _ (c .before .before .before .before .before .before .before .pre .1) _ (c .before .before .before .before .before .number-at .ensures) _ (c .before .before .before .before .before .before .before .pre .4) (c .before .before .before .if2 .taken) _ (c .before .sliced .ensures)
+
+waiting-count-requires : tie.Need-waiting-count-requires
+waiting-count-requires c κs = laid _ _ (c .before .before .before .before .before .pre .0 .state)
+
+answered-requires : tie.Need-answered-requires
+answered-requires c κs = search needs
 
 same-length-3 : tie.Need-same-length-3
 same-length-3 c = search needs
 
 returns-3 : tie.Need-returns-3
-returns-3 c = as-corrupt _ _ (c .before .before .before .before .before .before .before .before .pre .2) _ _ _ (c .before .before .before .before .before .before .number-at .ensures) (c .before .before .before .before .before .match .keys3) _ _ (read-back _ _ (c .before .before .before .before .word3 .ensures .0) (c .before .before .before .before .word3 .ensures .1)) (read-back _ _ (c .before .before .before .word4 .ensures .0) (c .before .before .before .word4 .ensures .1)) (c .before .corrupts .ensures)
+returns-3 c = down _ 5 0 _ _ (c .answered .ensures) (none-happens _ _ _ (c .before .before .before .before .before .before .before .before .pre .1) _ (c .before .before .before .before .before .before .number-at .ensures) (c .before .before .before .before .before .if1 .left) (c .before .before .before .before .if2 .left) _ (c .before .before .before .before .before .before .before .before .pre .2) _ (c .before .before .waiting-count .ensures) (c .before .if3 .taken))
+
+telegram-at-requires : tie.Need-telegram-at-requires
+telegram-at-requires c κs = (laid _ _ (c .before .before .before .before .before .before .before .before .pre .0 .state) .long, omega (arith, waiting-limit _ _ (c .before .before .before .before .before .before .before .before .pre .0 .state), c .before .before .waiting-count .ensures, c .before .if3 .left))
+
+remove-requires : tie.Need-remove-requires
+remove-requires c κs = (laid _ _ (c .before .before .before .before .before .before .before .before .before .before .pre .0 .state), omega (arith, c .before .before .before .before .waiting-count .ensures, c .before .before .before .if3 .left))
+
+delivers-requires : tie.Need-delivers-requires
+delivers-requires c κs = (record { directory = c .before .before .before .before .before .before .before .before .before .before .before .before .before .before .pre .0 .directory; passed = c .before .before .before .before .before .before .before .before .before .before .before .before .before .before .pre .0 .passed; state = taken-kept _ _ _ (c .before .before .before .before .before .before .before .before .before .before .before .before .before .before .pre .1) _ (c .before .before .before .before .before .before .before .before .before .before .before .before .number-at .ensures) (c .before .before .before .before .before .before .before .before .before .before .before .if1 .left) (c .before .before .before .before .before .before .before .before .before .before .if2 .left) _ (c .before .before .before .before .before .before .before .before .before .before .before .before .before .before .pre .2) _ (c .before .before .before .before .before .before .before .before .waiting-count .ensures) (c .before .before .before .before .before .before .before .if3 .left) (c .before .before .before .before .before .before .before .before .before .before .before .before .before .before .pre .0 .state) _ (c .before .before .before .before .before .telegram-at .ensures _ (c .before .before .before .before .before .before .before .before .before .before .before .before .before .before .pre .0 .state .whole)) _ (c .before .before .before .remove .ensures _ (c .before .before .before .before .before .before .before .before .before .before .before .before .before .before .pre .0 .state)) }, (c .before .before .before .before .before .before .before .before .before .before .before .before .before .before .pre .3 ∙ c .before .before .before .before .before .before .before .before .before .before .before .before .before .before .pre .0 .state .whole ∙ sym (taken-kept _ _ _ (c .before .before .before .before .before .before .before .before .before .before .before .before .before .before .pre .1) _ (c .before .before .before .before .before .before .before .before .before .before .before .before .number-at .ensures) (c .before .before .before .before .before .before .before .before .before .before .before .if1 .left) (c .before .before .before .before .before .before .before .before .before .before .if2 .left) _ (c .before .before .before .before .before .before .before .before .before .before .before .before .before .before .pre .2) _ (c .before .before .before .before .before .before .before .before .waiting-count .ensures) (c .before .before .before .before .before .before .before .if3 .left) (c .before .before .before .before .before .before .before .before .before .before .before .before .before .before .pre .0 .state) _ (c .before .before .before .before .before .telegram-at .ensures _ (c .before .before .before .before .before .before .before .before .before .before .before .before .before .before .pre .0 .state .whole)) _ (c .before .before .before .remove .ensures _ (c .before .before .before .before .before .before .before .before .before .before .before .before .before .before .pre .0 .state)) .whole)), taken-fits _ _ _ (c .before .before .before .before .before .before .before .before .before .before .before .before .before .before .pre .1) _ (c .before .before .before .before .before .before .before .before .before .before .before .before .number-at .ensures) (c .before .before .before .before .before .before .before .before .before .before .before .if1 .left) (c .before .before .before .before .before .before .before .before .before .before .if2 .left) _ (c .before .before .before .before .before .before .before .before .before .before .before .before .before .before .pre .2) _ (c .before .before .before .before .before .before .before .before .waiting-count .ensures) (c .before .before .before .before .before .before .before .if3 .left) (c .before .before .before .before .before .before .before .before .before .before .before .before .before .before .pre .0 .state) _ (c .before .before .before .before .before .telegram-at .ensures _ (c .before .before .before .before .before .before .before .before .before .before .before .before .before .before .pre .0 .state .whole)) _ (c .before .before .before .remove .ensures _ (c .before .before .before .before .before .before .before .before .before .before .before .before .before .before .pre .0 .state)), taken-outer _ _ _ (c .before .before .before .before .before .before .before .before .before .before .before .before .before .before .pre .1) _ (c .before .before .before .before .before .before .before .before .before .before .before .before .number-at .ensures) (c .before .before .before .before .before .before .before .before .before .before .before .if1 .left) (c .before .before .before .before .before .before .before .before .before .before .if2 .left) _ (c .before .before .before .before .before .before .before .before .before .before .before .before .before .before .pre .2) _ (c .before .before .before .before .before .before .before .before .waiting-count .ensures) (c .before .before .before .before .before .before .before .if3 .left) (c .before .before .before .before .before .before .before .before .before .before .before .before .before .before .pre .0 .state) _ (c .before .before .before .before .before .telegram-at .ensures _ (c .before .before .before .before .before .before .before .before .before .before .before .before .before .before .pre .0 .state .whole)) _ (c .before .before .before .remove .ensures _ (c .before .before .before .before .before .before .before .before .before .before .before .before .before .before .pre .0 .state)) (c .before .match .keys1))
+
+number-requires : tie.Need-number-requires
+number-requires c κs = ap (leZ (pos 0)) (given (c .before .before .before .before .before .before .telegram-at .result .receiver) (c .struct-told .given .1 .0 .1)) ∙ receiver-number _ (c .before .before .before .before .before .before .before .before .before .before .before .before .before .before .before .pre .0 .passed) _ (taken-fits _ _ _ (c .before .before .before .before .before .before .before .before .before .before .before .before .before .before .before .pre .1) _ (c .before .before .before .before .before .before .before .before .before .before .before .before .before .number-at .ensures) (c .before .before .before .before .before .before .before .before .before .before .before .before .if1 .left) (c .before .before .before .before .before .before .before .before .before .before .before .if2 .left) _ (c .before .before .before .before .before .before .before .before .before .before .before .before .before .before .before .pre .2) _ (c .before .before .before .before .before .before .before .before .before .waiting-count .ensures) (c .before .before .before .before .before .before .before .before .if3 .left) (c .before .before .before .before .before .before .before .before .before .before .before .before .before .before .before .pre .0 .state) _ (c .before .before .before .before .before .before .telegram-at .ensures _ (c .before .before .before .before .before .before .before .before .before .before .before .before .before .before .before .pre .0 .state .whole)) _ (c .before .before .before .before .remove .ensures _ (c .before .before .before .before .before .before .before .before .before .before .before .before .before .before .before .pre .0 .state)))
+
+panicked-requires : tie.Need-panicked-requires
+panicked-requires c κs = (record { directory = c .before .before .before .before .before .before .before .before .before .before .before .before .before .before .before .before .pre .0 .directory; passed = c .before .before .before .before .before .before .before .before .before .before .before .before .before .before .before .before .pre .0 .passed; state = taken-kept _ _ _ (c .before .before .before .before .before .before .before .before .before .before .before .before .before .before .before .before .pre .1) _ (c .before .before .before .before .before .before .before .before .before .before .before .before .before .before .number-at .ensures) (c .before .before .before .before .before .before .before .before .before .before .before .before .before .if1 .left) (c .before .before .before .before .before .before .before .before .before .before .before .before .if2 .left) _ (c .before .before .before .before .before .before .before .before .before .before .before .before .before .before .before .before .pre .2) _ (c .before .before .before .before .before .before .before .before .before .before .waiting-count .ensures) (c .before .before .before .before .before .before .before .before .before .if3 .left) (c .before .before .before .before .before .before .before .before .before .before .before .before .before .before .before .before .pre .0 .state) _ (c .before .before .before .before .before .before .before .telegram-at .ensures _ (c .before .before .before .before .before .before .before .before .before .before .before .before .before .before .before .before .pre .0 .state .whole)) _ (c .before .before .before .before .before .remove .ensures _ (c .before .before .before .before .before .before .before .before .before .before .before .before .before .before .before .before .pre .0 .state)) }, (c .before .before .before .before .before .before .before .before .before .before .before .before .before .before .before .before .pre .3 ∙ c .before .before .before .before .before .before .before .before .before .before .before .before .before .before .before .before .pre .0 .state .whole ∙ sym (taken-kept _ _ _ (c .before .before .before .before .before .before .before .before .before .before .before .before .before .before .before .before .pre .1) _ (c .before .before .before .before .before .before .before .before .before .before .before .before .before .before .number-at .ensures) (c .before .before .before .before .before .before .before .before .before .before .before .before .before .if1 .left) (c .before .before .before .before .before .before .before .before .before .before .before .before .if2 .left) _ (c .before .before .before .before .before .before .before .before .before .before .before .before .before .before .before .before .pre .2) _ (c .before .before .before .before .before .before .before .before .before .before .waiting-count .ensures) (c .before .before .before .before .before .before .before .before .before .if3 .left) (c .before .before .before .before .before .before .before .before .before .before .before .before .before .before .before .before .pre .0 .state) _ (c .before .before .before .before .before .before .before .telegram-at .ensures _ (c .before .before .before .before .before .before .before .before .before .before .before .before .before .before .before .before .pre .0 .state .whole)) _ (c .before .before .before .before .before .remove .ensures _ (c .before .before .before .before .before .before .before .before .before .before .before .before .before .before .before .before .pre .0 .state)) .whole)), corrupt-bound _ _ _ (c .before .before .before .before .before .before .before .before .before .before .before .before .before .before .before .before .pre .1) _ (c .before .before .before .before .before .before .before .before .before .before .before .before .before .before .number-at .ensures) (c .before .before .before .before .before .before .before .before .before .before .before .before .before .if1 .left) (c .before .before .before .before .before .before .before .before .before .before .before .before .if2 .left) _ (c .before .before .before .before .before .before .before .before .before .before .before .before .before .before .before .before .pre .2) _ (c .before .before .before .before .before .before .before .before .before .before .waiting-count .ensures) (c .before .before .before .before .before .before .before .before .before .if3 .left) (c .before .before .before .before .before .before .before .before .before .before .before .before .before .before .before .before .pre .0 .state) _ (c .before .before .before .before .before .before .before .telegram-at .ensures _ (c .before .before .before .before .before .before .before .before .before .before .before .before .before .before .before .before .pre .0 .state .whole)) _ (c .before .before .before .before .before .remove .ensures _ (c .before .before .before .before .before .before .before .before .before .before .before .before .before .before .before .before .pre .0 .state)) (c .before .before .before .match .keys2) _ (c .number .ensures ∙ ap natAbs (given (c .before .before .before .before .before .before .before .telegram-at .result .receiver) (c .before .struct-told .given .1 .0 .1))))
+
+reacts-requires : tie.Need-reacts-requires
+reacts-requires c κs = (record { directory = c .before .before .before .before .before .before .before .before .before .before .before .before .before .before .pre .0 .directory; passed = c .before .before .before .before .before .before .before .before .before .before .before .before .before .before .pre .0 .passed; state = taken-kept _ _ _ (c .before .before .before .before .before .before .before .before .before .before .before .before .before .before .pre .1) _ (c .before .before .before .before .before .before .before .before .before .before .before .before .number-at .ensures) (c .before .before .before .before .before .before .before .before .before .before .before .if1 .left) (c .before .before .before .before .before .before .before .before .before .before .if2 .left) _ (c .before .before .before .before .before .before .before .before .before .before .before .before .before .before .pre .2) _ (c .before .before .before .before .before .before .before .before .waiting-count .ensures) (c .before .before .before .before .before .before .before .if3 .left) (c .before .before .before .before .before .before .before .before .before .before .before .before .before .before .pre .0 .state) _ (c .before .before .before .before .before .telegram-at .ensures _ (c .before .before .before .before .before .before .before .before .before .before .before .before .before .before .pre .0 .state .whole)) _ (c .before .before .before .remove .ensures _ (c .before .before .before .before .before .before .before .before .before .before .before .before .before .before .pre .0 .state)) }, (c .before .before .before .before .before .before .before .before .before .before .before .before .before .before .pre .3 ∙ c .before .before .before .before .before .before .before .before .before .before .before .before .before .before .pre .0 .state .whole ∙ sym (taken-kept _ _ _ (c .before .before .before .before .before .before .before .before .before .before .before .before .before .before .pre .1) _ (c .before .before .before .before .before .before .before .before .before .before .before .before .number-at .ensures) (c .before .before .before .before .before .before .before .before .before .before .before .if1 .left) (c .before .before .before .before .before .before .before .before .before .before .if2 .left) _ (c .before .before .before .before .before .before .before .before .before .before .before .before .before .before .pre .2) _ (c .before .before .before .before .before .before .before .before .waiting-count .ensures) (c .before .before .before .before .before .before .before .if3 .left) (c .before .before .before .before .before .before .before .before .before .before .before .before .before .before .pre .0 .state) _ (c .before .before .before .before .before .telegram-at .ensures _ (c .before .before .before .before .before .before .before .before .before .before .before .before .before .before .pre .0 .state .whole)) _ (c .before .before .before .remove .ensures _ (c .before .before .before .before .before .before .before .before .before .before .before .before .before .before .pre .0 .state)) .whole)), taken-fits _ _ _ (c .before .before .before .before .before .before .before .before .before .before .before .before .before .before .pre .1) _ (c .before .before .before .before .before .before .before .before .before .before .before .before .number-at .ensures) (c .before .before .before .before .before .before .before .before .before .before .before .if1 .left) (c .before .before .before .before .before .before .before .before .before .before .if2 .left) _ (c .before .before .before .before .before .before .before .before .before .before .before .before .before .before .pre .2) _ (c .before .before .before .before .before .before .before .before .waiting-count .ensures) (c .before .before .before .before .before .before .before .if3 .left) (c .before .before .before .before .before .before .before .before .before .before .before .before .before .before .pre .0 .state) _ (c .before .before .before .before .before .telegram-at .ensures _ (c .before .before .before .before .before .before .before .before .before .before .before .before .before .before .pre .0 .state .whole)) _ (c .before .before .before .remove .ensures _ (c .before .before .before .before .before .before .before .before .before .before .before .before .before .before .pre .0 .state)), taken-inner _ _ _ (c .before .before .before .before .before .before .before .before .before .before .before .before .before .before .pre .1) _ (c .before .before .before .before .before .before .before .before .before .before .before .before .number-at .ensures) (c .before .before .before .before .before .before .before .before .before .before .before .if1 .left) (c .before .before .before .before .before .before .before .before .before .before .if2 .left) _ (c .before .before .before .before .before .before .before .before .before .before .before .before .before .before .pre .2) _ (c .before .before .before .before .before .before .before .before .waiting-count .ensures) (c .before .before .before .before .before .before .before .if3 .left) (c .before .before .before .before .before .before .before .before .before .before .before .before .before .before .pre .0 .state) _ (c .before .before .before .before .before .telegram-at .ensures _ (c .before .before .before .before .before .before .before .before .before .before .before .before .before .before .pre .0 .state .whole)) _ (c .before .before .before .remove .ensures _ (c .before .before .before .before .before .before .before .before .before .before .before .before .before .before .pre .0 .state)) (c .before .match .rest .0 .1) (c .before .match .rest .1))
 
 same-length-4 : tie.Need-same-length-4
 same-length-4 c = search needs
 
 returns-4 : tie.Need-returns-4
-returns-4 c = as-inner _ _ (c .before .before .before .before .before .before .before .pre .2) _ _ _ (c .before .before .before .before .before .number-at .ensures) (c .before .before .before .before .match .keys4) _ (read-back _ _ (c .before .before .before .word5 .ensures .0) (c .before .before .before .word5 .ensures .1)) (c .before .inners .ensures)
+returns-4 c = as-deliver _ _ _ (c .before .before .before .before .before .before .before .before .before .before .before .before .before .before .before .before .pre .1) _ (c .before .before .before .before .before .before .before .before .before .before .before .before .before .before .number-at .ensures) (c .before .before .before .before .before .before .before .before .before .before .before .before .before .if1 .left) (c .before .before .before .before .before .before .before .before .before .before .before .before .if2 .left) _ (c .before .before .before .before .before .before .before .before .before .before .before .before .before .before .before .before .pre .2) _ (c .before .before .before .before .before .before .before .before .before .before .waiting-count .ensures) (c .before .before .before .before .before .before .before .before .before .if3 .left) (c .before .before .before .before .before .before .before .before .before .before .before .before .before .before .before .before .pre .0 .state) _ (c .before .before .before .before .before .before .before .telegram-at .ensures _ (c .before .before .before .before .before .before .before .before .before .before .before .before .before .before .before .before .pre .0 .state .whole)) _ (c .before .before .before .before .before .remove .ensures _ (c .before .before .before .before .before .before .before .before .before .before .before .before .before .before .before .before .pre .0 .state)) _ (c .before .before .before .before .before .before .before .before .before .before .before .before .before .before .before .before .pre .4) _ (c .before .before .before .match .keys1) (c .before .delivers .ensures)
 
 same-length-5 : tie.Need-same-length-5
 same-length-5 c = search needs
 
 returns-5 : tie.Need-returns-5
-returns-5 c = as-slice _ _ (c .before .before .before .before .before .before .pre .2) _ _ _ (c .before .before .before .before .number-at .ensures) (c .before .before .before .match .rest .0 .0 .0 .1) (c .before .before .before .match .rest .0 .0 .1) (c .before .before .before .match .rest .0 .1) (c .before .before .before .match .rest .1) (c .before .sliced .ensures)
+returns-5 c = as-corrupt _ _ _ (c .before .before .before .before .before .before .before .before .before .before .before .before .before .before .before .before .before .before .pre .1) _ (c .before .before .before .before .before .before .before .before .before .before .before .before .before .before .before .before .number-at .ensures) (c .before .before .before .before .before .before .before .before .before .before .before .before .before .before .before .if1 .left) (c .before .before .before .before .before .before .before .before .before .before .before .before .before .before .if2 .left) _ (c .before .before .before .before .before .before .before .before .before .before .before .before .before .before .before .before .before .before .pre .2) _ (c .before .before .before .before .before .before .before .before .before .before .before .before .waiting-count .ensures) (c .before .before .before .before .before .before .before .before .before .before .before .if3 .left) (c .before .before .before .before .before .before .before .before .before .before .before .before .before .before .before .before .before .before .pre .0 .state) _ (c .before .before .before .before .before .before .before .before .before .telegram-at .ensures _ (c .before .before .before .before .before .before .before .before .before .before .before .before .before .before .before .before .before .before .pre .0 .state .whole)) _ (c .before .before .before .before .before .before .before .remove .ensures _ (c .before .before .before .before .before .before .before .before .before .before .before .before .before .before .before .before .before .before .pre .0 .state)) _ (c .before .before .before .before .before .before .before .before .before .before .before .before .before .before .before .before .before .before .pre .4) _ (c .before .before .before .before .before .match .keys2) _ (c .before .before .number .ensures ∙ ap natAbs (given (c .before .before .before .before .before .before .before .before .before .telegram-at .result .receiver) (c .before .before .before .struct-told .given .1 .0 .1))) (c .before .panicked .ensures)
+
+same-length-6 : tie.Need-same-length-6
+same-length-6 c = search needs
+
+returns-6 : tie.Need-returns-6
+returns-6 c = as-inner _ _ _ (c .before .before .before .before .before .before .before .before .before .before .before .before .before .before .before .before .pre .1) _ (c .before .before .before .before .before .before .before .before .before .before .before .before .before .before .number-at .ensures) (c .before .before .before .before .before .before .before .before .before .before .before .before .before .if1 .left) (c .before .before .before .before .before .before .before .before .before .before .before .before .if2 .left) _ (c .before .before .before .before .before .before .before .before .before .before .before .before .before .before .before .before .pre .2) _ (c .before .before .before .before .before .before .before .before .before .before .waiting-count .ensures) (c .before .before .before .before .before .before .before .before .before .if3 .left) (c .before .before .before .before .before .before .before .before .before .before .before .before .before .before .before .before .pre .0 .state) _ (c .before .before .before .before .before .before .before .telegram-at .ensures _ (c .before .before .before .before .before .before .before .before .before .before .before .before .before .before .before .before .pre .0 .state .whole)) _ (c .before .before .before .before .before .remove .ensures _ (c .before .before .before .before .before .before .before .before .before .before .before .before .before .before .before .before .pre .0 .state)) _ (c .before .before .before .before .before .before .before .before .before .before .before .before .before .before .before .before .pre .4) _ (c .before .before .before .match .rest .0 .1) (c .before .before .before .match .rest .1) (c .before .reacts .ensures)
 
 pub happened-spec : {M : Type 1} → statement M
 happened-spec =
@@ -75,22 +88,24 @@ happened-spec =
     (tie.spec
     number-at-requires
     sent-outside-requires
-    word-requires
-    word-requires-2
-    delivers-requires
-    word-requires-3
-    word-requires-4
-    corrupts-requires
-    word-requires-5
-    inners-requires
-    sliced-requires
     same-length
     returns
+    sliced-requires
     same-length-2
     returns-2
+    waiting-count-requires
+    answered-requires
     same-length-3
     returns-3
+    telegram-at-requires
+    remove-requires
+    delivers-requires
+    number-requires
+    panicked-requires
+    reacts-requires
     same-length-4
     returns-4
     same-length-5
-    returns-5)
+    returns-5
+    same-length-6
+    returns-6)

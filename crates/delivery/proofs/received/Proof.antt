@@ -1,16 +1,13 @@
-use Prim.Native.Nat.{_+_}
 use mathlib.Core.Path.{_≡_, sym, ap, subst, _∙_}
 use lib.IntN.{pos, natAbs}
 use lib.Signed.{leZ}
 use borrow.Author.Needs.{needs}
-use Rattle.laris.specs.Play.{bodyEvent}
-use Rattle.sheet.specs.Sheet.{recordOf}
-use Rattle.turns.specs.Called.{Called}
 use Rattle.turns.proofs.Called.{has-chart}
+use Rattle.turns.proofs.Received.{receiver-number, port-number, name-number, receiver-bound, reaction-called, as-delivered, none-delivered}
 use Rattle.store.proofs.Laws.{given}
-use Rattle.kinds.proofs.Laws.{data-read, receiver-number, port-number, name-number, receiver-bound, reaction-called, reaction-delivered, none-delivered}
-use Rattle.kinds.proofs.received.Statement.{statement}
-use Rattle.kinds.proofs.received.Tie as tie
+use Rattle.delivery.proofs.Laws.{data-read}
+use Rattle.delivery.proofs.received.Statement.{statement}
+use Rattle.delivery.proofs.received.Tie as tie
 
 number-requires : tie.Need-number-requires
 number-requires c κs = ap (leZ (pos 0)) (given (c .before .before .args .t .receiver) (c .struct-told .given .1 .0 .1)) ∙ receiver-number _ (c .before .before .pre .0 .passed) _ (c .before .before .pre .2)
@@ -58,7 +55,7 @@ event-body-requires c κs =
     let p : c .before .before .before .before .before .before .before .before .before .number2 .result ≡ natAbs (t .port) = c .before .before .before .before .before .before .before .before .before .number2 .ensures ∙ ap natAbs (given (t .port) (told .1 .1 .0 .1)) in
     let n : c .before .before .before .before .before .before .before .number3 .result ≡ natAbs (t .name) = c .before .before .before .before .before .before .before .number3 .ensures ∙ ap natAbs (given (t .name) (told .1 .1 .1 .0 .1)) in
     let read = data-read t (told .1 .1 .1 .1 .0 .1) (told .1 .1 .1 .1 .1 .0 .1) (told .1 .1 .1 .1 .1 .1 .0 .1) (told .1 .1 .1 .1 .1 .1 .1 .0 .1) in
-    (c .before .before .before .before .before .before .before .before .before .before .before .before .before .before .before .before .before .before .pre .0 .directory, c .before .before .before .before .before .before .before .before .before .before .before .before .before .before .before .before .before .before .pre .0 .passed, c .before .before .before .before .before .before .before .before .before .before .before .before .before .before .before .before .before .before .pre .0 .state, subst (Called _ _ _) (sym read) (reaction-called _ (c .before .before .before .before .before .before .before .before .before .before .before .before .before .before .before .before .before .before .pre .0 .passed) t (c .before .before .before .before .before .before .before .before .before .before .before .before .before .before .before .before .before .before .pre .2) (c .before .before .before .before .before .before .before .before .before .before .before .before .before .before .before .before .before .before .pre .3) (c .before .before .before .before .before .before .before .before .before .before .before .before .before .before .before .before .before .before .pre .4) _ q _ (sym (c .before .before .before .before .before .before .before .before .before .before .before .before .before .before .chart-of .ensures) ∙ c .before .before .before .before .before .before .before .before .before .before .before .before .c .given .1) _ _ _ p n (c .before .before .before .before .before .before .reaction-on .ensures) (c .before .before .before .before .if1 .taken)), c .before .before .before .before .before .before .before .before .before .before .before .before .before .before .before .before .before .before .pre .1)
+    (c .before .before .before .before .before .before .before .before .before .before .before .before .before .before .before .before .before .before .pre .0 .directory, c .before .before .before .before .before .before .before .before .before .before .before .before .before .before .before .before .before .before .pre .0 .passed, c .before .before .before .before .before .before .before .before .before .before .before .before .before .before .before .before .before .before .pre .0 .state, reaction-called _ (c .before .before .before .before .before .before .before .before .before .before .before .before .before .before .before .before .before .before .pre .0 .passed) t (c .before .before .before .before .before .before .before .before .before .before .before .before .before .before .before .before .before .before .pre .2) (c .before .before .before .before .before .before .before .before .before .before .before .before .before .before .before .before .before .before .pre .3) (c .before .before .before .before .before .before .before .before .before .before .before .before .before .before .before .before .before .before .pre .4) _ q _ (sym (c .before .before .before .before .before .before .before .before .before .before .before .before .before .before .chart-of .ensures) ∙ c .before .before .before .before .before .before .before .before .before .before .before .before .c .given .1) _ _ _ p n (c .before .before .before .before .before .before .reaction-on .ensures) (c .before .before .before .before .if1 .taken) _ read, c .before .before .before .before .before .before .before .before .before .before .before .before .before .before .before .before .before .before .pre .1)
 
 same-length : tie.Need-same-length
 same-length c = search needs
@@ -71,9 +68,7 @@ returns-2 c =
     let p : c .before .before .before .before .before .before .before .before .before .before .before .number2 .result ≡ natAbs (t .port) = c .before .before .before .before .before .before .before .before .before .before .before .number2 .ensures ∙ ap natAbs (given (t .port) (told .1 .1 .0 .1)) in
     let n : c .before .before .before .before .before .before .before .before .before .number3 .result ≡ natAbs (t .name) = c .before .before .before .before .before .before .before .before .before .number3 .ensures ∙ ap natAbs (given (t .name) (told .1 .1 .1 .0 .1)) in
     let read = data-read t (told .1 .1 .1 .1 .0 .1) (told .1 .1 .1 .1 .1 .0 .1) (told .1 .1 .1 .1 .1 .1 .0 .1) (told .1 .1 .1 .1 .1 .1 .1 .0 .1) in
-    c .before .event-body .ensures
-    ∙ ap (λ zs. bodyEvent (c .before .before .before .before .before .before .before .before .before .before .before .before .before .before .before .before .before .before .before .before .args .sheet .now) (c .before .before .before .before .before .before .before .before .before .before .before .before .before .before .before .before .before .before .before .before .args .old .now) (c .before .before .before .before .before .before .before .before .before .before .before .before .before .before .before .before .before .number .result) (recordOf (c .before .before .before .before .before .before .before .before .before .before .before .before .before .before .before .before .before .before .before .before .args .sheet .now) 5 (c .before .before .before .before .before .before .before .before .before .before .before .before .before .before .c .given .0 .0 .f4 + c .before .before .before .before .before .before .before .before .reaction-on .result)) zs (c .before .before .before .before .before .before .before .before .before .before .before .before .before .before .before .before .before .before .before .before .args .st .now)) read
-    ∙ sym (reaction-delivered _ (c .before .before .before .before .before .before .before .before .before .before .before .before .before .before .before .before .before .before .before .before .pre .0 .passed) t (c .before .before .before .before .before .before .before .before .before .before .before .before .before .before .before .before .before .before .before .before .pre .2) (c .before .before .before .before .before .before .before .before .before .before .before .before .before .before .before .before .before .before .before .before .pre .3) (c .before .before .before .before .before .before .before .before .before .before .before .before .before .before .before .before .before .before .before .before .pre .4) _ q _ (sym (c .before .before .before .before .before .before .before .before .before .before .before .before .before .before .before .before .chart-of .ensures) ∙ c .before .before .before .before .before .before .before .before .before .before .before .before .before .before .c .given .1) _ _ _ p n (c .before .before .before .before .before .before .before .before .reaction-on .ensures) _ _ (c .before .before .before .before .before .before .if1 .taken))
+    as-delivered _ (c .before .before .before .before .before .before .before .before .before .before .before .before .before .before .before .before .before .before .before .before .pre .0 .passed) t (c .before .before .before .before .before .before .before .before .before .before .before .before .before .before .before .before .before .before .before .before .pre .2) (c .before .before .before .before .before .before .before .before .before .before .before .before .before .before .before .before .before .before .before .before .pre .3) (c .before .before .before .before .before .before .before .before .before .before .before .before .before .before .before .before .before .before .before .before .pre .4) _ q _ (sym (c .before .before .before .before .before .before .before .before .before .before .before .before .before .before .before .before .chart-of .ensures) ∙ c .before .before .before .before .before .before .before .before .before .before .before .before .before .before .c .given .1) _ _ _ p n (c .before .before .before .before .before .before .before .before .reaction-on .ensures) (c .before .before .before .before .before .before .if1 .taken) _ read _ _ _ (c .before .event-body .ensures)
 
 panicked-requires : tie.Need-panicked-requires
 panicked-requires c κs =
@@ -90,7 +85,7 @@ returns-3 c =
     let q : c .before .before .before .before .before .before .before .before .before .before .before .before .before .before .number .result ≡ natAbs (t .receiver) = c .before .before .before .before .before .before .before .before .before .before .before .before .before .before .number .ensures ∙ ap natAbs (given (t .receiver) (told .1 .0 .1)) in
     let p : c .before .before .before .before .before .before .before .before .number2 .result ≡ natAbs (t .port) = c .before .before .before .before .before .before .before .before .number2 .ensures ∙ ap natAbs (given (t .port) (told .1 .1 .0 .1)) in
     let n : c .before .before .before .before .before .before .number3 .result ≡ natAbs (t .name) = c .before .before .before .before .before .before .number3 .ensures ∙ ap natAbs (given (t .name) (told .1 .1 .1 .0 .1)) in
-    c .before .panicked .ensures ∙ sym (none-delivered _ (c .before .before .before .before .before .before .before .before .before .before .before .before .before .before .before .before .before .pre .0 .passed) t (c .before .before .before .before .before .before .before .before .before .before .before .before .before .before .before .before .before .pre .2) (c .before .before .before .before .before .before .before .before .before .before .before .before .before .before .before .before .before .pre .3) (c .before .before .before .before .before .before .before .before .before .before .before .before .before .before .before .before .before .pre .4) _ q _ (sym (c .before .before .before .before .before .before .before .before .before .before .before .before .before .chart-of .ensures) ∙ c .before .before .before .before .before .before .before .before .before .before .before .c .given .1) _ _ _ p n (c .before .before .before .before .before .reaction-on .ensures) _ _ (c .before .before .before .if1 .left))
+    none-delivered _ (c .before .before .before .before .before .before .before .before .before .before .before .before .before .before .before .before .before .pre .0 .passed) t (c .before .before .before .before .before .before .before .before .before .before .before .before .before .before .before .before .before .pre .2) (c .before .before .before .before .before .before .before .before .before .before .before .before .before .before .before .before .before .pre .3) (c .before .before .before .before .before .before .before .before .before .before .before .before .before .before .before .before .before .pre .4) _ q _ (sym (c .before .before .before .before .before .before .before .before .before .before .before .before .before .chart-of .ensures) ∙ c .before .before .before .before .before .before .before .before .before .before .before .c .given .1) _ _ _ p n (c .before .before .before .before .before .reaction-on .ensures) (c .before .before .before .if1 .left) _ _ _ (c .before .panicked .ensures)
 
 pub received-spec : {M : Type 1} → statement M
 received-spec =

@@ -1,0 +1,118 @@
+// A telegram that an event took goes to its receiver: it is handed outside, or a body of a bound
+// element runs.
+use laris::Answer;
+use laris::Handed;
+use laris::Telegram;
+use sheet::Found;
+ghost use mathlib.Core.Bool.{true, false};
+ghost use mathlib.Core.Path.{_≡_};
+ghost use lib.IntN.{natAbs};
+ghost use lib.ListN.{length};
+ghost use Rattle.laris.specs.declared.Handed.the-variants.{Nothing};
+ghost use Rattle.laris.specs.Fields.{externalsOf};
+ghost use Rattle.laris.specs.Types.{reactsTo};
+ghost use Rattle.laris.specs.Values.{isBelow, isBound};
+ghost use Rattle.laris.specs.Valid.{isInternal, telegramFits};
+ghost use Rattle.laris.specs.Play.{ended, answer, elementBody, reacting, panicking, delivered};
+ghost use Rattle.turns.specs.Playing.{Playing};
+
+// An answer without a telegram.
+pub fn answered(number: u8, steps: u32) -> Answer
+    ensures { λ a. ⌜ a ≡ answer number steps Nothing ⌝ }
+{
+    Answer {
+        number,
+        steps,
+        handed: Handed::Nothing,
+    }
+}
+
+// The panic body of element e, whose chart is c.
+pub fn panicked(
+    sheet: &[u8],
+    directory: &[usize; 16],
+    old: &[i32],
+    st: &mut [i32],
+    e: usize,
+) -> Answer
+    requires { ⌜ Playing (now sheet) (now directory) (now st) × (length (now old) ≡ length (now st)) × (isBound (now sheet) e ≡ true) ⌝ }
+    ensures { λ a. ⌜ ended a (now (st .exit)) ≡ panicking (now (sheet .entry)) (now (old .entry)) e (now (st .entry)) ⌝ }
+{
+    let Found::Present(c) = values::chart_of(sheet, directory, e) else {
+        return answered(0, 0);
+    };
+    let j = finders::with_role(sheet, directory, c, 1);
+    let none = [0i32; 4];
+    bodies::event_body(sheet, directory, old, st, e, c.f4 as usize + j, &none)
+}
+
+// A telegram that was removed reaches a bound element.
+fn received(
+    sheet: &[u8],
+    directory: &[usize; 16],
+    old: &[i32],
+    st: &mut [i32],
+    t: Telegram,
+) -> Answer
+    requires { ⌜ Playing (now sheet) (now directory) (now st) × (length (now old) ≡ length (now st)) × (telegramFits (now sheet) t ≡ true) × (isInternal t ≡ false) × (isBelow (t .receiver) (externalsOf (now sheet)) ≡ false) ⌝ }
+    ensures { λ a. ⌜ ended a (now (st .exit)) ≡ delivered (now (sheet .entry)) (now (old .entry)) t (now (st .entry)) ⌝ }
+{
+    let e = tests::number(t.receiver);
+    let Found::Present(c) = values::chart_of(sheet, directory, e) else {
+        return answered(0, 0);
+    };
+    let j = finders::reaction_on(
+        sheet,
+        directory,
+        c,
+        tests::number(t.port),
+        tests::number(t.name),
+    );
+    if j < c.f5 as usize {
+        let brought = [t.d0, t.d1, t.d2, t.d3];
+        return bodies::event_body(sheet, directory, old, st, e, c.f4 as usize + j, &brought);
+    }
+    panicked(sheet, directory, old, st, e)
+}
+
+// 2: "If r is external it is handed outside. If bound, the reaction for its port and name runs, or
+// without one the panic body."
+pub fn delivers(
+    sheet: &[u8],
+    directory: &[usize; 16],
+    old: &[i32],
+    st: &mut [i32],
+    t: Telegram,
+) -> Answer
+    requires { ⌜ Playing (now sheet) (now directory) (now st) × (length (now old) ≡ length (now st)) × (telegramFits (now sheet) t ≡ true) × (isInternal t ≡ false) ⌝ }
+    ensures { λ a. ⌜ ended a (now (st .exit)) ≡ delivered (now (sheet .entry)) (now (old .entry)) t (now (st .entry)) ⌝ }
+{
+    if tests::is_below(t.receiver, values::externals(sheet, directory)) {
+        return Answer {
+            number: 0,
+            steps: 0,
+            handed: Handed::Outside(t),
+        };
+    }
+    received(sheet, directory, old, st, t)
+}
+
+// 4: an internal telegram that was removed: "its reaction runs"
+pub fn reacts(
+    sheet: &[u8],
+    directory: &[usize; 16],
+    old: &[i32],
+    st: &mut [i32],
+    t: Telegram,
+) -> Answer
+    requires { ⌜ Playing (now sheet) (now directory) (now st) × (length (now old) ≡ length (now st)) × (telegramFits (now sheet) t ≡ true) × (isInternal t ≡ true) ⌝ }
+    ensures { λ a. ⌜ ended a (now (st .exit)) ≡ reacting (now (sheet .entry)) (now (old .entry)) (natAbs (t .receiver)) (elementBody (now (sheet .entry)) (natAbs (t .receiver)) (reactsTo (natAbs (t .name)))) t (now (st .entry)) ⌝ }
+{
+    let e = tests::number(t.receiver);
+    let Found::Present(c) = values::chart_of(sheet, directory, e) else {
+        return answered(0, 0);
+    };
+    let j = finders::reaction_to(sheet, directory, c, tests::number(t.name));
+    let brought = [t.d0, t.d1, t.d2, t.d3];
+    bodies::event_body(sheet, directory, old, st, e, c.f4 as usize + j, &brought)
+}

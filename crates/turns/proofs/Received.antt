@@ -1,0 +1,126 @@
+-- A telegram reaches an element: which body runs, with which data.
+use Prim.Native.Nat.{ℕ, _+_, _<_, _≤_}
+use mathlib.Core.Path.{_≡_, sym, ap, subst, _∙_}
+use mathlib.Core.List.{List}
+use mathlib.Core.Bool.{true, false}
+use native.Mathlib.Omega.{arith}
+use lib.IntN.{ℤ, pos, natAbs}
+use lib.Signed.{leZ}
+use borrow.Author.Tests.{le-leb}
+use Rattle.sheet.specs.declared.Record.{Record}
+use Rattle.sheet.specs.declared.Found.the-variants.{Present}
+use Rattle.sheet.specs.Names.{bodies, chartBodies}
+use Rattle.sheet.specs.Sheet.{recordOf}
+use Rattle.sheet.proofs.All.{and-first, and-second}
+use Rattle.laris.specs.declared.Checked.the-variants.{Passed}
+use Rattle.laris.specs.declared.Telegram.{Telegram}
+use Rattle.laris.specs.Fields.{holds, externalsOf}
+use Rattle.laris.specs.Types.{nameRange, reactsTo, hasReaction}
+use Rattle.laris.specs.Values.{isBelow, isBound, chartOf}
+use Rattle.laris.specs.Valid.{dataFit, nameFits, reactionAwaits, datumOf, isInternal, internalFits, externalFits, telegramFits}
+use Rattle.laris.specs.Play.{Outcome, hasPanic, reactsOn, elementBody, bodyEvent, reacting, panicking, delivered}
+use Rattle.laris.specs.Check.{checkOf}
+use Rattle.laris.proofs.Fields.{holds-present}
+use Rattle.passed.specs.Places.{StandsAt}
+use Rattle.passed.proofs.Charts.{chart-element}
+use Rattle.states.proofs.Parts.{below-pos}
+use Rattle.promise.proofs.Events.{bound-word, receiver-below, external-part, internal-part}
+use Rattle.turns.specs.Called.{Called}
+use Rattle.turns.proofs.Called.{fourZeros, dataIn, panic-called, panic-runs, on-called, on-delivered, panic-delivered, inner-called, inner-runs}
+
+not-negative : (z : ℤ) (n : ℕ) → isBelow z n ≡ true → leZ (pos 0) z ≡ true
+not-negative z n h = ap (leZ (pos 0)) (below-pos z n h) ∙ le-leb 0 (natAbs z) (omega arith)
+
+module _ (s : List ℕ) (ok : checkOf s ≡ Passed) where
+  module _ (e : ℕ) (c : Record) (chart : chartOf s e ≡ Present c) (j : ℕ) (h : StandsAt s c hasPanic j) where
+    pub panic-asked : Called s e (chartBodies c .first + j) fourZeros
+    panic-asked = let x = chart-element s e c chart in panic-called s ok e (x .0) c (x .1) j h
+
+    pub as-panicking : (old st : List ℤ) (x : Outcome) → x ≡ bodyEvent s old e (recordOf s bodies (chartBodies c .first + j)) fourZeros st → x ≡ panicking s old e st
+    as-panicking old st x g = let y = chart-element s e c chart in g ∙ sym (panic-runs s ok e (y .0) c (y .1) j h old st)
+
+  module _ (t : Telegram) (fits : telegramFits s t ≡ true) where
+    pub receiver-number : leZ (pos 0) (t .receiver) ≡ true
+    receiver-number = not-negative _ _ (receiver-below s ok t fits)
+
+    -- ---- an external telegram of a bound receiver
+
+    module _ (outer : isInternal t ≡ false) where
+      part : externalFits s t ≡ true
+      part = external-part s ok t fits outer
+
+      pub port-number : leZ (pos 0) (t .port) ≡ true
+      unfolding externalFits
+      port-number = not-negative _ _ (and-first _ _ (and-second _ _ part))
+
+      pub name-number : leZ (pos 0) (t .name) ≡ true
+      unfolding externalFits nameFits
+      name-number = not-negative _ _ (and-first _ _ (and-second _ _ (and-second _ _ part)))
+
+      data-fit : dataFit s (nameRange s (natAbs (t .name))) (datumOf t) ≡ true
+      unfolding externalFits nameFits
+      data-fit = and-second _ _ (and-second _ _ (and-second _ _ (and-second _ _ part)))
+
+      module _ (far : isBelow (t .receiver) (externalsOf s) ≡ false) (e : ℕ) (same : e ≡ natAbs (t .receiver)) where
+        pub receiver-bound : isBound s e ≡ true
+        receiver-bound = subst (λ e. isBound s e ≡ true) (sym same) (bound-word s (t .receiver) (receiver-below s ok t fits) far)
+
+        module _ (c : Record) (chart : chartOf s e ≡ Present c) (port name j : ℕ) (on : port ≡ natAbs (t .port)) (of : name ≡ natAbs (t .name)) (h : StandsAt s c (reactsOn port name) j) where
+          stands : StandsAt s c (reactsOn (natAbs (t .port)) (natAbs (t .name))) j
+          stands = subst (λ n. StandsAt s c (reactsOn (natAbs (t .port)) n) j) of (subst (λ p. StandsAt s c (reactsOn p name) j) on h)
+
+          module _ (l : j < chartBodies c .count) (zs : List ℤ) (read : zs ≡ dataIn t) where
+            pub reaction-called : Called s e (chartBodies c .first + j) zs
+            reaction-called = let x = chart-element s e c chart in subst (Called s e (chartBodies c .first + j)) (sym read) (on-called s ok e (x .0) c (x .1) t data-fit j stands l)
+
+            pub as-delivered : (old st : List ℤ) (x : Outcome) → x ≡ bodyEvent s old e (recordOf s bodies (chartBodies c .first + j)) zs st → x ≡ delivered s old t st
+            as-delivered old st x g =
+                let y = chart-element s e c chart in
+                g
+                ∙ ap (λ zs. bodyEvent s old e (recordOf s bodies (chartBodies c .first + j)) zs st) read
+                ∙ sym (on-delivered s ok e (y .0) c (y .1) t data-fit j stands l old st same far)
+
+          pub none-delivered : chartBodies c .count ≤ j → (old st : List ℤ) (x : Outcome) → x ≡ panicking s old e st → x ≡ delivered s old t st
+          none-delivered l old st x g = let y = chart-element s e c chart in g ∙ sym (panic-delivered s ok e (y .0) c (y .1) t data-fit j stands l old st same far)
+
+    -- ---- an internal telegram
+
+    module _ (inner : isInternal t ≡ true) where
+      inside : internalFits s t ≡ true
+      inside = internal-part s ok t fits inner
+
+      named : nameFits s 1 (t .name) (datumOf t) ≡ true
+      unfolding internalFits
+      named = and-first _ _ (and-second _ _ (and-second _ _ (and-second _ _ inside)))
+
+      pub inner-name : leZ (pos 0) (t .name) ≡ true
+      unfolding nameFits
+      inner-name = not-negative _ _ (and-first _ _ named)
+
+      inner-fit : dataFit s (nameRange s (natAbs (t .name))) (datumOf t) ≡ true
+      unfolding nameFits
+      inner-fit = and-second _ _ (and-second _ _ named)
+
+      module _ (e : ℕ) (same : e ≡ natAbs (t .receiver)) where
+        pub inner-bound : isBound s e ≡ true
+        unfolding internalFits
+        inner-bound = subst (λ e. isBound s e ≡ true) (sym same) (and-first _ _ (and-second _ _ (and-second _ _ inside)))
+
+        module _ (c : Record) (chart : chartOf s e ≡ Present c) (name j : ℕ) (of : name ≡ natAbs (t .name)) (h : StandsAt s c (reactsTo name) j) (zs : List ℤ) (read : zs ≡ dataIn t) where
+          awaited : hasReaction s c (natAbs (t .name)) ≡ true
+          unfolding internalFits reactionAwaits
+          awaited = sym (holds-present _ c _ chart) ∙ subst (λ e. holds (chartOf s e) (λ c. hasReaction s c (natAbs (t .name))) ≡ true) (sym same) (and-second _ _ (and-second _ _ (and-second _ _ (and-second _ _ inside))))
+
+          reacts : StandsAt s c (reactsTo (natAbs (t .name))) j
+          reacts = subst (λ n. StandsAt s c (reactsTo n) j) of h
+
+          pub inner-asked : Called s e (chartBodies c .first + j) zs
+          inner-asked = let x = chart-element s e c chart in subst (Called s e (chartBodies c .first + j)) (sym read) (inner-called s ok e (x .0) c (x .1) t inner-fit j reacts awaited)
+
+          pub as-reacting : (old st : List ℤ) (x : Outcome) → x ≡ bodyEvent s old e (recordOf s bodies (chartBodies c .first + j)) zs st → x ≡ reacting s old (natAbs (t .receiver)) (elementBody s (natAbs (t .receiver)) (reactsTo (natAbs (t .name)))) t st
+          as-reacting old st x g =
+              let y = chart-element s e c chart in
+              g
+              ∙ ap (λ zs. bodyEvent s old e (recordOf s bodies (chartBodies c .first + j)) zs st) read
+              ∙ sym (inner-runs s ok e (y .0) c (y .1) t inner-fit j reacts awaited old st)
+              ∙ ap (λ e. reacting s old e (elementBody s e (reactsTo (natAbs (t .name)))) t st) same

@@ -1,0 +1,255 @@
+-- The kind of an event, and the telegram that it takes.
+use Prim.Native.Nat.{ℕ, _<_, _≤_}
+use mathlib.Core.Path.{_≡_, refl, sym, ap, subst, _∙_}
+use mathlib.Core.List.{List}
+use mathlib.Core.Logic.{_⊎_, inl, inr}
+use mathlib.Core.Bool.{Bool, true, false, not}
+use native.Mathlib.Omega.{arith}
+use native.Mathlib.Decide.{ℕ-discrete}
+use lib.ListN.{length}
+use lib.Dec.{ltb, eqb}
+use lib.IntN.{ℤ, pos, negsuc, natAbs}
+use lib.Signed.{leZ}
+use borrow.Author.Tests.{eqb-true, lt-ltb, le-ltb, le-leb, not-true}
+use Rattle.sheet.specs.All.{_and_}
+use Rattle.sheet.proofs.All.{true-false, not-so, and-first, and-second, and-true, true-and, false-and}
+use Rattle.laris.specs.declared.Telegram.{Telegram}
+use Rattle.laris.specs.declared.Handed.the-variants.{Nothing}
+use Rattle.laris.specs.Fields.{componentsOf, externalsOf}
+use Rattle.laris.specs.Types.{reactsTo}
+use Rattle.laris.specs.Values.{isBelow, isBound}
+use Rattle.laris.specs.State.{wordOf, waiting, telegramOf, withoutTelegram}
+use Rattle.laris.specs.Valid.{isInternal, telegramFits, OfSheet}
+use Rattle.laris.specs.Eval.{sameWord}
+use Rattle.laris.specs.Play.{Outcome, ended, answer, elementBody, goesFrom, innerOf, oldest, taking, reacting, panicking, outside, delivered, deliver, corrupt, inner, slice, restZero, boundWord, wellFormed, isEvent, telegramOfEvent, happens}
+use Rattle.states.proofs.Parts.{telegram-of}
+use Rattle.states.proofs.Kept.{removed-kept}
+use Rattle.promise.proofs.Events.{same-word, bound-word, oldest-meets}
+use Rattle.turns.specs.Sought.{seeks, soughtAt, mayUndo}
+use Rattle.turns.proofs.Laws.{taking-none, taking-one, handed-outside, happens-outside, happens-deliver, happens-corrupt, happens-inner, happens-slice}
+
+-- ---- words
+
+pub from-0 : (z : ℤ) → leZ (pos 0) z ≡ true → z ≡ pos (natAbs z)
+from-0 (pos k) h = refl
+from-0 (negsuc k) h = absurd (true-false h refl)
+
+different : (n m : ℕ) → (n ≡ m → ⊥) → sameWord (pos n) (pos m) ≡ false
+different n m d = not-so _ (λ q. d (ap natAbs (same-word (pos n) (pos m) q)))
+
+alike : (n : ℕ) → sameWord (pos n) (pos n) ≡ true
+alike n = and-true _ _ (le-leb n n (omega arith)) (le-leb n n (omega arith))
+
+-- ---- a well formed event: its words, its kind from 1 to 5
+
+module _ (s : List ℕ) (ev : List ℤ) (h : isEvent s ev ≡ true) where
+  pub nine : length ev ≡ 9
+  unfolding isEvent
+  nine = eqb-true _ _ (and-first _ _ h)
+
+  kind-of : (m : ℕ) × (wordOf ev 0 ≡ pos m) × (1 ≤ m) × (m ≤ 5)
+  unfolding isEvent wellFormed
+  kind-of = go (sameWord (wordOf ev 0) (pos 1)) (sameWord (wordOf ev 0) (pos 2)) (sameWord (wordOf ev 0) (pos 3)) (sameWord (wordOf ev 0) (pos 4)) _ _ _ _ refl refl refl refl (and-second _ _ h)
+    where
+      go : (a b c d w x y z : Bool) → sameWord (wordOf ev 0) (pos 1) ≡ a → sameWord (wordOf ev 0) (pos 2) ≡ b → sameWord (wordOf ev 0) (pos 3) ≡ c → sameWord (wordOf ev 0) (pos 4) ≡ d →
+          elim a [ true ↦ w | false ↦ elim b [ true ↦ x | false ↦ elim c [ true ↦ y | false ↦ elim d [ true ↦ z | false ↦ sameWord (wordOf ev 0) (pos 5) and restZero ev 1 ] ] ] ] ≡ true → (m : ℕ) × (wordOf ev 0 ≡ pos m) × (1 ≤ m) × (m ≤ 5)
+      go true b c d w x y z p q r t k = (1, same-word _ _ p, omega arith, omega arith)
+      go false true c d w x y z p q r t k = (2, same-word _ _ q, omega arith, omega arith)
+      go false false true d w x y z p q r t k = (3, same-word _ _ r, omega arith, omega arith)
+      go false false false true w x y z p q r t k = (4, same-word _ _ t, omega arith, omega arith)
+      go false false false false w x y z p q r t k = (5, same-word _ _ (and-first _ _ k), omega arith, omega arith)
+
+  pub kind-from-0 : leZ (pos 0) (wordOf ev 0) ≡ true
+  kind-from-0 = ap (leZ (pos 0)) (kind-of .1) ∙ le-leb 0 (kind-of .0) (omega arith)
+
+  module _ (n : ℕ) (e : n ≡ natAbs (wordOf ev 0)) where
+    pub kind-is : wordOf ev 0 ≡ pos n
+    kind-is = from-0 _ kind-from-0 ∙ ap pos (sym e)
+
+    same-kind : n ≡ kind-of .0
+    same-kind = e ∙ ap natAbs (kind-of .1)
+
+-- ---- the telegram that is sought
+
+module _ (s : List ℕ) (st ev : List ℤ) (n : ℕ) (k : wordOf ev 0 ≡ pos n) where
+  other : (m : ℕ) → (n ≡ m → ⊥) → sameWord (wordOf ev 0) (pos m) ≡ false
+  other m d = ap (λ w. sameWord w (pos m)) k ∙ different n m d
+
+  seeks-inner : n ≡ 4 → seeks ev ≡ innerOf (wordOf ev 2)
+  unfolding seeks _and_
+  seeks-inner q = ap {B = Telegram → Bool} (λ w. elim (sameWord w (pos 4)) [ true ↦ innerOf (wordOf ev 2) | false ↦ goesFrom (wordOf ev 1) (wordOf ev 2) ]) (k ∙ ap pos q)
+
+  seeks-outer : (n ≡ 4 → ⊥) → seeks ev ≡ goesFrom (wordOf ev 1) (wordOf ev 2)
+  unfolding seeks
+  seeks-outer d = ap {B = Telegram → Bool} (λ b. elim b [ true ↦ innerOf (wordOf ev 2) | false ↦ goesFrom (wordOf ev 1) (wordOf ev 2) ]) (other 4 d)
+
+  pub sought-none : (n ≡ 1) ⊎ (n ≡ 5) → 0 ≡ soughtAt s st ev
+  unfolding soughtAt _and_
+  sought-none q = sym (ap number k ∙ go q)
+    where
+      number : ℤ → ℕ
+      number w = elim (sameWord w (pos 1)) [ true ↦ 0 | false ↦ elim (sameWord w (pos 5)) [ true ↦ 0 | false ↦ oldest s st (seeks ev) ] ]
+
+      go : (n ≡ 1) ⊎ (n ≡ 5) → number (pos n) ≡ 0
+      go (inl q) = ap (λ n. number (pos n)) q
+      go (inr q) = ap (λ n. number (pos n)) q
+
+  module _ (n₁ : n ≡ 1 → ⊥) (n₅ : n ≡ 5 → ⊥) where
+    pub sought-oldest : soughtAt s st ev ≡ oldest s st (seeks ev)
+    unfolding soughtAt
+    sought-oldest = rw (soughtAt, other 1 n₁, other 5 n₅) refl
+
+    pub sought-inner : n ≡ 4 → (r : ℤ) → r ≡ wordOf ev 2 → (j : ℕ) → j ≡ oldest s st (innerOf r) → j ≡ soughtAt s st ev
+    sought-inner q r e j at = at ∙ ap (λ r. oldest s st (innerOf r)) e ∙ ap (oldest s st) (sym (seeks-inner q)) ∙ sym sought-oldest
+
+    pub sought-outer : (n ≡ 4 → ⊥) → (a r : ℤ) → a ≡ wordOf ev 1 → r ≡ wordOf ev 2 → (j : ℕ) → j ≡ oldest s st (goesFrom a r) → j ≡ soughtAt s st ev
+    sought-outer d a r f e j at = at ∙ ap (λ a. oldest s st (goesFrom a r)) f ∙ ap (λ r. oldest s st (goesFrom (wordOf ev 1) r)) e ∙ ap (oldest s st) (sym (seeks-outer d)) ∙ sym sought-oldest
+
+-- ---- what may have to be undone
+
+module _ (s : List ℕ) (st ev : List ℤ) (n : ℕ) (k : wordOf ev 0 ≡ pos n) where
+  undone : ℤ → Bool
+  undone w =
+      elim (sameWord w (pos 1)) [
+        | true ↦ false
+        | false ↦ elim (sameWord w (pos 5)) [ true ↦ true | false ↦ ltb (oldest s st (seeks ev)) (waiting st) and not (sameWord w (pos 2) and isBelow (wordOf ev 2) (externalsOf s)) ]
+      ]
+
+  pub undoes-never : n ≡ 1 → false ≡ mayUndo s st ev
+  unfolding mayUndo undone _and_
+  undoes-never q = sym (ap undone (k ∙ ap pos q))
+
+  pub undoes-slice : n ≡ 5 → true ≡ mayUndo s st ev
+  unfolding mayUndo undone _and_
+  undoes-slice q = sym (ap undone (k ∙ ap pos q))
+
+  module _ (n₁ : n ≡ 1 → ⊥) (n₅ : n ≡ 5 → ⊥) (j : ℕ) (at : j ≡ soughtAt s st ev) where
+    here : j ≡ oldest s st (seeks ev)
+    here = at ∙ sought-oldest s st ev n k n₁ n₅
+
+    undoes-taken : mayUndo s st ev ≡ ltb (oldest s st (seeks ev)) (waiting st) and not (sameWord (wordOf ev 0) (pos 2) and isBelow (wordOf ev 2) (externalsOf s))
+    unfolding mayUndo
+    undoes-taken = rw (mayUndo, other s st ev n k 1 n₁, other s st ev n k 5 n₅) refl
+
+    pub undoes-none : (w : ℕ) → w ≡ waiting st → w ≤ j → false ≡ mayUndo s st ev
+    undoes-none w v l = sym (undoes-taken ∙ false-and _ _ (le-ltb (oldest s st (seeks ev)) (waiting st) (omega (arith, here))))
+
+    module _ (w : ℕ) (v : w ≡ waiting st) (l : j < w) where
+      waits : ltb (oldest s st (seeks ev)) (waiting st) ≡ true
+      waits = lt-ltb (oldest s st (seeks ev)) (waiting st) (omega (arith, here))
+
+      pub undoes-bound : (n ≡ 2 → ⊥) → true ≡ mayUndo s st ev
+      undoes-bound d = sym (undoes-taken ∙ and-true _ _ waits (ap not (false-and _ _ (other s st ev n k 2 d))))
+
+      pub undoes-deliver : n ≡ 2 → (b : Bool) → b ≡ isBelow (wordOf ev 2) (externalsOf s) → not b ≡ mayUndo s st ev
+      undoes-deliver q b e = ap not e ∙ sym (undoes-taken ∙ true-and _ _ waits ∙ ap not (true-and _ _ (ap (λ w. sameWord w (pos 2)) (k ∙ ap pos q) ∙ alike 2)))
+
+-- ---- an event that takes none
+
+module _ (s : List ℕ) (st ev : List ℤ) (h : isEvent s ev ≡ true) (n : ℕ) (e : n ≡ natAbs (wordOf ev 0)) where
+  pub as-outside : n ≡ 1 → (x : Outcome) → x ≡ outside s st (telegramOfEvent ev) → x ≡ happens s st ev
+  as-outside q x g = g ∙ sym (happens-outside s st ev (kind-is s ev h n e ∙ ap pos q))
+
+  module _ (old : List ℤ) (undo : mayUndo s st ev ≡ true → old ≡ st) (q : n ≡ 5) where
+    pub slice-copied : old ≡ st
+    slice-copied = undo (sym (undoes-slice s st ev n (kind-is s ev h n e) q))
+
+    pub as-slice : (x : Outcome) → x ≡ slice s old → x ≡ happens s st ev
+    as-slice x g = g ∙ ap (slice s) slice-copied ∙ sym (happens-slice s st ev (kind-is s ev h n e ∙ ap pos q))
+
+-- ---- an event that takes a telegram
+
+module _ (s : List ℕ) (st ev : List ℤ) (h : isEvent s ev ≡ true) (n : ℕ) (e : n ≡ natAbs (wordOf ev 0)) (n₁ : n ≡ 1 → ⊥) (n₅ : n ≡ 5 → ⊥) (j : ℕ) (at : j ≡ soughtAt s st ev) where
+  k : wordOf ev 0 ≡ pos n
+  k = kind-is s ev h n e
+
+  inner-kind : (n ≡ 2 → ⊥) → (n ≡ 3 → ⊥) → n ≡ 4
+  inner-kind n₂ n₃ = let m = kind-of s ev h in omega (arith, same-kind s ev h n e)
+
+  oldest-outer : (n ≡ 4 → ⊥) → j ≡ oldest s st (goesFrom (wordOf ev 1) (wordOf ev 2))
+  oldest-outer d = at ∙ sought-oldest s st ev n k n₁ n₅ ∙ ap (oldest s st) (seeks-outer s st ev n k d)
+
+  oldest-inner : n ≡ 4 → j ≡ oldest s st (innerOf (wordOf ev 2))
+  oldest-inner q = at ∙ sought-oldest s st ev n k n₁ n₅ ∙ ap (oldest s st) (seeks-inner s st ev n k q)
+
+  -- "no such telegram waits"
+  pub none-happens : (w : ℕ) → w ≡ waiting st → w ≤ j → happens s st ev ≡ ended (answer 5 0 Nothing) st
+  unfolding deliver corrupt inner
+  none-happens w v l = elim (ℕ-discrete n 2) [
+    | yes q ↦ let o = oldest-outer (λ z. omega arith) in happens-deliver s st ev (k ∙ ap pos q) ∙ taking-none s st (goesFrom (wordOf ev 1) (wordOf ev 2)) (delivered s st) (omega arith)
+    | no n₂ ↦ elim (ℕ-discrete n 3) [
+      | yes q ↦ let o = oldest-outer (λ z. omega arith) in happens-corrupt s st ev (k ∙ ap pos q) ∙ taking-none s st (goesFrom (wordOf ev 1) (wordOf ev 2)) (λ t st′. panicking s st (natAbs (wordOf ev 2)) st′) (omega arith)
+      | no n₃ ↦ let q = inner-kind n₂ n₃ in let o = oldest-inner q in happens-inner s st ev (k ∙ ap pos q) ∙ taking-none s st (innerOf (wordOf ev 2)) (λ t st′. reacting s st (natAbs (wordOf ev 2)) (elementBody s (natAbs (wordOf ev 2)) (reactsTo (natAbs (t .name)))) t st′) (omega arith)
+    ]
+  ]
+
+  module _ (w : ℕ) (v : w ≡ waiting st) (l : j < w) (o : OfSheet s st) (t : Telegram) (is : t ≡ telegramOf s st j) (st′ : List ℤ) (gone : st′ ≡ withoutTelegram s st j) where
+    pub taken-fits : telegramFits s t ≡ true
+    taken-fits = subst (λ t. telegramFits s t ≡ true) (sym is) (telegram-of s st o j (omega arith))
+
+    pub taken-kept : OfSheet s st′
+    taken-kept = subst (OfSheet s) (sym gone) (removed-kept s st o j (omega arith))
+
+    meets : (p : Telegram → Bool) → j ≡ oldest s st p → p t ≡ true
+    meets p q = subst (λ t. p t ≡ true) (ap (telegramOf s st) (sym q) ∙ sym is) (oldest-meets s st p (omega arith))
+
+    outer-meets : (n ≡ 4 → ⊥) → goesFrom (wordOf ev 1) (wordOf ev 2) t ≡ true
+    outer-meets d = meets (goesFrom (wordOf ev 1) (wordOf ev 2)) (oldest-outer d)
+
+    inner-meets : n ≡ 4 → innerOf (wordOf ev 2) t ≡ true
+    inner-meets q = meets (innerOf (wordOf ev 2)) (oldest-inner q)
+
+    pub taken-outer : n ≡ 2 → isInternal t ≡ false
+    taken-outer q = not-true _ (and-first _ _ (outer-meets (λ z. omega arith)))
+
+    pub taken-inner : (n ≡ 2 → ⊥) → (n ≡ 3 → ⊥) → isInternal t ≡ true
+    taken-inner n₂ n₃ = and-first _ _ (inner-meets (inner-kind n₂ n₃))
+
+    receiver-is : t .receiver ≡ wordOf ev 2
+    receiver-is = elim (ℕ-discrete n 4) [ yes q ↦ same-word _ _ (and-second _ _ (inner-meets q)) | no d ↦ same-word _ _ (and-second _ _ (and-second _ _ (outer-meets d))) ]
+
+    took : (p : Telegram → Bool) (K : Telegram → List ℤ → Outcome) → j ≡ oldest s st p → taking s st p K ≡ K t st′
+    took p K q = taking-one s st p K (omega arith) ∙ ap (λ j. K (telegramOf s st j) (withoutTelegram s st j)) (sym q) ∙ ap (λ t. K t (withoutTelegram s st j)) (sym is) ∙ ap (K t) (sym gone)
+
+    -- "A Corrupt": its receiver is bound
+    pub corrupt-bound : n ≡ 3 → (r : ℕ) → r ≡ natAbs (t .receiver) → isBound s r ≡ true
+    unfolding isEvent wellFormed _and_
+    corrupt-bound q r i =
+        let f : wellFormed s ev (wordOf ev 0) ≡ true = and-second (eqb (length ev) 9) (wellFormed s ev (wordOf ev 0)) h in
+        let c = third (wordOf ev 0) (k ∙ ap pos q) f in
+        let b : boundWord s (wordOf ev 2) ≡ true = and-first (boundWord s (wordOf ev 2)) (restZero ev 3) (and-second (isBelow (wordOf ev 1) (componentsOf s)) _ c) in
+        ap (isBound s) (i ∙ ap natAbs receiver-is) ∙ bound-word s (wordOf ev 2) (and-first (isBelow (wordOf ev 2) (componentsOf s)) (not (isBelow (wordOf ev 2) (externalsOf s))) b) (not-true _ (and-second (isBelow (wordOf ev 2) (componentsOf s)) (not (isBelow (wordOf ev 2) (externalsOf s))) b))
+      where
+        third : (k : ℤ) → k ≡ pos 3 → wellFormed s ev k ≡ true → isBelow (wordOf ev 1) (componentsOf s) and boundWord s (wordOf ev 2) and restZero ev 3 ≡ true
+        third k q w = subst (λ k. wellFormed s ev k ≡ true) q w
+
+    -- ---- what is done with it, where `old` is a copy if there may be work to undo
+
+    module _ (old : List ℤ) (undo : mayUndo s st ev ≡ true → old ≡ st) (x : Outcome) where
+      copied : (n ≡ 2 → ⊥) → old ≡ st
+      copied d = undo (sym (undoes-bound s st ev n k n₁ n₅ j at w v l d))
+
+      pub as-deliver : n ≡ 2 → x ≡ delivered s old t st′ → x ≡ happens s st ev
+      unfolding deliver
+      as-deliver q g = g ∙ go (isBelow (t .receiver) (externalsOf s)) refl ∙ sym (happens-deliver s st ev (k ∙ ap pos q) ∙ took (goesFrom (wordOf ev 1) (wordOf ev 2)) (delivered s st) (oldest-outer (λ z. omega arith)))
+        where
+          go : (b : Bool) → isBelow (t .receiver) (externalsOf s) ≡ b → delivered s old t st′ ≡ delivered s st t st′
+          go true b = handed-outside s old t st′ b ∙ sym (handed-outside s st t st′ b)
+          go false b = ap (λ o. delivered s o t st′) (undo (sym (undoes-deliver s st ev n k n₁ n₅ j at w v l q false (sym b ∙ ap (λ z. isBelow z (externalsOf s)) receiver-is))))
+
+      pub as-corrupt : n ≡ 3 → (r : ℕ) → r ≡ natAbs (t .receiver) → x ≡ panicking s old r st′ → x ≡ happens s st ev
+      unfolding corrupt
+      as-corrupt q r i g =
+          g
+          ∙ ap (λ o. panicking s o r st′) (copied (λ z. omega arith))
+          ∙ ap (λ r. panicking s st r st′) (i ∙ ap natAbs receiver-is)
+          ∙ sym (happens-corrupt s st ev (k ∙ ap pos q) ∙ took (goesFrom (wordOf ev 1) (wordOf ev 2)) (λ t st′. panicking s st (natAbs (wordOf ev 2)) st′) (oldest-outer (λ z. omega arith)))
+
+      pub as-inner : (n ≡ 2 → ⊥) → (n ≡ 3 → ⊥) → x ≡ reacting s old (natAbs (t .receiver)) (elementBody s (natAbs (t .receiver)) (reactsTo (natAbs (t .name)))) t st′ → x ≡ happens s st ev
+      unfolding inner
+      as-inner n₂ n₃ g =
+          let q = inner-kind n₂ n₃ in
+          g
+          ∙ ap (λ o. reacting s o (natAbs (t .receiver)) (elementBody s (natAbs (t .receiver)) (reactsTo (natAbs (t .name)))) t st′) (copied n₂)
+          ∙ ap (λ r. reacting s st (natAbs r) (elementBody s (natAbs r) (reactsTo (natAbs (t .name)))) t st′) receiver-is
+          ∙ sym (happens-inner s st ev (k ∙ ap pos q) ∙ took (innerOf (wordOf ev 2)) (λ t st′. reacting s st (natAbs (wordOf ev 2)) (elementBody s (natAbs (wordOf ev 2)) (reactsTo (natAbs (t .name)))) t st′) (oldest-inner q))
