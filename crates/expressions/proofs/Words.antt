@@ -1,17 +1,13 @@
 -- Words of literals.
-use Prim.Native.Nat.{ℕ, _+_, _*_, _<_, _≤_}
+use Prim.Native.Nat.{ℕ, _+_, _*_}
 use mathlib.Core.Path.{_≡_, refl}
 use native.Mathlib.Omega.{arith}
-use lib.IntN.{pos, _-ℤ_}
+use lib.IntN.{pos}
 use mir.Syntax.{w32}
 use mir.Val.{toZ}
-use borrow.Author.Tests.{lt-ltb, le-ltb, eq-eqb, ne-eqb}
+use borrow.Author.Tests.{eq-eqb, ne-eqb}
 use Rattle.sheet.specs.declared.Record.{Record}
 use Rattle.laris.specs.Eval.{literalValue}
-
--- two's complement: the upper half of the 32 bits
-pub high : (n : ℕ) → 2147483648 ≤ n → n < 4294967296 → pos n -ℤ pos 4294967296 ≡ toZ w32 n
-high n h k = rw (lt-ltb n 4294967296 k, le-ltb n 2147483648 h) refl
 
 module _ (e : ℕ) (r : Record) where
   pub literal-1 : r .f0 ≡ 1 → pos (r .f1) ≡ literalValue e r .word

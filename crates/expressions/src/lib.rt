@@ -3,30 +3,13 @@ use ints::Work;
 use sheet::Found;
 use sheet::Record;
 ghost use mathlib.Core.Path.{_≡_};
-ghost use Prim.Native.Nat.{suc, _+_, _*_, _<_};
-ghost use lib.ListN.{getD};
-ghost use lib.IntN.{ℤ, pos};
-ghost use mir.Syntax.{w32};
-ghost use mir.Val.{toZ};
+ghost use Prim.Native.Nat.{suc, _<_};
 ghost use Rattle.sheet.specs.declared.Found.the-variants.{Present};
 ghost use Rattle.sheet.specs.Sheet.{directoryOf, recordOf};
 ghost use Rattle.laris.specs.Forms.{read, formOf};
-ghost use Rattle.laris.specs.Shape.{constantOf};
 ghost use Rattle.laris.specs.Eval.{literalValue, evalOf};
 ghost use Rattle.ints.specs.Work.{workOf, thenWork, binaryWork, notWork};
 ghost use Rattle.ready.specs.Ready.{contextAt, Ready, IsExpression};
-
-// "Int (32-bit two's complement, f1 low, f2 high)"
-fn signed(low: u16, high: u16) -> i32
-    ensures { λ z. ⌜ z ≡ toZ w32 (low + 65536 * high) ⌝ }
-{
-    let n = low as u32 + 65536 * (high as u32);
-    if n < 2147483648 {
-        n as i32
-    } else {
-        (n as i64 - 4294967296) as i32
-    }
-}
 
 // The word that a literal writes down, in element e.
 fn literal(e: usize, r: Record) -> i32
@@ -36,7 +19,7 @@ fn literal(e: usize, r: Record) -> i32
     let op = r.f0;
     match op {
         1 => r.f1 as i32,
-        2 => signed(r.f1, r.f2),
+        2 => words::signed(r.f1 as u32 + 65536 * (r.f2 as u32)),
         3 => r.f2 as i32,
         4 => r.f1 as i32,
         5 => r.f1 as i32,

@@ -20,7 +20,7 @@ pub fn number(bytes: &[u8], at: usize) -> u32
 }
 
 // Two's complement.
-fn signed(n: u32) -> i32
+pub fn signed(n: u32) -> i32
     ensures { λ z. ⌜ z ≡ toZ w32 n ⌝ }
 {
     if n < 2147483648 {

@@ -11,6 +11,18 @@ use Rattle.expressions.proofs.literal.Tie as tie
 cast-result : tie.Need-cast-result
 cast-result c = search needs
 
+cast-signed : tie.Need-cast-signed
+cast-signed c = search needs
+
+cast-signed-2 : tie.Need-cast-signed-2
+cast-signed-2 c = search needs
+
+mul-signed : tie.Need-mul-signed
+mul-signed c = search needs
+
+add-signed : tie.Need-add-signed
+add-signed c = search needs
+
 signed-requires : tie.Need-signed-requires
 signed-requires c κs = search needs
 
@@ -30,7 +42,7 @@ returns : tie.Need-returns
 returns c = toZ-pos w32 _ (omega arith) ∙ literal-1 _ _ (c .before .match .keys1)
 
 returns-2 : tie.Need-returns-2
-returns-2 c = (let e : toZ w32 (ofZ w32 (c .signed .result)) ≡ c .signed .result = search needs in e ∙ c .signed .ensures) ∙ literal-2 _ _ (c .before .match .keys2)
+returns-2 c = (let e : toZ w32 (ofZ w32 (c .signed .result)) ≡ c .signed .result = search needs in e ∙ c .signed .ensures) ∙ literal-2 _ _ (c .before .before .before .match .keys2)
 
 returns-3 : tie.Need-returns-3
 returns-3 c = toZ-pos w32 _ (omega arith) ∙ literal-3 _ _ (c .before .match .keys3)
@@ -49,6 +61,10 @@ literal-spec =
     tie.close
     (tie.spec
     cast-result
+    cast-signed
+    cast-signed-2
+    mul-signed
+    add-signed
     signed-requires
     cast-result-2
     cast-result-3
