@@ -25,6 +25,7 @@ use Rattle.laris.specs.Play.{Outcome, ended, answer, elementBody, goesFrom, inn
 use Rattle.states.proofs.Parts.{telegram-of}
 use Rattle.states.proofs.Kept.{removed-kept}
 use Rattle.promise.proofs.Events.{same-word, bound-word, oldest-meets}
+use Rattle.turns.specs.Playing.{Playing}
 use Rattle.turns.specs.Sought.{seeks, soughtAt, mayUndo}
 use Rattle.turns.proofs.Laws.{taking-none, taking-one, handed-outside, happens-outside, happens-deliver, happens-corrupt, happens-inner, happens-slice}
 
@@ -183,73 +184,106 @@ module _ (s : List ℕ) (st ev : List ℤ) (h : isEvent s ev ≡ true) (n : ℕ)
     ]
   ]
 
-  module _ (w : ℕ) (v : w ≡ waiting st) (l : j < w) (o : OfSheet s st) (t : Telegram) (is : t ≡ telegramOf s st j) (st′ : List ℤ) (gone : st′ ≡ withoutTelegram s st j) where
-    pub taken-fits : telegramFits s t ≡ true
-    taken-fits = subst (λ t. telegramFits s t ≡ true) (sym is) (telegram-of s st o j (omega arith))
+-- what is known once the telegram is removed
+pub record Takes (s d : List ℕ) (st ev : List ℤ) (n j : ℕ) (t : Telegram) (st′ : List ℤ) : Type 0 where
+  pub playing : Playing s d st
+  pub event : isEvent s ev ≡ true
+  pub kind : n ≡ natAbs (wordOf ev 0)
+  pub no-outside : n ≡ 1 → ⊥
+  pub no-slice : n ≡ 5 → ⊥
+  pub at : j ≡ soughtAt s st ev
+  pub waits : j < waiting st
+  pub telegram : t ≡ telegramOf s st j
+  pub state : st′ ≡ withoutTelegram s st j
 
-    pub taken-kept : OfSheet s st′
-    taken-kept = subst (OfSheet s) (sym gone) (removed-kept s st o j (omega arith))
+pub takes : (s d : List ℕ) (st ev : List ℤ) → Playing s d st → isEvent s ev ≡ true → (n : ℕ) → n ≡ natAbs (wordOf ev 0) → (n ≡ 1 → ⊥) → (n ≡ 5 → ⊥) → (j : ℕ) → j ≡ soughtAt s st ev → (w : ℕ) → w ≡ waiting st → j < w → (t : Telegram) → t ≡ telegramOf s st j → (st′ : List ℤ) → st′ ≡ withoutTelegram s st j → Takes s d st ev n j t st′
+takes s d st ev p h n e n₁ n₅ j at w v l t is st′ gone = record { playing = p; event = h; kind = e; no-outside = n₁; no-slice = n₅; at = at; waits = omega arith; telegram = is; state = gone }
 
-    meets : (p : Telegram → Bool) → j ≡ oldest s st p → p t ≡ true
-    meets p q = subst (λ t. p t ≡ true) (ap (telegramOf s st) (sym q) ∙ sym is) (oldest-meets s st p (omega arith))
+module _ {s d : List ℕ} {st ev : List ℤ} {n j : ℕ} {t : Telegram} {st′ : List ℤ} (k : Takes s d st ev n j t st′) where
+  pub taken-fits : telegramFits s t ≡ true
+  taken-fits = subst (λ t. telegramFits s t ≡ true) (sym (k .telegram)) (telegram-of s st (k .playing .state) j (k .waits))
 
-    outer-meets : (n ≡ 4 → ⊥) → goesFrom (wordOf ev 1) (wordOf ev 2) t ≡ true
-    outer-meets d = meets (goesFrom (wordOf ev 1) (wordOf ev 2)) (oldest-outer d)
+  kept : OfSheet s st′
+  kept = subst (OfSheet s) (sym (k .state)) (removed-kept s st (k .playing .state) j (k .waits))
 
-    inner-meets : n ≡ 4 → innerOf (wordOf ev 2) t ≡ true
-    inner-meets q = meets (innerOf (wordOf ev 2)) (oldest-inner q)
+  pub taken-plays : Playing s d st′
+  taken-plays = record { directory = k .playing .directory; passed = k .playing .passed; state = kept }
 
-    pub taken-outer : n ≡ 2 → isInternal t ≡ false
-    taken-outer q = not-true _ (and-first _ _ (outer-meets (λ z. omega arith)))
+  pub taken-long : (old : List ℤ) → length old ≡ length st → length old ≡ length st′
+  taken-long old l = l ∙ k .playing .state .whole ∙ sym (kept .whole)
 
-    pub taken-inner : (n ≡ 2 → ⊥) → (n ≡ 3 → ⊥) → isInternal t ≡ true
-    taken-inner n₂ n₃ = and-first _ _ (inner-meets (inner-kind n₂ n₃))
+  word : (m : ℕ) → n ≡ m → wordOf ev 0 ≡ pos m
+  word m q = kind-is s ev (k .event) n (k .kind) ∙ ap pos q
 
-    receiver-is : t .receiver ≡ wordOf ev 2
-    receiver-is = elim (ℕ-discrete n 4) [ yes q ↦ same-word _ _ (and-second _ _ (inner-meets q)) | no d ↦ same-word _ _ (and-second _ _ (and-second _ _ (outer-meets d))) ]
+  inner-is : (n ≡ 2 → ⊥) → (n ≡ 3 → ⊥) → n ≡ 4
+  inner-is n₂ n₃ = inner-kind s st ev (k .event) n (k .kind) (k .no-outside) (k .no-slice) j (k .at) n₂ n₃
 
-    took : (p : Telegram → Bool) (K : Telegram → List ℤ → Outcome) → j ≡ oldest s st p → taking s st p K ≡ K t st′
-    took p K q = taking-one s st p K (omega arith) ∙ ap (λ j. K (telegramOf s st j) (withoutTelegram s st j)) (sym q) ∙ ap (λ t. K t (withoutTelegram s st j)) (sym is) ∙ ap (K t) (sym gone)
+  outer-at : (n ≡ 4 → ⊥) → j ≡ oldest s st (goesFrom (wordOf ev 1) (wordOf ev 2))
+  outer-at d = oldest-outer s st ev (k .event) n (k .kind) (k .no-outside) (k .no-slice) j (k .at) d
 
-    -- "A Corrupt": its receiver is bound
-    pub corrupt-bound : n ≡ 3 → (r : ℕ) → r ≡ natAbs (t .receiver) → isBound s r ≡ true
-    unfolding isEvent wellFormed _and_
-    corrupt-bound q r i =
-        let f : wellFormed s ev (wordOf ev 0) ≡ true = and-second (eqb (length ev) 9) (wellFormed s ev (wordOf ev 0)) h in
-        let c = third (wordOf ev 0) (k ∙ ap pos q) f in
-        let b : boundWord s (wordOf ev 2) ≡ true = and-first (boundWord s (wordOf ev 2)) (restZero ev 3) (and-second (isBelow (wordOf ev 1) (componentsOf s)) _ c) in
-        ap (isBound s) (i ∙ ap natAbs receiver-is) ∙ bound-word s (wordOf ev 2) (and-first (isBelow (wordOf ev 2) (componentsOf s)) (not (isBelow (wordOf ev 2) (externalsOf s))) b) (not-true _ (and-second (isBelow (wordOf ev 2) (componentsOf s)) (not (isBelow (wordOf ev 2) (externalsOf s))) b))
+  inner-at : n ≡ 4 → j ≡ oldest s st (innerOf (wordOf ev 2))
+  inner-at q = oldest-inner s st ev (k .event) n (k .kind) (k .no-outside) (k .no-slice) j (k .at) q
+
+  meets : (p : Telegram → Bool) → j ≡ oldest s st p → p t ≡ true
+  meets p q = subst (λ t. p t ≡ true) (ap (telegramOf s st) (sym q) ∙ sym (k .telegram)) (oldest-meets s st p (let l = k .waits in omega arith))
+
+  outer-meets : (n ≡ 4 → ⊥) → goesFrom (wordOf ev 1) (wordOf ev 2) t ≡ true
+  outer-meets d = meets (goesFrom (wordOf ev 1) (wordOf ev 2)) (outer-at d)
+
+  inner-meets : n ≡ 4 → innerOf (wordOf ev 2) t ≡ true
+  inner-meets q = meets (innerOf (wordOf ev 2)) (inner-at q)
+
+  pub taken-outer : n ≡ 2 → isInternal t ≡ false
+  taken-outer q = not-true _ (and-first _ _ (outer-meets (λ z. omega arith)))
+
+  pub taken-inner : (n ≡ 2 → ⊥) → (n ≡ 3 → ⊥) → isInternal t ≡ true
+  taken-inner n₂ n₃ = and-first _ _ (inner-meets (inner-is n₂ n₃))
+
+  receiver-is : t .receiver ≡ wordOf ev 2
+  receiver-is = elim (ℕ-discrete n 4) [ yes q ↦ same-word _ _ (and-second _ _ (inner-meets q)) | no d ↦ same-word _ _ (and-second _ _ (and-second _ _ (outer-meets d))) ]
+
+  took : (p : Telegram → Bool) (K : Telegram → List ℤ → Outcome) → j ≡ oldest s st p → taking s st p K ≡ K t st′
+  took p K q = taking-one s st p K (let l = k .waits in omega arith) ∙ ap (λ j. K (telegramOf s st j) (withoutTelegram s st j)) (sym q) ∙ ap (λ t. K t (withoutTelegram s st j)) (sym (k .telegram)) ∙ ap (K t) (sym (k .state))
+
+  -- "A Corrupt": its receiver is bound
+  pub corrupt-bound : n ≡ 3 → (r : ℕ) → r ≡ natAbs (t .receiver) → isBound s r ≡ true
+  unfolding isEvent wellFormed _and_
+  corrupt-bound q r i =
+      let f : wellFormed s ev (wordOf ev 0) ≡ true = and-second (eqb (length ev) 9) (wellFormed s ev (wordOf ev 0)) (k .event) in
+      let c = third (wordOf ev 0) (word 3 q) f in
+      let b : boundWord s (wordOf ev 2) ≡ true = and-first (boundWord s (wordOf ev 2)) (restZero ev 3) (and-second (isBelow (wordOf ev 1) (componentsOf s)) _ c) in
+      ap (isBound s) (i ∙ ap natAbs receiver-is) ∙ bound-word s (wordOf ev 2) (and-first (isBelow (wordOf ev 2) (componentsOf s)) (not (isBelow (wordOf ev 2) (externalsOf s))) b) (not-true _ (and-second (isBelow (wordOf ev 2) (componentsOf s)) (not (isBelow (wordOf ev 2) (externalsOf s))) b))
+    where
+      third : (z : ℤ) → z ≡ pos 3 → wellFormed s ev z ≡ true → isBelow (wordOf ev 1) (componentsOf s) and boundWord s (wordOf ev 2) and restZero ev 3 ≡ true
+      third z q w = subst (λ z. wellFormed s ev z ≡ true) q w
+
+  -- ---- what is done with it, where `old` is a copy if there may be work to undo
+
+  module _ (old : List ℤ) (undo : mayUndo s st ev ≡ true → old ≡ st) (x : Outcome) where
+    copied : (n ≡ 2 → ⊥) → old ≡ st
+    copied d = undo (sym (undoes-bound s st ev n (kind-is s ev (k .event) n (k .kind)) (k .no-outside) (k .no-slice) j (k .at) (waiting st) refl (k .waits) d))
+
+    pub as-deliver : n ≡ 2 → x ≡ delivered s old t st′ → x ≡ happens s st ev
+    unfolding deliver
+    as-deliver q g = g ∙ go (isBelow (t .receiver) (externalsOf s)) refl ∙ sym (happens-deliver s st ev (word 2 q) ∙ took (goesFrom (wordOf ev 1) (wordOf ev 2)) (delivered s st) (outer-at (λ z. omega arith)))
       where
-        third : (k : ℤ) → k ≡ pos 3 → wellFormed s ev k ≡ true → isBelow (wordOf ev 1) (componentsOf s) and boundWord s (wordOf ev 2) and restZero ev 3 ≡ true
-        third k q w = subst (λ k. wellFormed s ev k ≡ true) q w
+        go : (b : Bool) → isBelow (t .receiver) (externalsOf s) ≡ b → delivered s old t st′ ≡ delivered s st t st′
+        go true b = handed-outside s old t st′ b ∙ sym (handed-outside s st t st′ b)
+        go false b = ap (λ o. delivered s o t st′) (undo (sym (undoes-deliver s st ev n (kind-is s ev (k .event) n (k .kind)) (k .no-outside) (k .no-slice) j (k .at) (waiting st) refl (k .waits) q false (sym b ∙ ap (λ z. isBelow z (externalsOf s)) receiver-is))))
 
-    -- ---- what is done with it, where `old` is a copy if there may be work to undo
+    pub as-corrupt : n ≡ 3 → (r : ℕ) → r ≡ natAbs (t .receiver) → x ≡ panicking s old r st′ → x ≡ happens s st ev
+    unfolding corrupt
+    as-corrupt q r i g =
+        g
+        ∙ ap (λ o. panicking s o r st′) (copied (λ z. omega arith))
+        ∙ ap (λ r. panicking s st r st′) (i ∙ ap natAbs receiver-is)
+        ∙ sym (happens-corrupt s st ev (word 3 q) ∙ took (goesFrom (wordOf ev 1) (wordOf ev 2)) (λ t st′. panicking s st (natAbs (wordOf ev 2)) st′) (outer-at (λ z. omega arith)))
 
-    module _ (old : List ℤ) (undo : mayUndo s st ev ≡ true → old ≡ st) (x : Outcome) where
-      copied : (n ≡ 2 → ⊥) → old ≡ st
-      copied d = undo (sym (undoes-bound s st ev n k n₁ n₅ j at w v l d))
-
-      pub as-deliver : n ≡ 2 → x ≡ delivered s old t st′ → x ≡ happens s st ev
-      unfolding deliver
-      as-deliver q g = g ∙ go (isBelow (t .receiver) (externalsOf s)) refl ∙ sym (happens-deliver s st ev (k ∙ ap pos q) ∙ took (goesFrom (wordOf ev 1) (wordOf ev 2)) (delivered s st) (oldest-outer (λ z. omega arith)))
-        where
-          go : (b : Bool) → isBelow (t .receiver) (externalsOf s) ≡ b → delivered s old t st′ ≡ delivered s st t st′
-          go true b = handed-outside s old t st′ b ∙ sym (handed-outside s st t st′ b)
-          go false b = ap (λ o. delivered s o t st′) (undo (sym (undoes-deliver s st ev n k n₁ n₅ j at w v l q false (sym b ∙ ap (λ z. isBelow z (externalsOf s)) receiver-is))))
-
-      pub as-corrupt : n ≡ 3 → (r : ℕ) → r ≡ natAbs (t .receiver) → x ≡ panicking s old r st′ → x ≡ happens s st ev
-      unfolding corrupt
-      as-corrupt q r i g =
-          g
-          ∙ ap (λ o. panicking s o r st′) (copied (λ z. omega arith))
-          ∙ ap (λ r. panicking s st r st′) (i ∙ ap natAbs receiver-is)
-          ∙ sym (happens-corrupt s st ev (k ∙ ap pos q) ∙ took (goesFrom (wordOf ev 1) (wordOf ev 2)) (λ t st′. panicking s st (natAbs (wordOf ev 2)) st′) (oldest-outer (λ z. omega arith)))
-
-      pub as-inner : (n ≡ 2 → ⊥) → (n ≡ 3 → ⊥) → x ≡ reacting s old (natAbs (t .receiver)) (elementBody s (natAbs (t .receiver)) (reactsTo (natAbs (t .name)))) t st′ → x ≡ happens s st ev
-      unfolding inner
-      as-inner n₂ n₃ g =
-          let q = inner-kind n₂ n₃ in
-          g
-          ∙ ap (λ o. reacting s o (natAbs (t .receiver)) (elementBody s (natAbs (t .receiver)) (reactsTo (natAbs (t .name)))) t st′) (copied n₂)
-          ∙ ap (λ r. reacting s st (natAbs r) (elementBody s (natAbs r) (reactsTo (natAbs (t .name)))) t st′) receiver-is
-          ∙ sym (happens-inner s st ev (k ∙ ap pos q) ∙ took (innerOf (wordOf ev 2)) (λ t st′. reacting s st (natAbs (wordOf ev 2)) (elementBody s (natAbs (wordOf ev 2)) (reactsTo (natAbs (t .name)))) t st′) (oldest-inner q))
+    pub as-inner : (n ≡ 2 → ⊥) → (n ≡ 3 → ⊥) → x ≡ reacting s old (natAbs (t .receiver)) (elementBody s (natAbs (t .receiver)) (reactsTo (natAbs (t .name)))) t st′ → x ≡ happens s st ev
+    unfolding inner
+    as-inner n₂ n₃ g =
+        let q = inner-is n₂ n₃ in
+        g
+        ∙ ap (λ o. reacting s o (natAbs (t .receiver)) (elementBody s (natAbs (t .receiver)) (reactsTo (natAbs (t .name)))) t st′) (copied n₂)
+        ∙ ap (λ r. reacting s st (natAbs r) (elementBody s (natAbs r) (reactsTo (natAbs (t .name)))) t st′) receiver-is
+        ∙ sym (happens-inner s st ev (word 4 q) ∙ took (innerOf (wordOf ev 2)) (λ t st′. reacting s st (natAbs (wordOf ev 2)) (elementBody s (natAbs (wordOf ev 2)) (reactsTo (natAbs (t .name)))) t st′) (inner-at q))

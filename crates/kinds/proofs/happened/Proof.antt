@@ -1,11 +1,10 @@
-use mathlib.Core.Path.{_≡_, sym, ap, subst, _∙_}
+use mathlib.Core.Path.{ap, _∙_}
 use native.Mathlib.Omega.{arith}
-use lib.ListN.{length}
 use lib.IntN.{pos, natAbs}
 use lib.Signed.{leZ}
 use borrow.Author.Needs.{needs}
 use Rattle.states.proofs.Parts.{waiting-limit}
-use Rattle.turns.proofs.Taken.{nine, kind-from-0, as-outside, slice-copied, as-slice, none-happens, taken-fits, taken-kept, taken-outer, taken-inner, corrupt-bound, as-deliver, as-corrupt, as-inner}
+use Rattle.turns.proofs.Taken.{nine, kind-from-0, as-outside, slice-copied, as-slice, none-happens, takes, taken-fits, taken-plays, taken-long, taken-outer, taken-inner, corrupt-bound, as-deliver, as-corrupt, as-inner}
 use Rattle.turns.proofs.Received.{receiver-number}
 use Rattle.store.proofs.Laws.{given}
 use Rattle.queue.proofs.Laws.{laid}
@@ -53,34 +52,34 @@ remove-requires : tie.Need-remove-requires
 remove-requires c κs = (laid _ _ (c .before .before .before .before .before .before .before .before .before .before .pre .0 .state), omega (arith, c .before .before .before .before .waiting-count .ensures, c .before .before .before .if3 .left))
 
 delivers-requires : tie.Need-delivers-requires
-delivers-requires c κs = (record { directory = c .before .before .before .before .before .before .before .before .before .before .before .before .before .before .pre .0 .directory; passed = c .before .before .before .before .before .before .before .before .before .before .before .before .before .before .pre .0 .passed; state = taken-kept _ _ _ (c .before .before .before .before .before .before .before .before .before .before .before .before .before .before .pre .1) _ (c .before .before .before .before .before .before .before .before .before .before .before .before .number-at .ensures) (c .before .before .before .before .before .before .before .before .before .before .before .if1 .left) (c .before .before .before .before .before .before .before .before .before .before .if2 .left) _ (c .before .before .before .before .before .before .before .before .before .before .before .before .before .before .pre .2) _ (c .before .before .before .before .before .before .before .before .waiting-count .ensures) (c .before .before .before .before .before .before .before .if3 .left) (c .before .before .before .before .before .before .before .before .before .before .before .before .before .before .pre .0 .state) _ (c .before .before .before .before .before .telegram-at .ensures _ (c .before .before .before .before .before .before .before .before .before .before .before .before .before .before .pre .0 .state .whole)) _ (c .before .before .before .remove .ensures _ (c .before .before .before .before .before .before .before .before .before .before .before .before .before .before .pre .0 .state)) }, (c .before .before .before .before .before .before .before .before .before .before .before .before .before .before .pre .3 ∙ c .before .before .before .before .before .before .before .before .before .before .before .before .before .before .pre .0 .state .whole ∙ sym (taken-kept _ _ _ (c .before .before .before .before .before .before .before .before .before .before .before .before .before .before .pre .1) _ (c .before .before .before .before .before .before .before .before .before .before .before .before .number-at .ensures) (c .before .before .before .before .before .before .before .before .before .before .before .if1 .left) (c .before .before .before .before .before .before .before .before .before .before .if2 .left) _ (c .before .before .before .before .before .before .before .before .before .before .before .before .before .before .pre .2) _ (c .before .before .before .before .before .before .before .before .waiting-count .ensures) (c .before .before .before .before .before .before .before .if3 .left) (c .before .before .before .before .before .before .before .before .before .before .before .before .before .before .pre .0 .state) _ (c .before .before .before .before .before .telegram-at .ensures _ (c .before .before .before .before .before .before .before .before .before .before .before .before .before .before .pre .0 .state .whole)) _ (c .before .before .before .remove .ensures _ (c .before .before .before .before .before .before .before .before .before .before .before .before .before .before .pre .0 .state)) .whole)), taken-fits _ _ _ (c .before .before .before .before .before .before .before .before .before .before .before .before .before .before .pre .1) _ (c .before .before .before .before .before .before .before .before .before .before .before .before .number-at .ensures) (c .before .before .before .before .before .before .before .before .before .before .before .if1 .left) (c .before .before .before .before .before .before .before .before .before .before .if2 .left) _ (c .before .before .before .before .before .before .before .before .before .before .before .before .before .before .pre .2) _ (c .before .before .before .before .before .before .before .before .waiting-count .ensures) (c .before .before .before .before .before .before .before .if3 .left) (c .before .before .before .before .before .before .before .before .before .before .before .before .before .before .pre .0 .state) _ (c .before .before .before .before .before .telegram-at .ensures _ (c .before .before .before .before .before .before .before .before .before .before .before .before .before .before .pre .0 .state .whole)) _ (c .before .before .before .remove .ensures _ (c .before .before .before .before .before .before .before .before .before .before .before .before .before .before .pre .0 .state)), taken-outer _ _ _ (c .before .before .before .before .before .before .before .before .before .before .before .before .before .before .pre .1) _ (c .before .before .before .before .before .before .before .before .before .before .before .before .number-at .ensures) (c .before .before .before .before .before .before .before .before .before .before .before .if1 .left) (c .before .before .before .before .before .before .before .before .before .before .if2 .left) _ (c .before .before .before .before .before .before .before .before .before .before .before .before .before .before .pre .2) _ (c .before .before .before .before .before .before .before .before .waiting-count .ensures) (c .before .before .before .before .before .before .before .if3 .left) (c .before .before .before .before .before .before .before .before .before .before .before .before .before .before .pre .0 .state) _ (c .before .before .before .before .before .telegram-at .ensures _ (c .before .before .before .before .before .before .before .before .before .before .before .before .before .before .pre .0 .state .whole)) _ (c .before .before .before .remove .ensures _ (c .before .before .before .before .before .before .before .before .before .before .before .before .before .before .pre .0 .state)) (c .before .match .keys1))
+delivers-requires c κs = let k = takes _ _ _ _ (c .before .before .before .before .before .before .before .before .before .before .before .before .before .before .pre .0) (c .before .before .before .before .before .before .before .before .before .before .before .before .before .before .pre .1) _ (c .before .before .before .before .before .before .before .before .before .before .before .before .number-at .ensures) (c .before .before .before .before .before .before .before .before .before .before .before .if1 .left) (c .before .before .before .before .before .before .before .before .before .before .if2 .left) _ (c .before .before .before .before .before .before .before .before .before .before .before .before .before .before .pre .2) _ (c .before .before .before .before .before .before .before .before .waiting-count .ensures) (c .before .before .before .before .before .before .before .if3 .left) _ (c .before .before .before .before .before .telegram-at .ensures _ (c .before .before .before .before .before .before .before .before .before .before .before .before .before .before .pre .0 .state .whole)) _ (c .before .before .before .remove .ensures _ (c .before .before .before .before .before .before .before .before .before .before .before .before .before .before .pre .0 .state)) in (taken-plays k, taken-long k (c .before .before .before .before .before .before .before .before .before .before .before .before .before .before .args .old .now) (c .before .before .before .before .before .before .before .before .before .before .before .before .before .before .pre .3), taken-fits k, taken-outer k (c .before .match .keys1))
 
 number-requires : tie.Need-number-requires
-number-requires c κs = ap (leZ (pos 0)) (given (c .before .before .before .before .before .before .telegram-at .result .receiver) (c .struct-told .given .1 .0 .1)) ∙ receiver-number _ (c .before .before .before .before .before .before .before .before .before .before .before .before .before .before .before .pre .0 .passed) _ (taken-fits _ _ _ (c .before .before .before .before .before .before .before .before .before .before .before .before .before .before .before .pre .1) _ (c .before .before .before .before .before .before .before .before .before .before .before .before .before .number-at .ensures) (c .before .before .before .before .before .before .before .before .before .before .before .before .if1 .left) (c .before .before .before .before .before .before .before .before .before .before .before .if2 .left) _ (c .before .before .before .before .before .before .before .before .before .before .before .before .before .before .before .pre .2) _ (c .before .before .before .before .before .before .before .before .before .waiting-count .ensures) (c .before .before .before .before .before .before .before .before .if3 .left) (c .before .before .before .before .before .before .before .before .before .before .before .before .before .before .before .pre .0 .state) _ (c .before .before .before .before .before .before .telegram-at .ensures _ (c .before .before .before .before .before .before .before .before .before .before .before .before .before .before .before .pre .0 .state .whole)) _ (c .before .before .before .before .remove .ensures _ (c .before .before .before .before .before .before .before .before .before .before .before .before .before .before .before .pre .0 .state)))
+number-requires c κs = ap (leZ (pos 0)) (given (c .before .before .before .before .before .before .telegram-at .result .receiver) (c .struct-told .given .1 .0 .1)) ∙ receiver-number _ (c .before .before .before .before .before .before .before .before .before .before .before .before .before .before .before .pre .0 .passed) _ (taken-fits (takes _ _ _ _ (c .before .before .before .before .before .before .before .before .before .before .before .before .before .before .before .pre .0) (c .before .before .before .before .before .before .before .before .before .before .before .before .before .before .before .pre .1) _ (c .before .before .before .before .before .before .before .before .before .before .before .before .before .number-at .ensures) (c .before .before .before .before .before .before .before .before .before .before .before .before .if1 .left) (c .before .before .before .before .before .before .before .before .before .before .before .if2 .left) _ (c .before .before .before .before .before .before .before .before .before .before .before .before .before .before .before .pre .2) _ (c .before .before .before .before .before .before .before .before .before .waiting-count .ensures) (c .before .before .before .before .before .before .before .before .if3 .left) _ (c .before .before .before .before .before .before .telegram-at .ensures _ (c .before .before .before .before .before .before .before .before .before .before .before .before .before .before .before .pre .0 .state .whole)) _ (c .before .before .before .before .remove .ensures _ (c .before .before .before .before .before .before .before .before .before .before .before .before .before .before .before .pre .0 .state))))
 
 panicked-requires : tie.Need-panicked-requires
-panicked-requires c κs = (record { directory = c .before .before .before .before .before .before .before .before .before .before .before .before .before .before .before .before .pre .0 .directory; passed = c .before .before .before .before .before .before .before .before .before .before .before .before .before .before .before .before .pre .0 .passed; state = taken-kept _ _ _ (c .before .before .before .before .before .before .before .before .before .before .before .before .before .before .before .before .pre .1) _ (c .before .before .before .before .before .before .before .before .before .before .before .before .before .before .number-at .ensures) (c .before .before .before .before .before .before .before .before .before .before .before .before .before .if1 .left) (c .before .before .before .before .before .before .before .before .before .before .before .before .if2 .left) _ (c .before .before .before .before .before .before .before .before .before .before .before .before .before .before .before .before .pre .2) _ (c .before .before .before .before .before .before .before .before .before .before .waiting-count .ensures) (c .before .before .before .before .before .before .before .before .before .if3 .left) (c .before .before .before .before .before .before .before .before .before .before .before .before .before .before .before .before .pre .0 .state) _ (c .before .before .before .before .before .before .before .telegram-at .ensures _ (c .before .before .before .before .before .before .before .before .before .before .before .before .before .before .before .before .pre .0 .state .whole)) _ (c .before .before .before .before .before .remove .ensures _ (c .before .before .before .before .before .before .before .before .before .before .before .before .before .before .before .before .pre .0 .state)) }, (c .before .before .before .before .before .before .before .before .before .before .before .before .before .before .before .before .pre .3 ∙ c .before .before .before .before .before .before .before .before .before .before .before .before .before .before .before .before .pre .0 .state .whole ∙ sym (taken-kept _ _ _ (c .before .before .before .before .before .before .before .before .before .before .before .before .before .before .before .before .pre .1) _ (c .before .before .before .before .before .before .before .before .before .before .before .before .before .before .number-at .ensures) (c .before .before .before .before .before .before .before .before .before .before .before .before .before .if1 .left) (c .before .before .before .before .before .before .before .before .before .before .before .before .if2 .left) _ (c .before .before .before .before .before .before .before .before .before .before .before .before .before .before .before .before .pre .2) _ (c .before .before .before .before .before .before .before .before .before .before .waiting-count .ensures) (c .before .before .before .before .before .before .before .before .before .if3 .left) (c .before .before .before .before .before .before .before .before .before .before .before .before .before .before .before .before .pre .0 .state) _ (c .before .before .before .before .before .before .before .telegram-at .ensures _ (c .before .before .before .before .before .before .before .before .before .before .before .before .before .before .before .before .pre .0 .state .whole)) _ (c .before .before .before .before .before .remove .ensures _ (c .before .before .before .before .before .before .before .before .before .before .before .before .before .before .before .before .pre .0 .state)) .whole)), corrupt-bound _ _ _ (c .before .before .before .before .before .before .before .before .before .before .before .before .before .before .before .before .pre .1) _ (c .before .before .before .before .before .before .before .before .before .before .before .before .before .before .number-at .ensures) (c .before .before .before .before .before .before .before .before .before .before .before .before .before .if1 .left) (c .before .before .before .before .before .before .before .before .before .before .before .before .if2 .left) _ (c .before .before .before .before .before .before .before .before .before .before .before .before .before .before .before .before .pre .2) _ (c .before .before .before .before .before .before .before .before .before .before .waiting-count .ensures) (c .before .before .before .before .before .before .before .before .before .if3 .left) (c .before .before .before .before .before .before .before .before .before .before .before .before .before .before .before .before .pre .0 .state) _ (c .before .before .before .before .before .before .before .telegram-at .ensures _ (c .before .before .before .before .before .before .before .before .before .before .before .before .before .before .before .before .pre .0 .state .whole)) _ (c .before .before .before .before .before .remove .ensures _ (c .before .before .before .before .before .before .before .before .before .before .before .before .before .before .before .before .pre .0 .state)) (c .before .before .before .match .keys2) _ (c .number .ensures ∙ ap natAbs (given (c .before .before .before .before .before .before .before .telegram-at .result .receiver) (c .before .struct-told .given .1 .0 .1))))
+panicked-requires c κs = let k = takes _ _ _ _ (c .before .before .before .before .before .before .before .before .before .before .before .before .before .before .before .before .pre .0) (c .before .before .before .before .before .before .before .before .before .before .before .before .before .before .before .before .pre .1) _ (c .before .before .before .before .before .before .before .before .before .before .before .before .before .before .number-at .ensures) (c .before .before .before .before .before .before .before .before .before .before .before .before .before .if1 .left) (c .before .before .before .before .before .before .before .before .before .before .before .before .if2 .left) _ (c .before .before .before .before .before .before .before .before .before .before .before .before .before .before .before .before .pre .2) _ (c .before .before .before .before .before .before .before .before .before .before .waiting-count .ensures) (c .before .before .before .before .before .before .before .before .before .if3 .left) _ (c .before .before .before .before .before .before .before .telegram-at .ensures _ (c .before .before .before .before .before .before .before .before .before .before .before .before .before .before .before .before .pre .0 .state .whole)) _ (c .before .before .before .before .before .remove .ensures _ (c .before .before .before .before .before .before .before .before .before .before .before .before .before .before .before .before .pre .0 .state)) in (taken-plays k, taken-long k (c .before .before .before .before .before .before .before .before .before .before .before .before .before .before .before .before .args .old .now) (c .before .before .before .before .before .before .before .before .before .before .before .before .before .before .before .before .pre .3), corrupt-bound k (c .before .before .before .match .keys2) _ (c .number .ensures ∙ ap natAbs (given (c .before .before .before .before .before .before .before .telegram-at .result .receiver) (c .before .struct-told .given .1 .0 .1))))
 
 reacts-requires : tie.Need-reacts-requires
-reacts-requires c κs = (record { directory = c .before .before .before .before .before .before .before .before .before .before .before .before .before .before .pre .0 .directory; passed = c .before .before .before .before .before .before .before .before .before .before .before .before .before .before .pre .0 .passed; state = taken-kept _ _ _ (c .before .before .before .before .before .before .before .before .before .before .before .before .before .before .pre .1) _ (c .before .before .before .before .before .before .before .before .before .before .before .before .number-at .ensures) (c .before .before .before .before .before .before .before .before .before .before .before .if1 .left) (c .before .before .before .before .before .before .before .before .before .before .if2 .left) _ (c .before .before .before .before .before .before .before .before .before .before .before .before .before .before .pre .2) _ (c .before .before .before .before .before .before .before .before .waiting-count .ensures) (c .before .before .before .before .before .before .before .if3 .left) (c .before .before .before .before .before .before .before .before .before .before .before .before .before .before .pre .0 .state) _ (c .before .before .before .before .before .telegram-at .ensures _ (c .before .before .before .before .before .before .before .before .before .before .before .before .before .before .pre .0 .state .whole)) _ (c .before .before .before .remove .ensures _ (c .before .before .before .before .before .before .before .before .before .before .before .before .before .before .pre .0 .state)) }, (c .before .before .before .before .before .before .before .before .before .before .before .before .before .before .pre .3 ∙ c .before .before .before .before .before .before .before .before .before .before .before .before .before .before .pre .0 .state .whole ∙ sym (taken-kept _ _ _ (c .before .before .before .before .before .before .before .before .before .before .before .before .before .before .pre .1) _ (c .before .before .before .before .before .before .before .before .before .before .before .before .number-at .ensures) (c .before .before .before .before .before .before .before .before .before .before .before .if1 .left) (c .before .before .before .before .before .before .before .before .before .before .if2 .left) _ (c .before .before .before .before .before .before .before .before .before .before .before .before .before .before .pre .2) _ (c .before .before .before .before .before .before .before .before .waiting-count .ensures) (c .before .before .before .before .before .before .before .if3 .left) (c .before .before .before .before .before .before .before .before .before .before .before .before .before .before .pre .0 .state) _ (c .before .before .before .before .before .telegram-at .ensures _ (c .before .before .before .before .before .before .before .before .before .before .before .before .before .before .pre .0 .state .whole)) _ (c .before .before .before .remove .ensures _ (c .before .before .before .before .before .before .before .before .before .before .before .before .before .before .pre .0 .state)) .whole)), taken-fits _ _ _ (c .before .before .before .before .before .before .before .before .before .before .before .before .before .before .pre .1) _ (c .before .before .before .before .before .before .before .before .before .before .before .before .number-at .ensures) (c .before .before .before .before .before .before .before .before .before .before .before .if1 .left) (c .before .before .before .before .before .before .before .before .before .before .if2 .left) _ (c .before .before .before .before .before .before .before .before .before .before .before .before .before .before .pre .2) _ (c .before .before .before .before .before .before .before .before .waiting-count .ensures) (c .before .before .before .before .before .before .before .if3 .left) (c .before .before .before .before .before .before .before .before .before .before .before .before .before .before .pre .0 .state) _ (c .before .before .before .before .before .telegram-at .ensures _ (c .before .before .before .before .before .before .before .before .before .before .before .before .before .before .pre .0 .state .whole)) _ (c .before .before .before .remove .ensures _ (c .before .before .before .before .before .before .before .before .before .before .before .before .before .before .pre .0 .state)), taken-inner _ _ _ (c .before .before .before .before .before .before .before .before .before .before .before .before .before .before .pre .1) _ (c .before .before .before .before .before .before .before .before .before .before .before .before .number-at .ensures) (c .before .before .before .before .before .before .before .before .before .before .before .if1 .left) (c .before .before .before .before .before .before .before .before .before .before .if2 .left) _ (c .before .before .before .before .before .before .before .before .before .before .before .before .before .before .pre .2) _ (c .before .before .before .before .before .before .before .before .waiting-count .ensures) (c .before .before .before .before .before .before .before .if3 .left) (c .before .before .before .before .before .before .before .before .before .before .before .before .before .before .pre .0 .state) _ (c .before .before .before .before .before .telegram-at .ensures _ (c .before .before .before .before .before .before .before .before .before .before .before .before .before .before .pre .0 .state .whole)) _ (c .before .before .before .remove .ensures _ (c .before .before .before .before .before .before .before .before .before .before .before .before .before .before .pre .0 .state)) (c .before .match .rest .0 .1) (c .before .match .rest .1))
+reacts-requires c κs = let k = takes _ _ _ _ (c .before .before .before .before .before .before .before .before .before .before .before .before .before .before .pre .0) (c .before .before .before .before .before .before .before .before .before .before .before .before .before .before .pre .1) _ (c .before .before .before .before .before .before .before .before .before .before .before .before .number-at .ensures) (c .before .before .before .before .before .before .before .before .before .before .before .if1 .left) (c .before .before .before .before .before .before .before .before .before .before .if2 .left) _ (c .before .before .before .before .before .before .before .before .before .before .before .before .before .before .pre .2) _ (c .before .before .before .before .before .before .before .before .waiting-count .ensures) (c .before .before .before .before .before .before .before .if3 .left) _ (c .before .before .before .before .before .telegram-at .ensures _ (c .before .before .before .before .before .before .before .before .before .before .before .before .before .before .pre .0 .state .whole)) _ (c .before .before .before .remove .ensures _ (c .before .before .before .before .before .before .before .before .before .before .before .before .before .before .pre .0 .state)) in (taken-plays k, taken-long k (c .before .before .before .before .before .before .before .before .before .before .before .before .before .before .args .old .now) (c .before .before .before .before .before .before .before .before .before .before .before .before .before .before .pre .3), taken-fits k, taken-inner k (c .before .match .rest .0 .1) (c .before .match .rest .1))
 
 same-length-4 : tie.Need-same-length-4
 same-length-4 c = search needs
 
 returns-4 : tie.Need-returns-4
-returns-4 c = as-deliver _ _ _ (c .before .before .before .before .before .before .before .before .before .before .before .before .before .before .before .before .pre .1) _ (c .before .before .before .before .before .before .before .before .before .before .before .before .before .before .number-at .ensures) (c .before .before .before .before .before .before .before .before .before .before .before .before .before .if1 .left) (c .before .before .before .before .before .before .before .before .before .before .before .before .if2 .left) _ (c .before .before .before .before .before .before .before .before .before .before .before .before .before .before .before .before .pre .2) _ (c .before .before .before .before .before .before .before .before .before .before .waiting-count .ensures) (c .before .before .before .before .before .before .before .before .before .if3 .left) (c .before .before .before .before .before .before .before .before .before .before .before .before .before .before .before .before .pre .0 .state) _ (c .before .before .before .before .before .before .before .telegram-at .ensures _ (c .before .before .before .before .before .before .before .before .before .before .before .before .before .before .before .before .pre .0 .state .whole)) _ (c .before .before .before .before .before .remove .ensures _ (c .before .before .before .before .before .before .before .before .before .before .before .before .before .before .before .before .pre .0 .state)) _ (c .before .before .before .before .before .before .before .before .before .before .before .before .before .before .before .before .pre .4) _ (c .before .before .before .match .keys1) (c .before .delivers .ensures)
+returns-4 c = as-deliver (takes _ _ _ _ (c .before .before .before .before .before .before .before .before .before .before .before .before .before .before .before .before .pre .0) (c .before .before .before .before .before .before .before .before .before .before .before .before .before .before .before .before .pre .1) _ (c .before .before .before .before .before .before .before .before .before .before .before .before .before .before .number-at .ensures) (c .before .before .before .before .before .before .before .before .before .before .before .before .before .if1 .left) (c .before .before .before .before .before .before .before .before .before .before .before .before .if2 .left) _ (c .before .before .before .before .before .before .before .before .before .before .before .before .before .before .before .before .pre .2) _ (c .before .before .before .before .before .before .before .before .before .before .waiting-count .ensures) (c .before .before .before .before .before .before .before .before .before .if3 .left) _ (c .before .before .before .before .before .before .before .telegram-at .ensures _ (c .before .before .before .before .before .before .before .before .before .before .before .before .before .before .before .before .pre .0 .state .whole)) _ (c .before .before .before .before .before .remove .ensures _ (c .before .before .before .before .before .before .before .before .before .before .before .before .before .before .before .before .pre .0 .state))) _ (c .before .before .before .before .before .before .before .before .before .before .before .before .before .before .before .before .pre .4) _ (c .before .before .before .match .keys1) (c .before .delivers .ensures)
 
 same-length-5 : tie.Need-same-length-5
 same-length-5 c = search needs
 
 returns-5 : tie.Need-returns-5
-returns-5 c = as-corrupt _ _ _ (c .before .before .before .before .before .before .before .before .before .before .before .before .before .before .before .before .before .before .pre .1) _ (c .before .before .before .before .before .before .before .before .before .before .before .before .before .before .before .before .number-at .ensures) (c .before .before .before .before .before .before .before .before .before .before .before .before .before .before .before .if1 .left) (c .before .before .before .before .before .before .before .before .before .before .before .before .before .before .if2 .left) _ (c .before .before .before .before .before .before .before .before .before .before .before .before .before .before .before .before .before .before .pre .2) _ (c .before .before .before .before .before .before .before .before .before .before .before .before .waiting-count .ensures) (c .before .before .before .before .before .before .before .before .before .before .before .if3 .left) (c .before .before .before .before .before .before .before .before .before .before .before .before .before .before .before .before .before .before .pre .0 .state) _ (c .before .before .before .before .before .before .before .before .before .telegram-at .ensures _ (c .before .before .before .before .before .before .before .before .before .before .before .before .before .before .before .before .before .before .pre .0 .state .whole)) _ (c .before .before .before .before .before .before .before .remove .ensures _ (c .before .before .before .before .before .before .before .before .before .before .before .before .before .before .before .before .before .before .pre .0 .state)) _ (c .before .before .before .before .before .before .before .before .before .before .before .before .before .before .before .before .before .before .pre .4) _ (c .before .before .before .before .before .match .keys2) _ (c .before .before .number .ensures ∙ ap natAbs (given (c .before .before .before .before .before .before .before .before .before .telegram-at .result .receiver) (c .before .before .before .struct-told .given .1 .0 .1))) (c .before .panicked .ensures)
+returns-5 c = as-corrupt (takes _ _ _ _ (c .before .before .before .before .before .before .before .before .before .before .before .before .before .before .before .before .before .before .pre .0) (c .before .before .before .before .before .before .before .before .before .before .before .before .before .before .before .before .before .before .pre .1) _ (c .before .before .before .before .before .before .before .before .before .before .before .before .before .before .before .before .number-at .ensures) (c .before .before .before .before .before .before .before .before .before .before .before .before .before .before .before .if1 .left) (c .before .before .before .before .before .before .before .before .before .before .before .before .before .before .if2 .left) _ (c .before .before .before .before .before .before .before .before .before .before .before .before .before .before .before .before .before .before .pre .2) _ (c .before .before .before .before .before .before .before .before .before .before .before .before .waiting-count .ensures) (c .before .before .before .before .before .before .before .before .before .before .before .if3 .left) _ (c .before .before .before .before .before .before .before .before .before .telegram-at .ensures _ (c .before .before .before .before .before .before .before .before .before .before .before .before .before .before .before .before .before .before .pre .0 .state .whole)) _ (c .before .before .before .before .before .before .before .remove .ensures _ (c .before .before .before .before .before .before .before .before .before .before .before .before .before .before .before .before .before .before .pre .0 .state))) _ (c .before .before .before .before .before .before .before .before .before .before .before .before .before .before .before .before .before .before .pre .4) _ (c .before .before .before .before .before .match .keys2) _ (c .before .before .number .ensures ∙ ap natAbs (given (c .before .before .before .before .before .before .before .before .before .telegram-at .result .receiver) (c .before .before .before .struct-told .given .1 .0 .1))) (c .before .panicked .ensures)
 
 same-length-6 : tie.Need-same-length-6
 same-length-6 c = search needs
 
 returns-6 : tie.Need-returns-6
-returns-6 c = as-inner _ _ _ (c .before .before .before .before .before .before .before .before .before .before .before .before .before .before .before .before .pre .1) _ (c .before .before .before .before .before .before .before .before .before .before .before .before .before .before .number-at .ensures) (c .before .before .before .before .before .before .before .before .before .before .before .before .before .if1 .left) (c .before .before .before .before .before .before .before .before .before .before .before .before .if2 .left) _ (c .before .before .before .before .before .before .before .before .before .before .before .before .before .before .before .before .pre .2) _ (c .before .before .before .before .before .before .before .before .before .before .waiting-count .ensures) (c .before .before .before .before .before .before .before .before .before .if3 .left) (c .before .before .before .before .before .before .before .before .before .before .before .before .before .before .before .before .pre .0 .state) _ (c .before .before .before .before .before .before .before .telegram-at .ensures _ (c .before .before .before .before .before .before .before .before .before .before .before .before .before .before .before .before .pre .0 .state .whole)) _ (c .before .before .before .before .before .remove .ensures _ (c .before .before .before .before .before .before .before .before .before .before .before .before .before .before .before .before .pre .0 .state)) _ (c .before .before .before .before .before .before .before .before .before .before .before .before .before .before .before .before .pre .4) _ (c .before .before .before .match .rest .0 .1) (c .before .before .before .match .rest .1) (c .before .reacts .ensures)
+returns-6 c = as-inner (takes _ _ _ _ (c .before .before .before .before .before .before .before .before .before .before .before .before .before .before .before .before .pre .0) (c .before .before .before .before .before .before .before .before .before .before .before .before .before .before .before .before .pre .1) _ (c .before .before .before .before .before .before .before .before .before .before .before .before .before .before .number-at .ensures) (c .before .before .before .before .before .before .before .before .before .before .before .before .before .if1 .left) (c .before .before .before .before .before .before .before .before .before .before .before .before .if2 .left) _ (c .before .before .before .before .before .before .before .before .before .before .before .before .before .before .before .before .pre .2) _ (c .before .before .before .before .before .before .before .before .before .before .waiting-count .ensures) (c .before .before .before .before .before .before .before .before .before .if3 .left) _ (c .before .before .before .before .before .before .before .telegram-at .ensures _ (c .before .before .before .before .before .before .before .before .before .before .before .before .before .before .before .before .pre .0 .state .whole)) _ (c .before .before .before .before .before .remove .ensures _ (c .before .before .before .before .before .before .before .before .before .before .before .before .before .before .before .before .pre .0 .state))) _ (c .before .before .before .before .before .before .before .before .before .before .before .before .before .before .before .before .pre .4) _ (c .before .before .before .match .rest .0 .1) (c .before .before .before .match .rest .1) (c .before .reacts .ensures)
 
 pub happened-spec : {M : Type 1} → statement M
 happened-spec =
