@@ -17,14 +17,14 @@ fn operand_type(
     c: Record,
     b: Record,
     n: usize,
-    m: usize,
+    m: u16,
 ) -> Typed
     requires { ⌜ now directory ≡ directoryOf (now sheet) ⌝ }
     requires { ⌜ Table (now sheet) c (now table) ⌝ }
     ensures { λ t. ⌜ t ≡ lowerType n (typeOf (now (sheet .entry)) c b) m ⌝ }
 {
-    if m < n {
-        type_of(sheet, directory, table, c, b, m)
+    if (m as usize) < n {
+        type_of(sheet, directory, table, c, b, m as usize)
     } else {
         Typed::Wrong
     }
@@ -51,7 +51,7 @@ fn data_match(
     let mut j: usize = 0;
     while j < count {
         let m = fields::field(r, 4 + j);
-        let x = operand_type(sheet, directory, table, c, b, n, m);
+        let x = operand_type(sheet, directory, table, c, b, n, m as u16);
         if !types::is_of(x, types::type_at(sheet, directory, first + j)) {
             return false;
         }
@@ -80,21 +80,21 @@ pub fn type_of(
     match op {
         1..=6 => Typed::Expression(types::literal_type(r)),
         7 => forms::read_type(sheet, directory, c, b, r),
-        8 => forms::not_type(operand_type(sheet, directory, table, c, b, n, r.f1 as usize)),
+        8 => forms::not_type(operand_type(sheet, directory, table, c, b, n, r.f1)),
         9..=16 => {
-            let x = operand_type(sheet, directory, table, c, b, n, r.f1 as usize);
-            let y = operand_type(sheet, directory, table, c, b, n, r.f2 as usize);
+            let x = operand_type(sheet, directory, table, c, b, n, r.f1);
+            let y = operand_type(sheet, directory, table, c, b, n, r.f2);
             forms::binary_type(op, x, y)
         }
         17..=18 => forms::clock_type(sheet, directory, c, r),
         32 => Typed::Statement,
         33 => {
-            let x = operand_type(sheet, directory, table, c, b, n, r.f3 as usize);
+            let x = operand_type(sheet, directory, table, c, b, n, r.f3);
             forms::assign_type(sheet, directory, c, b, r, x)
         }
         34 => {
-            let x = operand_type(sheet, directory, table, c, b, n, r.f1 as usize);
-            let y = operand_type(sheet, directory, table, c, b, n, r.f2 as usize);
+            let x = operand_type(sheet, directory, table, c, b, n, r.f1);
+            let y = operand_type(sheet, directory, table, c, b, n, r.f2);
             let g = types::name_range(sheet, directory, r.f3 as usize);
             let d = data_match(sheet, directory, table, c, b, n, g, r);
             sends::external_type(sheet, directory, r, x, y, d)
@@ -105,7 +105,7 @@ pub fn type_of(
             sends::internal_type(sheet, directory, table, c, r, d)
         }
         36..=37 => {
-            let x = operand_type(sheet, directory, table, c, b, n, r.f2 as usize);
+            let x = operand_type(sheet, directory, table, c, b, n, r.f2);
             let g = types::name_range(sheet, directory, r.f3 as usize);
             let d = data_match(sheet, directory, table, c, b, n, g, r);
             sends::arm_type(sheet, directory, table, c, r, x, d)
@@ -117,19 +117,19 @@ pub fn type_of(
             sends::call_type(sheet, directory, c, r, d)
         }
         41 => {
-            let x = operand_type(sheet, directory, table, c, b, n, r.f1 as usize);
-            let y = operand_type(sheet, directory, table, c, b, n, r.f2 as usize);
-            let z = operand_type(sheet, directory, table, c, b, n, r.f3 as usize);
+            let x = operand_type(sheet, directory, table, c, b, n, r.f1);
+            let y = operand_type(sheet, directory, table, c, b, n, r.f2);
+            let z = operand_type(sheet, directory, table, c, b, n, r.f3);
             forms::choice_type(x, y, z)
         }
         42 => {
-            let x = operand_type(sheet, directory, table, c, b, n, r.f1 as usize);
-            let y = operand_type(sheet, directory, table, c, b, n, r.f2 as usize);
+            let x = operand_type(sheet, directory, table, c, b, n, r.f1);
+            let y = operand_type(sheet, directory, table, c, b, n, r.f2);
             forms::loop_type(x, y)
         }
         43 => {
-            let x = operand_type(sheet, directory, table, c, b, n, r.f1 as usize);
-            let y = operand_type(sheet, directory, table, c, b, n, r.f2 as usize);
+            let x = operand_type(sheet, directory, table, c, b, n, r.f1);
+            let y = operand_type(sheet, directory, table, c, b, n, r.f2);
             forms::sequence_type(x, y)
         }
         _ => Typed::Wrong,

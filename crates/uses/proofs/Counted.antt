@@ -8,18 +8,15 @@ use native.Mathlib.Decide.{decLt}
 use lib.ListN.{getD}
 use lib.Dec.{eqb}
 use borrow.Author.Tests.{eq-eqb, ne-eqb}
-use Rattle.sheet.specs.declared.Record.{Record}
-use Rattle.sheet.specs.declared.Found.the-variants.{Present}
 use Rattle.sheet.specs.All.{_and_, allBelow}
 use Rattle.sheet.specs.Names.{charts, nodes, bindings}
-use Rattle.sheet.specs.Sheet.{directoryRight, countOf, recordOf}
+use Rattle.sheet.specs.Sheet.{countOf, recordOf}
 use Rattle.sheet.proofs.All.{and-true, all-fails}
-use Rattle.sheet.proofs.Sheet.{count-some, record-inside, record-absent, sheet-limit}
 use Rattle.laris.specs.Fields.{numberOr0, sumBelow}
 use Rattle.laris.specs.Uses.{usesInChart, usesInBinding, usesOf, usedOnce}
-use Rattle.uses.specs.Marks.{markedBelow, markedBy, pending, Marked}
-use Rattle.uses.proofs.Trees.{one-other, marked-below, marked-itself}
-use Rattle.uses.proofs.Marks.{pending-none, pending-itself, pending-more}
+use Rattle.marks.specs.Marks.{markedBelow, markedBy, pending, Marked}
+use Rattle.marks.proofs.Trees.{one-other, marked-below, marked-itself}
+use Rattle.marks.proofs.Marks.{pending-none, pending-itself, pending-more}
 
 all-true : (n : ℕ) (p : ℕ → Bool) → ((i : ℕ) → i < n → p i ≡ true) → allBelow n p ≡ true
 unfolding allBelow _and_
@@ -92,20 +89,3 @@ module _ (s : List ℕ) where
       ];
       rest = λ n l. omega (arith, k .1 n l, uses-below n l (omega arith));
     }
-
-  -- ---- bounds
-
-  pub count-small : (k : ℕ) → countOf s k ≤ 4095
-  count-small k = go (countOf s k) refl
-    where
-      go : (n : ℕ) → countOf s k ≡ n → n ≤ 4095
-      go zero e = omega arith
-      go (suc n) e =
-          let some : (directoryRight s ≡ true) × (k < 8) = count-some s k n (omega arith) in
-          omega (arith, sheet-limit s (some .0), record-inside s k n (omega arith))
-
-  pub present-below : (k n : ℕ) (r : Record) → recordOf s k n ≡ Present r → n < countOf s k
-  present-below k n r e = elim (decLt n (countOf s k)) [
-    | yes l ↦ l
-    | no l ↦ (let z : _≡_ {A = ℕ} 0 1 = cc (record-absent s k n (omega arith)) in absurd (omega arith))
-  ]

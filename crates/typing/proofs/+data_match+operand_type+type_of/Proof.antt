@@ -1,5 +1,5 @@
 use native.Mathlib.Omega.{arith}
-use Prim.Native.Nat.{ℕ, _+_, _*_, _-_, _<_, _≤_}
+use Prim.Native.Nat.{ℕ, _+_, _*_, _-_, _≤_, _<_}
 use mathlib.Core.Path.{_≡_, refl, sym, _∙_}
 use mathlib.Core.Bool.{true}
 use borrow.Author.Needs.{needs}
@@ -150,6 +150,9 @@ data-match-add-field t c = search needs
 data-match-field-requires : (t : ℕ) → data-match-lts.Need-field-requires (data-match-callees t) (data-match-at t) data-match.Post data-match-Inv-loop data-match-μ-loop
 data-match-field-requires t c κs = search needs
 
+data-match-cast-operand-type : (t : ℕ) → data-match-lts.Need-cast-operand-type (data-match-callees t) (data-match-at t) data-match.Post data-match-Inv-loop data-match-μ-loop
+data-match-cast-operand-type t c = search needs
+
 data-match-operand-type-requires : (t : ℕ) → data-match-lts.Need-operand-type-requires (data-match-callees t) (data-match-at t) data-match.Post data-match-Inv-loop data-match-μ-loop
 data-match-operand-type-requires t c κs = search needs
 
@@ -211,47 +214,35 @@ type-of-returns t c = typed-absent _ _ _ _ (sym (c .before .before .read .ensure
 type-of-read-type-requires : (t : ℕ) → type-of-lts.Need-read-type-requires (type-of-callees t) (type-of-at t) type-of.Post
 type-of-read-type-requires t c κs = search needs
 
-type-of-cast-operand-type : (t : ℕ) → type-of-lts.Need-cast-operand-type (type-of-callees t) (type-of-at t) type-of.Post
-type-of-cast-operand-type t c = search needs
-
 type-of-operand-type-requires : (t : ℕ) → type-of-lts.Need-operand-type-requires (type-of-callees t) (type-of-at t) type-of.Post
-type-of-operand-type-requires t c κs = search needs
+type-of-operand-type-requires t c κs = (omega (arith, c .before .before .before .before .before .before .pre .0), (c .before .before .before .before .before .before .pre .1 .0, c .before .before .before .before .before .before .pre .1 .1))
 
 type-of-not-type-requires : (t : ℕ) → type-of-lts.Need-not-type-requires (type-of-callees t) (type-of-at t) type-of.Post
 type-of-not-type-requires t c κs = search needs
 
-type-of-cast-operand-type-2 : (t : ℕ) → type-of-lts.Need-cast-operand-type-2 (type-of-callees t) (type-of-at t) type-of.Post
-type-of-cast-operand-type-2 t c = search needs
-
 type-of-operand-type-requires-2 : (t : ℕ) → type-of-lts.Need-operand-type-requires-2 (type-of-callees t) (type-of-at t) type-of.Post
-type-of-operand-type-requires-2 t c κs = search needs
+type-of-operand-type-requires-2 t c κs = (omega (arith, c .before .before .before .before .before .before .pre .0), (c .before .before .before .before .before .before .pre .1 .0, c .before .before .before .before .before .before .pre .1 .1))
 
 type-of-assign-type-requires : (t : ℕ) → type-of-lts.Need-assign-type-requires (type-of-callees t) (type-of-at t) type-of.Post
 type-of-assign-type-requires t c κs = search needs
 
-type-of-cast-operand-type-3 : (t : ℕ) → type-of-lts.Need-cast-operand-type-3 (type-of-callees t) (type-of-at t) type-of.Post
-type-of-cast-operand-type-3 t c = search needs
-
 type-of-operand-type-requires-3 : (t : ℕ) → type-of-lts.Need-operand-type-requires-3 (type-of-callees t) (type-of-at t) type-of.Post
-type-of-operand-type-requires-3 t c κs = search needs
-
-type-of-cast-operand-type-4 : (t : ℕ) → type-of-lts.Need-cast-operand-type-4 (type-of-callees t) (type-of-at t) type-of.Post
-type-of-cast-operand-type-4 t c = search needs
+type-of-operand-type-requires-3 t c κs = (omega (arith, c .before .before .before .before .before .before .pre .0), (c .before .before .before .before .before .before .pre .1 .0, c .before .before .before .before .before .before .pre .1 .1))
 
 type-of-operand-type-requires-4 : (t : ℕ) → type-of-lts.Need-operand-type-requires-4 (type-of-callees t) (type-of-at t) type-of.Post
-type-of-operand-type-requires-4 t c κs = search needs
+type-of-operand-type-requires-4 t c κs = (omega (arith, c .before .before .before .before .before .before .before .pre .0), (c .before .before .before .before .before .before .before .pre .1 .0, c .before .before .before .before .before .before .before .pre .1 .1))
 
 type-of-cast-name-range : (t : ℕ) → type-of-lts.Need-cast-name-range (type-of-callees t) (type-of-at t) type-of.Post
 type-of-cast-name-range t c = search needs
 
 type-of-name-range-requires : (t : ℕ) → type-of-lts.Need-name-range-requires (type-of-callees t) (type-of-at t) type-of.Post
-type-of-name-range-requires t c κs = c .before .before .before .before .before .before .before .before .before .before .before .pre .1 .0
+type-of-name-range-requires t c κs = c .before .before .before .before .before .before .before .before .before .pre .1 .0
 
 type-of-data-match-requires : (t : ℕ) → type-of-lts.Need-data-match-requires (type-of-callees t) (type-of-at t) type-of.Post
-type-of-data-match-requires t c κs = (omega (arith, c .before .before .before .before .before .before .before .before .before .before .before .before .pre .0), (c .before .before .before .before .before .before .before .before .before .before .before .before .pre .1 .0, (c .before .before .before .before .before .before .before .before .before .before .before .before .pre .1 .1, (c .name-range .ensures .1, c .name-range .ensures .2))))
+type-of-data-match-requires t c κs = (omega (arith, c .before .before .before .before .before .before .before .before .before .before .pre .0), (c .before .before .before .before .before .before .before .before .before .before .pre .1 .0, (c .before .before .before .before .before .before .before .before .before .before .pre .1 .1, (c .name-range .ensures .1, c .name-range .ensures .2))))
 
 type-of-external-type-requires : (t : ℕ) → type-of-lts.Need-external-type-requires (type-of-callees t) (type-of-at t) type-of.Post
-type-of-external-type-requires t c κs = c .before .before .before .before .before .before .before .before .before .before .before .before .before .pre .1 .0
+type-of-external-type-requires t c κs = c .before .before .before .before .before .before .before .before .before .before .before .pre .1 .0
 
 type-of-cast-name-range-2 : (t : ℕ) → type-of-lts.Need-cast-name-range-2 (type-of-callees t) (type-of-at t) type-of.Post
 type-of-cast-name-range-2 t c = search needs
@@ -274,53 +265,32 @@ type-of-data-match-requires-3 t c κs = (omega (arith, c .before .before .before
 type-of-call-type-requires : (t : ℕ) → type-of-lts.Need-call-type-requires (type-of-callees t) (type-of-at t) type-of.Post
 type-of-call-type-requires t c κs = search needs
 
-type-of-cast-operand-type-5 : (t : ℕ) → type-of-lts.Need-cast-operand-type-5 (type-of-callees t) (type-of-at t) type-of.Post
-type-of-cast-operand-type-5 t c = search needs
-
 type-of-operand-type-requires-5 : (t : ℕ) → type-of-lts.Need-operand-type-requires-5 (type-of-callees t) (type-of-at t) type-of.Post
-type-of-operand-type-requires-5 t c κs = search needs
-
-type-of-cast-operand-type-6 : (t : ℕ) → type-of-lts.Need-cast-operand-type-6 (type-of-callees t) (type-of-at t) type-of.Post
-type-of-cast-operand-type-6 t c = search needs
+type-of-operand-type-requires-5 t c κs = (omega (arith, c .before .before .before .before .before .before .pre .0), (c .before .before .before .before .before .before .pre .1 .0, c .before .before .before .before .before .before .pre .1 .1))
 
 type-of-operand-type-requires-6 : (t : ℕ) → type-of-lts.Need-operand-type-requires-6 (type-of-callees t) (type-of-at t) type-of.Post
-type-of-operand-type-requires-6 t c κs = search needs
-
-type-of-cast-operand-type-7 : (t : ℕ) → type-of-lts.Need-cast-operand-type-7 (type-of-callees t) (type-of-at t) type-of.Post
-type-of-cast-operand-type-7 t c = search needs
+type-of-operand-type-requires-6 t c κs = (omega (arith, c .before .before .before .before .before .before .before .pre .0), (c .before .before .before .before .before .before .before .pre .1 .0, c .before .before .before .before .before .before .before .pre .1 .1))
 
 type-of-operand-type-requires-7 : (t : ℕ) → type-of-lts.Need-operand-type-requires-7 (type-of-callees t) (type-of-at t) type-of.Post
-type-of-operand-type-requires-7 t c κs = search needs
+type-of-operand-type-requires-7 t c κs = (omega (arith, c .before .before .before .before .before .before .before .before .pre .0), (c .before .before .before .before .before .before .before .before .pre .1 .0, c .before .before .before .before .before .before .before .before .pre .1 .1))
 
 type-of-choice-type-requires : (t : ℕ) → type-of-lts.Need-choice-type-requires (type-of-callees t) (type-of-at t) type-of.Post
 type-of-choice-type-requires t c κs = search needs
 
-type-of-cast-operand-type-8 : (t : ℕ) → type-of-lts.Need-cast-operand-type-8 (type-of-callees t) (type-of-at t) type-of.Post
-type-of-cast-operand-type-8 t c = search needs
-
 type-of-operand-type-requires-8 : (t : ℕ) → type-of-lts.Need-operand-type-requires-8 (type-of-callees t) (type-of-at t) type-of.Post
-type-of-operand-type-requires-8 t c κs = search needs
-
-type-of-cast-operand-type-9 : (t : ℕ) → type-of-lts.Need-cast-operand-type-9 (type-of-callees t) (type-of-at t) type-of.Post
-type-of-cast-operand-type-9 t c = search needs
+type-of-operand-type-requires-8 t c κs = (omega (arith, c .before .before .before .before .before .before .pre .0), (c .before .before .before .before .before .before .pre .1 .0, c .before .before .before .before .before .before .pre .1 .1))
 
 type-of-operand-type-requires-9 : (t : ℕ) → type-of-lts.Need-operand-type-requires-9 (type-of-callees t) (type-of-at t) type-of.Post
-type-of-operand-type-requires-9 t c κs = search needs
+type-of-operand-type-requires-9 t c κs = (omega (arith, c .before .before .before .before .before .before .before .pre .0), (c .before .before .before .before .before .before .before .pre .1 .0, c .before .before .before .before .before .before .before .pre .1 .1))
 
 type-of-loop-type-requires : (t : ℕ) → type-of-lts.Need-loop-type-requires (type-of-callees t) (type-of-at t) type-of.Post
 type-of-loop-type-requires t c κs = search needs
 
-type-of-cast-operand-type-10 : (t : ℕ) → type-of-lts.Need-cast-operand-type-10 (type-of-callees t) (type-of-at t) type-of.Post
-type-of-cast-operand-type-10 t c = search needs
-
 type-of-operand-type-requires-10 : (t : ℕ) → type-of-lts.Need-operand-type-requires-10 (type-of-callees t) (type-of-at t) type-of.Post
-type-of-operand-type-requires-10 t c κs = search needs
-
-type-of-cast-operand-type-11 : (t : ℕ) → type-of-lts.Need-cast-operand-type-11 (type-of-callees t) (type-of-at t) type-of.Post
-type-of-cast-operand-type-11 t c = search needs
+type-of-operand-type-requires-10 t c κs = (omega (arith, c .before .before .before .before .before .before .pre .0), (c .before .before .before .before .before .before .pre .1 .0, c .before .before .before .before .before .before .pre .1 .1))
 
 type-of-operand-type-requires-11 : (t : ℕ) → type-of-lts.Need-operand-type-requires-11 (type-of-callees t) (type-of-at t) type-of.Post
-type-of-operand-type-requires-11 t c κs = search needs
+type-of-operand-type-requires-11 t c κs = (omega (arith, c .before .before .before .before .before .before .before .pre .0), (c .before .before .before .before .before .before .before .pre .1 .0, c .before .before .before .before .before .before .before .pre .1 .1))
 
 type-of-sequence-type-requires : (t : ℕ) → type-of-lts.Need-sequence-type-requires (type-of-callees t) (type-of-at t) type-of.Post
 type-of-sequence-type-requires t c κs = search needs
@@ -328,17 +298,11 @@ type-of-sequence-type-requires t c κs = search needs
 type-of-literal-type-requires : (t : ℕ) → type-of-lts.Need-literal-type-requires (type-of-callees t) (type-of-at t) type-of.Post
 type-of-literal-type-requires t c κs = search needs
 
-type-of-cast-operand-type-12 : (t : ℕ) → type-of-lts.Need-cast-operand-type-12 (type-of-callees t) (type-of-at t) type-of.Post
-type-of-cast-operand-type-12 t c = search needs
-
 type-of-operand-type-requires-12 : (t : ℕ) → type-of-lts.Need-operand-type-requires-12 (type-of-callees t) (type-of-at t) type-of.Post
-type-of-operand-type-requires-12 t c κs = search needs
-
-type-of-cast-operand-type-13 : (t : ℕ) → type-of-lts.Need-cast-operand-type-13 (type-of-callees t) (type-of-at t) type-of.Post
-type-of-cast-operand-type-13 t c = search needs
+type-of-operand-type-requires-12 t c κs = (omega (arith, c .before .before .before .before .before .before .before .before .before .pre .0), (c .before .before .before .before .before .before .before .before .before .pre .1 .0, c .before .before .before .before .before .before .before .before .before .pre .1 .1))
 
 type-of-operand-type-requires-13 : (t : ℕ) → type-of-lts.Need-operand-type-requires-13 (type-of-callees t) (type-of-at t) type-of.Post
-type-of-operand-type-requires-13 t c κs = search needs
+type-of-operand-type-requires-13 t c κs = (omega (arith, c .before .before .before .before .before .before .before .before .before .before .pre .0), (c .before .before .before .before .before .before .before .before .before .before .pre .1 .0, c .before .before .before .before .before .before .before .before .before .before .pre .1 .1))
 
 type-of-binary-type-requires : (t : ℕ) → type-of-lts.Need-binary-type-requires (type-of-callees t) (type-of-at t) type-of.Post
 type-of-binary-type-requires t c κs = search needs
@@ -346,11 +310,8 @@ type-of-binary-type-requires t c κs = search needs
 type-of-clock-type-requires : (t : ℕ) → type-of-lts.Need-clock-type-requires (type-of-callees t) (type-of-at t) type-of.Post
 type-of-clock-type-requires t c κs = search needs
 
-type-of-cast-operand-type-14 : (t : ℕ) → type-of-lts.Need-cast-operand-type-14 (type-of-callees t) (type-of-at t) type-of.Post
-type-of-cast-operand-type-14 t c = search needs
-
 type-of-operand-type-requires-14 : (t : ℕ) → type-of-lts.Need-operand-type-requires-14 (type-of-callees t) (type-of-at t) type-of.Post
-type-of-operand-type-requires-14 t c κs = search needs
+type-of-operand-type-requires-14 t c κs = (omega (arith, c .before .before .before .before .before .before .before .before .before .before .before .before .pre .0), (c .before .before .before .before .before .before .before .before .before .before .before .before .pre .1 .0, c .before .before .before .before .before .before .before .before .before .before .before .before .pre .1 .1))
 
 type-of-cast-name-range-3 : (t : ℕ) → type-of-lts.Need-cast-name-range-3 (type-of-callees t) (type-of-at t) type-of.Post
 type-of-cast-name-range-3 t c = search needs
@@ -359,10 +320,10 @@ type-of-name-range-requires-3 : (t : ℕ) → type-of-lts.Need-name-range-requir
 type-of-name-range-requires-3 t c κs = search needs
 
 type-of-data-match-requires-4 : (t : ℕ) → type-of-lts.Need-data-match-requires-4 (type-of-callees t) (type-of-at t) type-of.Post
-type-of-data-match-requires-4 t c κs = (omega (arith, c .before .before .before .before .before .before .before .before .before .before .before .before .before .before .before .before .pre .0), (c .before .before .before .before .before .before .before .before .before .before .before .before .before .before .before .before .pre .1 .0, (c .before .before .before .before .before .before .before .before .before .before .before .before .before .before .before .before .pre .1 .1, (c .name-range3 .ensures .1, c .name-range3 .ensures .2))))
+type-of-data-match-requires-4 t c κs = (omega (arith, c .before .before .before .before .before .before .before .before .before .before .before .before .before .before .before .pre .0), (c .before .before .before .before .before .before .before .before .before .before .before .before .before .before .before .pre .1 .0, (c .before .before .before .before .before .before .before .before .before .before .before .before .before .before .before .pre .1 .1, (c .name-range3 .ensures .1, c .name-range3 .ensures .2))))
 
 type-of-arm-type-requires : (t : ℕ) → type-of-lts.Need-arm-type-requires (type-of-callees t) (type-of-at t) type-of.Post
-type-of-arm-type-requires t c κs = c .before .before .before .before .before .before .before .before .before .before .before .before .before .before .before .before .before .pre .1
+type-of-arm-type-requires t c κs = c .before .before .before .before .before .before .before .before .before .before .before .before .before .before .before .before .pre .1
 
 type-of-clock-act-type-requires : (t : ℕ) → type-of-lts.Need-clock-act-type-requires (type-of-callees t) (type-of-at t) type-of.Post
 type-of-clock-act-type-requires t c κs = search needs
@@ -371,16 +332,16 @@ type-of-returns-2 : (t : ℕ) → type-of-lts.Need-returns-2 (type-of-callees t)
 type-of-returns-2 t c = typed-read _ _ _ _ _ (sym (c .before .before .before .before .before .read .ensures) ∙ c .before .before .before .r .given .1) _ (c .before .match2 .keys1) (c .read-type .ensures)
 
 type-of-returns-3 : (t : ℕ) → type-of-lts.Need-returns-3 (type-of-callees t) (type-of-at t) type-of.Post
-type-of-returns-3 t c = typed-not _ _ _ _ _ (sym (c .before .before .before .before .before .before .before .read .ensures) ∙ c .before .before .before .before .before .r .given .1) _ _ (c .before .before .before .match2 .keys2) (c .before .operand-type .ensures) (c .not-type .ensures)
+type-of-returns-3 t c = typed-not _ _ _ _ _ (sym (c .before .before .before .before .before .before .read .ensures) ∙ c .before .before .before .before .r .given .1) _ _ (c .before .before .match2 .keys2) (c .before .operand-type .ensures) (c .not-type .ensures)
 
 type-of-returns-4 : (t : ℕ) → type-of-lts.Need-returns-4 (type-of-callees t) (type-of-at t) type-of.Post
 type-of-returns-4 t c = typed-skip _ _ _ _ _ (sym (c .before .before .before .before .read .ensures) ∙ c .before .before .r .given .1) (c .match2 .keys3)
 
 type-of-returns-5 : (t : ℕ) → type-of-lts.Need-returns-5 (type-of-callees t) (type-of-at t) type-of.Post
-type-of-returns-5 t c = typed-assign _ _ _ _ _ (sym (c .before .before .before .before .before .before .before .read .ensures) ∙ c .before .before .before .before .before .r .given .1) _ _ (c .before .before .before .match2 .keys4) (c .before .operand-type2 .ensures) (c .assign-type .ensures)
+type-of-returns-5 t c = typed-assign _ _ _ _ _ (sym (c .before .before .before .before .before .before .read .ensures) ∙ c .before .before .before .before .r .given .1) _ _ (c .before .before .match2 .keys4) (c .before .operand-type2 .ensures) (c .assign-type .ensures)
 
 type-of-returns-6 : (t : ℕ) → type-of-lts.Need-returns-6 (type-of-callees t) (type-of-at t) type-of.Post
-type-of-returns-6 t c = typed-external _ _ _ _ _ (sym (c .before .before .before .before .before .before .before .before .before .before .before .before .read .ensures) ∙ c .before .before .before .before .before .before .before .before .before .before .r .given .1) _ _ _ _ _ (c .before .before .before .before .before .before .before .before .match2 .keys5) (c .before .before .before .before .before .before .operand-type3 .ensures) (c .before .before .before .before .operand-type4 .ensures) (c .before .before .name-range .ensures .0) (c .before .data-match .ensures) (c .external-type .ensures)
+type-of-returns-6 t c = typed-external _ _ _ _ _ (sym (c .before .before .before .before .before .before .before .before .before .before .read .ensures) ∙ c .before .before .before .before .before .before .before .before .r .given .1) _ _ _ _ _ (c .before .before .before .before .before .before .match2 .keys5) (c .before .before .before .before .before .operand-type3 .ensures) (c .before .before .before .before .operand-type4 .ensures) (c .before .before .name-range .ensures .0) (c .before .data-match .ensures) (c .external-type .ensures)
 
 type-of-returns-7 : (t : ℕ) → type-of-lts.Need-returns-7 (type-of-callees t) (type-of-at t) type-of.Post
 type-of-returns-7 t c = typed-internal _ _ _ _ _ (sym (c .before .before .before .before .before .before .before .before .read .ensures) ∙ c .before .before .before .before .before .before .r .given .1) _ _ _ (c .before .before .before .before .match2 .keys6) (c .before .before .name-range2 .ensures .0) (c .before .data-match2 .ensures) (c .internal-type .ensures)
@@ -389,25 +350,25 @@ type-of-returns-8 : (t : ℕ) → type-of-lts.Need-returns-8 (type-of-callees t)
 type-of-returns-8 t c = typed-call _ _ _ _ _ (sym (c .before .before .before .before .before .before .before .read .ensures) ∙ c .before .before .before .before .before .r .given .1) _ _ _ (c .before .before .before .match2 .keys7) (c .before .before .called-range .ensures .0) (c .before .data-match3 .ensures) (c .call-type .ensures)
 
 type-of-returns-9 : (t : ℕ) → type-of-lts.Need-returns-9 (type-of-callees t) (type-of-at t) type-of.Post
-type-of-returns-9 t c = typed-choice _ _ _ _ _ (sym (c .before .before .before .before .before .before .before .before .before .before .before .read .ensures) ∙ c .before .before .before .before .before .before .before .before .before .r .given .1) _ _ _ _ (c .before .before .before .before .before .before .before .match2 .keys8) (c .before .before .before .before .before .operand-type5 .ensures) (c .before .before .before .operand-type6 .ensures) (c .before .operand-type7 .ensures) (c .choice-type .ensures)
+type-of-returns-9 t c = typed-choice _ _ _ _ _ (sym (c .before .before .before .before .before .before .before .before .read .ensures) ∙ c .before .before .before .before .before .before .r .given .1) _ _ _ _ (c .before .before .before .before .match2 .keys8) (c .before .before .before .operand-type5 .ensures) (c .before .before .operand-type6 .ensures) (c .before .operand-type7 .ensures) (c .choice-type .ensures)
 
 type-of-returns-10 : (t : ℕ) → type-of-lts.Need-returns-10 (type-of-callees t) (type-of-at t) type-of.Post
-type-of-returns-10 t c = typed-loop _ _ _ _ _ (sym (c .before .before .before .before .before .before .before .before .before .read .ensures) ∙ c .before .before .before .before .before .before .before .r .given .1) _ _ _ (c .before .before .before .before .before .match2 .keys9) (c .before .before .before .operand-type8 .ensures) (c .before .operand-type9 .ensures) (c .loop-type .ensures)
+type-of-returns-10 t c = typed-loop _ _ _ _ _ (sym (c .before .before .before .before .before .before .before .read .ensures) ∙ c .before .before .before .before .before .r .given .1) _ _ _ (c .before .before .before .match2 .keys9) (c .before .before .operand-type8 .ensures) (c .before .operand-type9 .ensures) (c .loop-type .ensures)
 
 type-of-returns-11 : (t : ℕ) → type-of-lts.Need-returns-11 (type-of-callees t) (type-of-at t) type-of.Post
-type-of-returns-11 t c = typed-sequence _ _ _ _ _ (sym (c .before .before .before .before .before .before .before .before .before .read .ensures) ∙ c .before .before .before .before .before .before .before .r .given .1) _ _ _ (c .before .before .before .before .before .match2 .keys10) (c .before .before .before .operand-type10 .ensures) (c .before .operand-type11 .ensures) (c .sequence-type .ensures)
+type-of-returns-11 t c = typed-sequence _ _ _ _ _ (sym (c .before .before .before .before .before .before .before .read .ensures) ∙ c .before .before .before .before .before .r .given .1) _ _ _ (c .before .before .before .match2 .keys10) (c .before .before .operand-type10 .ensures) (c .before .operand-type11 .ensures) (c .sequence-type .ensures)
 
 type-of-returns-12 : (t : ℕ) → type-of-lts.Need-returns-12 (type-of-callees t) (type-of-at t) type-of.Post
 type-of-returns-12 t c = typed-literal _ _ _ _ _ (sym (c .before .before .before .before .before .before .before .read .ensures) ∙ c .before .before .before .before .before .r .given .1) _ (c .before .before .if1 .left) (c .before .if2 .taken) (c .literal-type .ensures)
 
 type-of-returns-13 : (t : ℕ) → type-of-lts.Need-returns-13 (type-of-callees t) (type-of-at t) type-of.Post
-type-of-returns-13 t c = typed-binary _ _ _ _ _ (sym (c .before .before .before .before .before .before .before .before .before .before .before .before .read .ensures) ∙ c .before .before .before .before .before .before .before .before .before .before .r .given .1) _ _ _ (c .before .before .before .before .before .before .if2 .left) (c .before .before .before .before .before .before .before .before .match2 .rest .0 .0 .0 .0 .0 .0 .0 .0 .0 .1) (c .before .before .before .before .before .before .before .before .match2 .rest .0 .0 .0 .0 .0 .0 .0 .0 .1) (c .before .before .before .before .before .if3 .taken) (c .before .before .before .operand-type12 .ensures) (c .before .operand-type13 .ensures) (c .binary-type .ensures)
+type-of-returns-13 t c = typed-binary _ _ _ _ _ (sym (c .before .before .before .before .before .before .before .before .before .before .read .ensures) ∙ c .before .before .before .before .before .before .before .before .r .given .1) _ _ _ (c .before .before .before .before .if2 .left) (c .before .before .before .before .before .before .match2 .rest .0 .0 .0 .0 .0 .0 .0 .0 .0 .1) (c .before .before .before .before .before .before .match2 .rest .0 .0 .0 .0 .0 .0 .0 .0 .1) (c .before .before .before .if3 .taken) (c .before .before .operand-type12 .ensures) (c .before .operand-type13 .ensures) (c .binary-type .ensures)
 
 type-of-returns-14 : (t : ℕ) → type-of-lts.Need-returns-14 (type-of-callees t) (type-of-at t) type-of.Post
 type-of-returns-14 t c = typed-clock _ _ _ _ _ (sym (c .before .before .before .before .before .before .before .before .before .read .ensures) ∙ c .before .before .before .before .before .before .before .r .given .1) _ (c .before .before .if3 .left) (c .before .if4 .taken) (c .clock-type .ensures)
 
 type-of-returns-15 : (t : ℕ) → type-of-lts.Need-returns-15 (type-of-callees t) (type-of-at t) type-of.Post
-type-of-returns-15 t c = typed-arm _ _ _ _ _ (sym (c .before .before .before .before .before .before .before .before .before .before .before .before .before .before .before .before .read .ensures) ∙ c .before .before .before .before .before .before .before .before .before .before .before .before .before .before .r .given .1) _ _ _ _ (c .before .before .before .before .before .before .before .if5 .left) (c .before .before .before .before .before .before .before .before .before .before .before .before .match2 .rest .0 .0 .0 .0 .0 .0 .0 .1) (c .before .before .before .before .before .before .before .before .before .before .before .before .match2 .rest .0 .0 .0 .0 .0 .0 .1) (c .before .before .before .before .before .before .before .before .before .before .before .before .match2 .rest .0 .0 .0 .0 .0 .1) (c .before .before .before .before .before .before .before .before .before .before .before .before .match2 .rest .0 .0 .0 .0 .1) (c .before .before .before .before .before .before .if6 .taken) (c .before .before .before .before .operand-type14 .ensures) (c .before .before .name-range3 .ensures .0) (c .before .data-match4 .ensures) (c .arm-type .ensures)
+type-of-returns-15 t c = typed-arm _ _ _ _ _ (sym (c .before .before .before .before .before .before .before .before .before .before .before .before .before .before .before .read .ensures) ∙ c .before .before .before .before .before .before .before .before .before .before .before .before .before .r .given .1) _ _ _ _ (c .before .before .before .before .before .before .if5 .left) (c .before .before .before .before .before .before .before .before .before .before .before .match2 .rest .0 .0 .0 .0 .0 .0 .0 .1) (c .before .before .before .before .before .before .before .before .before .before .before .match2 .rest .0 .0 .0 .0 .0 .0 .1) (c .before .before .before .before .before .before .before .before .before .before .before .match2 .rest .0 .0 .0 .0 .0 .1) (c .before .before .before .before .before .before .before .before .before .before .before .match2 .rest .0 .0 .0 .0 .1) (c .before .before .before .before .before .if6 .taken) (c .before .before .before .before .operand-type14 .ensures) (c .before .before .name-range3 .ensures .0) (c .before .data-match4 .ensures) (c .arm-type .ensures)
 
 type-of-returns-16 : (t : ℕ) → type-of-lts.Need-returns-16 (type-of-callees t) (type-of-at t) type-of.Post
 type-of-returns-16 t c = typed-act _ _ _ _ _ (sym (c .before .before .before .before .before .before .before .before .before .before .before .before .read .ensures) ∙ c .before .before .before .before .before .before .before .before .before .before .r .given .1) _ (c .before .before .if6 .left) (c .before .if7 .taken) (c .clock-act-type .ensures)
@@ -431,6 +392,7 @@ pub +data-match+operand-type+type-of-spec : {M : Type 1} → statement M
     (data-match-loop-holds t)
     (data-match-add-field t)
     (data-match-field-requires t)
+    (data-match-cast-operand-type t)
     (data-match-operand-type-requires t)
     (data-match-add-type-at t)
     (data-match-type-at-requires t)
@@ -455,15 +417,11 @@ pub +data-match+operand-type+type-of-spec : {M : Type 1} → statement M
     (type-of-enum-told t)
     (type-of-returns t)
     (type-of-read-type-requires t)
-    (type-of-cast-operand-type t)
     (type-of-operand-type-requires t)
     (type-of-not-type-requires t)
-    (type-of-cast-operand-type-2 t)
     (type-of-operand-type-requires-2 t)
     (type-of-assign-type-requires t)
-    (type-of-cast-operand-type-3 t)
     (type-of-operand-type-requires-3 t)
-    (type-of-cast-operand-type-4 t)
     (type-of-operand-type-requires-4 t)
     (type-of-cast-name-range t)
     (type-of-name-range-requires t)
@@ -476,31 +434,21 @@ pub +data-match+operand-type+type-of-spec : {M : Type 1} → statement M
     (type-of-called-range-requires t)
     (type-of-data-match-requires-3 t)
     (type-of-call-type-requires t)
-    (type-of-cast-operand-type-5 t)
     (type-of-operand-type-requires-5 t)
-    (type-of-cast-operand-type-6 t)
     (type-of-operand-type-requires-6 t)
-    (type-of-cast-operand-type-7 t)
     (type-of-operand-type-requires-7 t)
     (type-of-choice-type-requires t)
-    (type-of-cast-operand-type-8 t)
     (type-of-operand-type-requires-8 t)
-    (type-of-cast-operand-type-9 t)
     (type-of-operand-type-requires-9 t)
     (type-of-loop-type-requires t)
-    (type-of-cast-operand-type-10 t)
     (type-of-operand-type-requires-10 t)
-    (type-of-cast-operand-type-11 t)
     (type-of-operand-type-requires-11 t)
     (type-of-sequence-type-requires t)
     (type-of-literal-type-requires t)
-    (type-of-cast-operand-type-12 t)
     (type-of-operand-type-requires-12 t)
-    (type-of-cast-operand-type-13 t)
     (type-of-operand-type-requires-13 t)
     (type-of-binary-type-requires t)
     (type-of-clock-type-requires t)
-    (type-of-cast-operand-type-14 t)
     (type-of-operand-type-requires-14 t)
     (type-of-cast-name-range-3 t)
     (type-of-name-range-requires-3 t)

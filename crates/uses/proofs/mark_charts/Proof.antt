@@ -5,8 +5,8 @@ use mathlib.Core.Bool.{true}
 use borrow.Author.Tests.{not-true, not-false}
 use borrow.Author.Needs.{needs}
 use Rattle.laris.specs.Fields.{sumBelow}
-use Rattle.uses.specs.Marks.{Marked}
-use Rattle.uses.proofs.Marks.{same-length, loop-start, loop-more, loop-twice, loop-end, was}
+use Rattle.marks.specs.Marks.{Marked}
+use Rattle.marks.proofs.Marks.{same-length, loop-start, loop-more, loop-twice, loop-end, was}
 use Rattle.uses.proofs.Counted.{chartTurn}
 use Rattle.uses.proofs.mark_charts.Statement.{statement}
 use Rattle.uses.proofs.mark_charts.Tie as tie

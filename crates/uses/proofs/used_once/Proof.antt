@@ -4,8 +4,9 @@ use mathlib.Core.Path.{_≡_, _∙_}
 use lib.ListN.{length, length-replicate, getD-replicate}
 use borrow.Author.Tests.{not-true, not-false}
 use borrow.Author.Needs.{needs}
-use Rattle.uses.proofs.Marks.{same-length, was}
-use Rattle.uses.proofs.Counted.{count-small, Counted, charts-twice, bindings-twice, counted-start, counted-end, unused, operands-twice, counted-more}
+use Rattle.marks.proofs.Marks.{same-length, was}
+use Rattle.marks.proofs.Added.{count-small}
+use Rattle.uses.proofs.Counted.{Counted, charts-twice, bindings-twice, counted-start, counted-end, unused, operands-twice, counted-more}
 use Rattle.uses.proofs.used_once.Statement.{statement}
 use Rattle.uses.proofs.used_once.Tie as tie
 

@@ -2,11 +2,10 @@ use native.Mathlib.Omega.{arith}
 use mathlib.Core.Path.{sym, _∙_}
 use borrow.Author.Needs.{needs}
 use Rattle.laris.proofs.Fields.{number-absent}
-use Rattle.uses.proofs.Marks.{marked-none}
-use Rattle.uses.proofs.Counted.{count-small}
-use Rattle.uses.proofs.Added.{root-added}
-use Rattle.uses.proofs.mark_root.Statement.{statement}
-use Rattle.uses.proofs.mark_root.Tie as tie
+use Rattle.marks.proofs.Marks.{marked-none}
+use Rattle.marks.proofs.Added.{count-small, root-added}
+use Rattle.marks.proofs.mark_root.Statement.{statement}
+use Rattle.marks.proofs.mark_root.Tie as tie
 
 read-requires : tie.Need-read-requires
 read-requires c κs = search needs

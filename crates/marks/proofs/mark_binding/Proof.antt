@@ -6,12 +6,12 @@ use borrow.Author.Tests.{not-true, not-false}
 use borrow.Author.Needs.{needs}
 use Rattle.laris.specs.Fields.{sumBelow}
 use Rattle.laris.proofs.Fields.{number-absent}
-use Rattle.uses.specs.Marks.{Marked}
-use Rattle.uses.proofs.Marks.{marked-none, same-length, loop-start, loop-more, loop-twice, loop-end, was}
-use Rattle.uses.proofs.Counted.{count-small, present-below}
-use Rattle.uses.proofs.Added.{constantTurn, constant-added, binding-absent, binding-added}
-use Rattle.uses.proofs.mark_binding.Statement.{statement}
-use Rattle.uses.proofs.mark_binding.Tie as tie
+use Rattle.marks.specs.Marks.{Marked}
+use Rattle.marks.proofs.Marks.{marked-none, same-length, loop-start, loop-more, loop-twice, loop-end, was}
+use Rattle.marks.proofs.Added.{count-small, constantTurn, constant-added, binding-absent, binding-added}
+use Rattle.passed.proofs.Records.{present-below}
+use Rattle.marks.proofs.mark_binding.Statement.{statement}
+use Rattle.marks.proofs.mark_binding.Tie as tie
 
 abbrev Inv-loop : tie.InvT-loop
 Inv-loop sheet directory marks₀ count i r k total j₀ marks j = (j ≤ total) × Marked sheet count marks₀ marks (λ n. sumBelow j (constantTurn sheet k r n)) true

@@ -17,8 +17,8 @@ use Rattle.laris.specs.Fields.{oneIf, numberOr0, sumBelow}
 use Rattle.laris.specs.Forms.{operandsOf, operandCount, operandAt}
 use Rattle.laris.specs.Uses.{lowerOnly, standsStep, standsF, standsIn}
 use Rattle.laris.proofs.Fields.{number-present, number-absent}
-use Rattle.uses.specs.Marks.{belowIn, markedBelow, markedBy}
-use Rattle.uses.proofs.Sums.{sum-zero}
+use Rattle.marks.specs.Marks.{belowIn, markedBelow, markedBy}
+use Rattle.marks.proofs.Sums.{sum-zero}
 
 pub one-same : (n : ℕ) → oneIf (eqb n n) ≡ 1
 one-same n = rw (eq-eqb n n refl) refl

@@ -5,11 +5,11 @@ use mathlib.Core.Bool.{true}
 use borrow.Author.Tests.{not-true, not-false}
 use borrow.Author.Needs.{needs}
 use Rattle.laris.specs.Fields.{sumBelow}
-use Rattle.uses.specs.Marks.{Marked}
-use Rattle.uses.proofs.Marks.{marked-none, same-length, loop-start, loop-more, loop-twice, loop-end, was}
-use Rattle.uses.proofs.Added.{operandTurn, no-chart, no-node, operand-added, operands-added}
-use Rattle.uses.proofs.mark_operands.Statement.{statement}
-use Rattle.uses.proofs.mark_operands.Tie as tie
+use Rattle.marks.specs.Marks.{Marked}
+use Rattle.marks.proofs.Marks.{marked-none, same-length, loop-start, loop-more, loop-twice, loop-end, was}
+use Rattle.marks.proofs.Added.{operandTurn, no-chart, no-node, operand-added, operands-added}
+use Rattle.marks.proofs.mark_operands.Statement.{statement}
+use Rattle.marks.proofs.mark_operands.Tie as tie
 
 abbrev Inv-loop : tie.InvT-loop
 Inv-loop sheet directory marks₀ m k r o total j₀ marks j = (j ≤ total) × Marked sheet m marks₀ marks (λ n. sumBelow j (operandTurn sheet k m r o n)) true

@@ -1,8 +1,8 @@
 use native.Mathlib.Omega.{arith}
 use borrow.Author.Needs.{needs}
-use Rattle.uses.proofs.Marks.{marked-outside, marked-again, marked-new}
-use Rattle.uses.proofs.mark.Statement.{statement}
-use Rattle.uses.proofs.mark.Tie as tie
+use Rattle.marks.proofs.Marks.{marked-outside, marked-again, marked-new}
+use Rattle.marks.proofs.mark.Statement.{statement}
+use Rattle.marks.proofs.mark.Tie as tie
 
 returns : tie.Need-returns
 returns c = λ s. marked-outside s _ _ _ _ (c .if1 .taken)

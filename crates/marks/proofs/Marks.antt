@@ -9,9 +9,9 @@ use lib.Seq.{getD-set-same, getD-set-other}
 use Rattle.laris.specs.Fields.{sumBelow}
 use Rattle.laris.specs.Uses.{lowerOnly}
 use Rattle.laris.proofs.Fields.{sum-more}
-use Rattle.uses.specs.Marks.{markedBy, pending, Marked}
-use Rattle.uses.proofs.Sums.{sum-zero, sum-changed, sum-at, sum-longer}
-use Rattle.uses.proofs.Trees.{lower-is, not-lower, marked-itself, marked-higher}
+use Rattle.marks.specs.Marks.{markedBy, pending, Marked}
+use Rattle.marks.proofs.Sums.{sum-zero, sum-changed, sum-at, sum-longer}
+use Rattle.marks.proofs.Trees.{lower-is, not-lower, marked-itself, marked-higher}
 
 module _ (s : List ℕ) where
   unmarked : (ms : List ℕ) (m n : ℕ) → getD ms m 0 ≡ 0 → markedBy s (getD ms m 0) n m ≡ 0

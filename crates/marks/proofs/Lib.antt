@@ -1,0 +1,4 @@
+pub mod Sums
+pub mod Trees
+pub mod Marks
+pub mod Added
