@@ -51,24 +51,27 @@ pub fn run_body(
     )
 }
 
+// An answer without a telegram.
+pub fn answered(number: u8, steps: u32) -> Answer
+    ensures { λ a. ⌜ a ≡ answerOf number steps Nothing ⌝ }
+{
+    Answer {
+        number,
+        steps,
+        handed: Handed::Nothing,
+    }
+}
+
 // An event's answer: "6 to 10" leave a copy of the old state.
 fn answer(old: &[i32], st: &mut [i32], number: u8, steps: u32) -> Answer
     requires { ⌜ length (now old) ≡ length (now st) ⌝ }
     ensures { λ a. ⌜ (a ≡ answerOf number steps Nothing) × (number ≡ 0 → now (st .exit) ≡ now (st .entry)) × ((number ≡ 0 → ⊥) → now (st .exit) ≡ now (old .entry)) ⌝ }
 {
     if number == 0 {
-        return Answer {
-            number,
-            steps,
-            handed: Handed::Nothing,
-        };
+        return answered(number, steps);
     }
     store::copy(old, st);
-    Answer {
-        number,
-        steps,
-        handed: Handed::Nothing,
-    }
+    answered(number, steps)
 }
 
 // The same for an event. On a passed sheet no body is stuck.

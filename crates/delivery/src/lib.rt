@@ -1,5 +1,6 @@
 // A telegram that an event took goes to its receiver: it is handed outside, or a body of a bound
 // element runs.
+use bodies::answered;
 use laris::Answer;
 use laris::Handed;
 use laris::Telegram;
@@ -8,24 +9,12 @@ ghost use mathlib.Core.Bool.{true, false};
 ghost use mathlib.Core.Path.{_≡_};
 ghost use lib.IntN.{natAbs};
 ghost use lib.ListN.{length};
-ghost use Rattle.laris.specs.declared.Handed.the-variants.{Nothing};
 ghost use Rattle.laris.specs.Fields.{externalsOf};
 ghost use Rattle.laris.specs.Types.{reactsTo};
 ghost use Rattle.laris.specs.Values.{isBelow, isBound};
 ghost use Rattle.laris.specs.Valid.{isInternal, telegramFits};
-ghost use Rattle.laris.specs.Play.{ended, answer, elementBody, reacting, panicking, delivered};
+ghost use Rattle.laris.specs.Play.{ended, elementBody, reacting, panicking, delivered};
 ghost use Rattle.turns.specs.Playing.{Playing};
-
-// An answer without a telegram.
-pub fn answered(number: u8, steps: u32) -> Answer
-    ensures { λ a. ⌜ a ≡ answer number steps Nothing ⌝ }
-{
-    Answer {
-        number,
-        steps,
-        handed: Handed::Nothing,
-    }
-}
 
 // The panic body of element e, whose chart is c.
 pub fn panicked(

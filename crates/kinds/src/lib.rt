@@ -1,5 +1,5 @@
 // What each kind of event does to a state of the sheet.
-use delivery::answered;
+use bodies::answered;
 use laris::Answer;
 ghost use mathlib.Core.Bool.{true};
 ghost use mathlib.Core.List.{List};

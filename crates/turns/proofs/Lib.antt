@@ -2,3 +2,4 @@ pub mod Laws
 pub mod Called
 pub mod Taken
 pub mod Received
+pub mod Begins

@@ -1,9 +1,8 @@
-use mathlib.Core.Path.{_≡_, sym, ap, _∙_}
+use mathlib.Core.Path.{sym, ap, _∙_}
 use mathlib.Core.Logic.{inl, inr}
 use native.Mathlib.Omega.{arith}
 use lib.IntN.{pos}
 use borrow.Author.Needs.{needs}
-use Rattle.laris.specs.State.{wordOf}
 use Rattle.turns.proofs.Taken.{from-0, sought-none, sought-inner, sought-outer}
 use Rattle.tests.proofs.Laws.{read-back}
 use Rattle.kinds.proofs.sought.Statement.{statement}

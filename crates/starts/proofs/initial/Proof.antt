@@ -3,8 +3,8 @@ use borrow.Author.Needs.{needs}
 use Rattle.laris.specs.Run.{World}
 use Rattle.passed.proofs.Charts.{chart-element}
 use Rattle.turns.proofs.Called.{has-chart, initial-called, initial-runs}
-use Rattle.engine.proofs.initial.Statement.{statement}
-use Rattle.engine.proofs.initial.Tie as tie
+use Rattle.starts.proofs.initial.Statement.{statement}
+use Rattle.starts.proofs.initial.Tie as tie
 
 chart-of-requires : tie.Need-chart-of-requires
 chart-of-requires c κs = search needs
