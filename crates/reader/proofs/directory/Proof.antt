@@ -1,14 +1,14 @@
 -- The loop's invariant: the entries of the sections passed are in place.
 use native.Mathlib.Omega.{arith}
-use Prim.Native.Nat.{ℕ, suc, _+_, _*_, _-_, _/_, _<_, _≤_}
+use Prim.Native.Nat.{ℕ, _+_, _*_, _-_, _/_, _<_, _≤_}
 use mathlib.Core.Path.{_≡_, refl, sym, ap, _∙_}
 use mathlib.Core.List.{List}
-use mathlib.Core.Bool.{Bool, true, false}
+use mathlib.Core.Bool.{true}
 use native.Mathlib.Decide.{decLt}
 use lib.ListN.{length, getD, set, length-set}
 use lib.Seq.{getD-set-same, getD-set-other}
 use borrow.Author.Needs.{needs}
-use Rattle.sheet.specs.Sheet.{wordAt, offsetOf, lengthOf, directoryRight, countOf, directoryOf}
+use Rattle.sheet.specs.Sheet.{offsetOf, lengthOf, directoryRight, countOf}
 use Rattle.sheet.proofs.Sheet.{directory-wrong, directory-is, directory-inside, count-right}
 use Rattle.reader.proofs.directory.Statement.{statement}
 use Rattle.reader.proofs.directory.Tie as tie

@@ -1,12 +1,11 @@
 -- The record's sixteen bytes lie in the sheet, because the directory is the sheet's and the number is below the count.
 use native.Mathlib.Omega.{arith}
 use Prim.Native.Nat.{ℕ, _+_, _*_, _<_, _≤_}
-use mathlib.Core.Path.{_≡_, refl, sym, ap, _∙_}
+use mathlib.Core.Path.{_≡_, sym, ap, _∙_}
 use mathlib.Core.List.{List}
 use lib.ListN.{length, getD}
 use borrow.Author.Needs.{needs}
-use Rattle.sheet.specs.Sheet.{offsetOf, directoryOf, countOf, recordAt, recordOf}
-use Rattle.sheet.specs.declared.Found.{Found}
+use Rattle.sheet.specs.Sheet.{directoryOf, countOf, recordAt, recordOf}
 use Rattle.sheet.specs.declared.Found.the-variants.{Present, Absent}
 use Rattle.sheet.specs.declared.Record.{Record}
 use Rattle.sheet.proofs.Sheet.{opened-count, opened-offset, count-none, record-absent, record-present, record-inside}

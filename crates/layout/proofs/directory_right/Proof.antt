@@ -1,19 +1,19 @@
 use native.Mathlib.Omega.{arith}
-use Prim.Native.Nat.{ℕ, zero, suc, _+_, _*_, _-_, _%_, _<_, _≤_}
+use Prim.Native.Nat.{ℕ, _+_, _-_, _%_, _<_, _≤_}
 use mathlib.Core.Path.{_≡_, refl, sym, ap, _∙_}
 use mathlib.Core.List.{List}
-use mathlib.Core.Bool.{Bool, true, false}
+use mathlib.Core.Bool.{true, false}
 use lib.ListN.{length}
-use lib.Dec.{eqb, leb}
+use lib.Dec.{eqb}
 use native.Mathlib.Numerals.{add-one}
 use borrow.Author.Tests.{lt-leb, le-leb, eq-eqb, ne-eqb}
 use borrow.Author.Needs.{needs}
-use Rattle.sheet.specs.All.{_and_, allBelow}
-use Rattle.sheet.specs.Sheet.{wordAt, offsetOf, lengthOf, startOf, pairRight, directoryRight}
+use Rattle.sheet.specs.All.{allBelow}
+use Rattle.sheet.specs.Sheet.{offsetOf, lengthOf, startOf, pairRight, directoryRight}
 use Rattle.sheet.proofs.All.{false-and, and-false, and-true, true-and, all-more, all-fails}
 use Rattle.sheet.proofs.Sheet.{too-short}
-use Rattle.reader.proofs.directory_right.Statement.{statement}
-use Rattle.reader.proofs.directory_right.Tie as tie
+use Rattle.layout.proofs.directory_right.Statement.{statement}
+use Rattle.layout.proofs.directory_right.Tie as tie
 
 too-long : (s : List ℕ) → 65535 < length s → false ≡ directoryRight s
 unfolding directoryRight
