@@ -50,7 +50,7 @@ word-at-requires-8 c κs = search needs
 
 returns : tie.Need-returns
 unfolding recordAt
-returns c = cc
+returns c = λ i. record { f0 = c .before .before .before .before .before .before .before .word-at .ensures i; f1 = c .before .before .before .before .before .before .word-at2 .ensures i; f2 = c .before .before .before .before .before .word-at3 .ensures i; f3 = c .before .before .before .before .word-at4 .ensures i; f4 = c .before .before .before .word-at5 .ensures i; f5 = c .before .before .word-at6 .ensures i; f6 = c .before .word-at7 .ensures i; f7 = c .word-at8 .ensures i }
 
 pub fields-at-spec : {M : Type 1} → statement M
 fields-at-spec =

@@ -1,6 +1,6 @@
 use borrow.Author.Needs.{needs}
-use Rattle.reader.proofs.join.Statement.{statement}
-use Rattle.reader.proofs.join.Tie as tie
+use Rattle.layout.proofs.join.Statement.{statement}
+use Rattle.layout.proofs.join.Tie as tie
 
 mul-result : tie.Need-mul-result
 mul-result c = search needs

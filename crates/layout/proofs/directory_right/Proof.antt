@@ -8,12 +8,12 @@ use lib.Dec.{eqb}
 use native.Mathlib.Numerals.{add-one}
 use borrow.Author.Tests.{lt-leb, le-leb, eq-eqb, ne-eqb}
 use borrow.Author.Needs.{needs}
-use Rattle.sheet.specs.All.{_and_, allBelow}
+use Rattle.sheet.specs.All.{allBelow}
 use Rattle.sheet.specs.Sheet.{offsetOf, lengthOf, startOf, pairRight, directoryRight}
 use Rattle.sheet.proofs.All.{false-and, and-false, and-true, true-and, all-more, all-fails}
 use Rattle.sheet.proofs.Sheet.{too-short}
-use Rattle.reader.proofs.directory_right.Statement.{statement}
-use Rattle.reader.proofs.directory_right.Tie as tie
+use Rattle.layout.proofs.directory_right.Statement.{statement}
+use Rattle.layout.proofs.directory_right.Tie as tie
 
 too-long : (s : List ℕ) → 65535 < length s → false ≡ directoryRight s
 unfolding directoryRight
