@@ -67,12 +67,12 @@ fn on_passed(
     if !content::content_fits(sheet, directory, old) {
         return answered(3, 0);
     }
-    if !events::is_event(sheet, directory, ev) {
-        return answered(4, 0);
+    if events::is_event(sheet, directory, ev) {
+        store::copy(old, result);
+        let j = kinds::sought(result, ev);
+        return kinds::happened(sheet, directory, old, result, ev, j);
     }
-    store::copy(old, result);
-    let j = kinds::sought(result, ev);
-    kinds::happened(sheet, directory, old, result, ev, j)
+    answered(4, 0)
 }
 
 // Start on a passed sheet.

@@ -62,19 +62,17 @@ pub fn may_undo(sheet: &[u8], directory: &[usize; 16], st: &[i32], ev: &[i32], j
     ensures { λ b. ⌜ b ≡ mayUndo (now (sheet .entry)) (now (st .entry)) (now (ev .entry)) ⌝ }
 {
     let kind = tests::number_at(ev, 0);
-    if kind == 1 {
-        return false;
+    match kind {
+        1 => false,
+        5 => true,
+        2 => {
+            if tests::below_at(ev, 2, values::externals(sheet, directory)) {
+                return false;
+            }
+            j < queue::waiting_count(st)
+        }
+        _ => j < queue::waiting_count(st),
     }
-    if kind == 5 {
-        return true;
-    }
-    if queue::waiting_count(st) <= j {
-        return false;
-    }
-    if kind != 2 {
-        return true;
-    }
-    !tests::below_at(ev, 2, values::externals(sheet, directory))
 }
 
 // A well formed event on a state of the sheet. `old` is a copy of it where there may be work to undo.
@@ -96,7 +94,8 @@ pub fn happened(
     if kind == 5 {
         return sliced(sheet, directory, old, st);
     }
-    if queue::waiting_count(st) <= j {
+    let count = queue::waiting_count(st);
+    if count <= j {
         return answered(5, 0);
     }
     let t = queue::telegram_at(st, j);

@@ -12,7 +12,7 @@ use lib.IntN.{ℤ, pos, negsuc, natAbs}
 use lib.Signed.{leZ}
 use borrow.Author.Tests.{eqb-true, lt-ltb, le-ltb, le-leb, not-true}
 use Rattle.sheet.specs.All.{_and_}
-use Rattle.sheet.proofs.All.{true-false, not-so, and-first, and-second, and-true, true-and, false-and}
+use Rattle.sheet.proofs.All.{true-false, not-so, and-first, and-second, and-true, false-and, and-false}
 use Rattle.laris.specs.declared.Telegram.{Telegram}
 use Rattle.laris.specs.declared.Handed.the-variants.{Nothing}
 use Rattle.laris.specs.Fields.{componentsOf, externalsOf}
@@ -40,6 +40,11 @@ different n m d = not-so _ (λ q. d (ap natAbs (same-word (pos n) (pos m) q)))
 
 alike : (n : ℕ) → sameWord (pos n) (pos n) ≡ true
 alike n = and-true _ _ (le-leb n n (omega arith)) (le-leb n n (omega arith))
+
+both : (a b : Bool) → b ≡ true → a and b ≡ a
+unfolding _and_
+both true b h = h
+both false b h = refl
 
 -- ---- a well formed event: its words, its kind from 1 to 5
 
@@ -132,18 +137,19 @@ module _ (s : List ℕ) (st ev : List ℤ) (n : ℕ) (k : wordOf ev 0 ≡ pos n)
     unfolding mayUndo
     undoes-taken = rw (mayUndo, other s st ev n k 1 n₁, other s st ev n k 5 n₅) refl
 
-    pub undoes-none : (w : ℕ) → w ≡ waiting st → w ≤ j → false ≡ mayUndo s st ev
-    undoes-none w v l = sym (undoes-taken ∙ false-and _ _ (le-ltb (oldest s st (seeks ev)) (waiting st) (omega (arith, here))))
+    pub undoes-waiting : (n ≡ 2 → isBelow (wordOf ev 2) (externalsOf s) ≡ false) → (w : ℕ) → w ≡ waiting st → ltb j w ≡ mayUndo s st ev
+    undoes-waiting d w v = ap (λ j. ltb j w) here ∙ ap (ltb (oldest s st (seeks ev))) v ∙ sym (undoes-taken ∙ both _ _ (ap not bound))
+      where
+        bound : sameWord (wordOf ev 0) (pos 2) and isBelow (wordOf ev 2) (externalsOf s) ≡ false
+        bound = elim (ℕ-discrete n 2) [ yes q ↦ and-false _ _ (d q) | no q ↦ false-and _ _ (other s st ev n k 2 q) ]
 
-    module _ (w : ℕ) (v : w ≡ waiting st) (l : j < w) where
-      waits : ltb (oldest s st (seeks ev)) (waiting st) ≡ true
-      waits = lt-ltb (oldest s st (seeks ev)) (waiting st) (omega (arith, here))
+  -- a Deliver
+  module _ (q : n ≡ 2) (j : ℕ) (at : j ≡ soughtAt s st ev) where
+    pub undoes-handed : isBelow (wordOf ev 2) (externalsOf s) ≡ true → false ≡ mayUndo s st ev
+    undoes-handed b = sym (undoes-taken (λ z. omega arith) (λ z. omega arith) j at ∙ and-false _ _ (ap not (and-true _ _ (ap (λ w. sameWord w (pos 2)) (k ∙ ap pos q) ∙ alike 2) b)))
 
-      pub undoes-bound : (n ≡ 2 → ⊥) → true ≡ mayUndo s st ev
-      undoes-bound d = sym (undoes-taken ∙ and-true _ _ waits (ap not (false-and _ _ (other s st ev n k 2 d))))
-
-      pub undoes-deliver : n ≡ 2 → (b : Bool) → b ≡ isBelow (wordOf ev 2) (externalsOf s) → not b ≡ mayUndo s st ev
-      undoes-deliver q b e = ap not e ∙ sym (undoes-taken ∙ true-and _ _ waits ∙ ap not (true-and _ _ (ap (λ w. sameWord w (pos 2)) (k ∙ ap pos q) ∙ alike 2)))
+    pub undoes-bound : isBelow (wordOf ev 2) (externalsOf s) ≡ false → (w : ℕ) → w ≡ waiting st → ltb j w ≡ mayUndo s st ev
+    undoes-bound b w v = undoes-waiting (λ z. omega arith) (λ z. omega arith) j at (λ q. b) w v
 
 -- ---- an event that takes none
 
@@ -260,8 +266,8 @@ module _ {s d : List ℕ} {st ev : List ℤ} {n j : ℕ} {t : Telegram} {st′ :
   -- ---- what is done with it, where `old` is a copy if there may be work to undo
 
   module _ (old : List ℤ) (undo : mayUndo s st ev ≡ true → old ≡ st) (x : Outcome) where
-    copied : (n ≡ 2 → ⊥) → old ≡ st
-    copied d = undo (sym (undoes-bound s st ev n (kind-is s ev (k .event) n (k .kind)) (k .no-outside) (k .no-slice) j (k .at) (waiting st) refl (k .waits) d))
+    copied : (n ≡ 2 → isBelow (wordOf ev 2) (externalsOf s) ≡ false) → old ≡ st
+    copied d = undo (sym (undoes-waiting s st ev n (kind-is s ev (k .event) n (k .kind)) (k .no-outside) (k .no-slice) j (k .at) d (waiting st) refl) ∙ lt-ltb j (waiting st) (k .waits))
 
     pub as-deliver : n ≡ 2 → x ≡ delivered s old t st′ → x ≡ happens s st ev
     unfolding deliver
@@ -269,13 +275,13 @@ module _ {s d : List ℕ} {st ev : List ℤ} {n j : ℕ} {t : Telegram} {st′ :
       where
         go : (b : Bool) → isBelow (t .receiver) (externalsOf s) ≡ b → delivered s old t st′ ≡ delivered s st t st′
         go true b = handed-outside s old t st′ b ∙ sym (handed-outside s st t st′ b)
-        go false b = ap (λ o. delivered s o t st′) (undo (sym (undoes-deliver s st ev n (kind-is s ev (k .event) n (k .kind)) (k .no-outside) (k .no-slice) j (k .at) (waiting st) refl (k .waits) q false (sym b ∙ ap (λ z. isBelow z (externalsOf s)) receiver-is))))
+        go false b = ap (λ o. delivered s o t st′) (copied (λ q. ap (λ z. isBelow z (externalsOf s)) (sym receiver-is) ∙ b))
 
     pub as-corrupt : n ≡ 3 → (r : ℕ) → r ≡ natAbs (t .receiver) → x ≡ panicking s old r st′ → x ≡ happens s st ev
     unfolding corrupt
     as-corrupt q r i g =
         g
-        ∙ ap (λ o. panicking s o r st′) (copied (λ z. omega arith))
+        ∙ ap (λ o. panicking s o r st′) (copied (λ z. absurd (omega arith)))
         ∙ ap (λ r. panicking s st r st′) (i ∙ ap natAbs receiver-is)
         ∙ sym (happens-corrupt s st ev (word 3 q) ∙ took (goesFrom (wordOf ev 1) (wordOf ev 2)) (λ t st′. panicking s st (natAbs (wordOf ev 2)) st′) (outer-at (λ z. omega arith)))
 
@@ -284,6 +290,6 @@ module _ {s d : List ℕ} {st ev : List ℤ} {n j : ℕ} {t : Telegram} {st′ :
     as-inner n₂ n₃ g =
         let q = inner-is n₂ n₃ in
         g
-        ∙ ap (λ o. reacting s o (natAbs (t .receiver)) (elementBody s (natAbs (t .receiver)) (reactsTo (natAbs (t .name)))) t st′) (copied n₂)
+        ∙ ap (λ o. reacting s o (natAbs (t .receiver)) (elementBody s (natAbs (t .receiver)) (reactsTo (natAbs (t .name)))) t st′) (copied (λ q. absurd (n₂ q)))
         ∙ ap (λ r. reacting s st (natAbs r) (elementBody s (natAbs r) (reactsTo (natAbs (t .name)))) t st′) receiver-is
         ∙ sym (happens-inner s st ev (word 4 q) ∙ took (innerOf (wordOf ev 2)) (λ t st′. reacting s st (natAbs (wordOf ev 2)) (elementBody s (natAbs (wordOf ev 2)) (reactsTo (natAbs (t .name)))) t st′) (inner-at q))

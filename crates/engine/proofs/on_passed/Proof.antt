@@ -35,26 +35,26 @@ returns-3 c = other-content _ _ _ _ (c .before .before .before .before .before .
 is-event-requires : tie.Need-is-event-requires
 is-event-requires c κs = search needs
 
-answered-requires-4 : tie.Need-answered-requires-4
-answered-requires-4 c κs = search needs
-
-returns-4 : tie.Need-returns-4
-returns-4 c = malformed-event _ _ _ _ (c .before .before .before .before .before .before .before .before .before .pre .1) _ (c .before .before .before .before .before .before .before .state-length .ensures) (c .before .before .before .before .before .before .if1 .left) (c .before .before .before .before .before .if2 .left) _ (c .answered4 .ensures) (sym (c .before .before .before .before .content-fits .ensures) ∙ not-false _ (c .before .before .before .if3 .left)) (sym (c .before .before .is-event .ensures) ∙ not-true _ (c .before .if4 .taken))
-
 copy-requires : tie.Need-copy-requires
 copy-requires c κs = search needs
 
 sought-requires : tie.Need-sought-requires
-sought-requires c κs = (laid _ _ (copy-plays _ _ (c .before .before .before .before .before .before .before .before .before .before .before .before .args .result .now) (c .before .before .before .before .before .before .before .before .before .before .before .before .args .ev .now) (c .before .before .before .before .before .before .before .before .before .before .before .before .pre .1) _ (c .before .before .before .before .before .before .before .before .before .before .state-length .ensures) (c .before .before .before .before .before .before .before .before .before .if1 .left) (c .before .before .before .before .before .before .before .before .if2 .left) _ (c .before .before .before .before .before .before .before .before .before .before .before .before .pre .0) (sym (c .before .before .before .before .before .before .before .content-fits .ensures) ∙ not-false _ (c .before .before .before .before .before .before .if3 .left)) _ (c .before .before .copy .ensures) .state), nine _ _ (sym (c .before .before .before .before .before .is-event .ensures) ∙ not-false _ (c .before .before .before .before .if4 .left)), kind-from-0 _ _ (sym (c .before .before .before .before .before .is-event .ensures) ∙ not-false _ (c .before .before .before .before .if4 .left)))
+sought-requires c κs = (laid _ _ (copy-plays _ _ (c .before .before .before .before .before .before .before .before .before .before .before .before .args .result .now) (c .before .before .before .before .before .before .before .before .before .before .before .before .args .ev .now) (c .before .before .before .before .before .before .before .before .before .before .before .before .pre .1) _ (c .before .before .before .before .before .before .before .before .before .before .state-length .ensures) (c .before .before .before .before .before .before .before .before .before .if1 .left) (c .before .before .before .before .before .before .before .before .if2 .left) _ (c .before .before .before .before .before .before .before .before .before .before .before .before .pre .0) (sym (c .before .before .before .before .before .before .before .content-fits .ensures) ∙ not-false _ (c .before .before .before .before .before .before .if3 .left)) _ (c .before .before .copy .ensures) .state), nine _ _ (sym (c .before .before .before .before .before .is-event .ensures) ∙ c .before .before .before .before .if4 .taken), kind-from-0 _ _ (sym (c .before .before .before .before .before .is-event .ensures) ∙ c .before .before .before .before .if4 .taken))
 
 happened-requires : tie.Need-happened-requires
-happened-requires c κs = let p = copy-plays _ _ (c .before .before .before .before .before .before .before .before .before .before .before .before .before .before .args .result .now) (c .before .before .before .before .before .before .before .before .before .before .before .before .before .before .args .ev .now) (c .before .before .before .before .before .before .before .before .before .before .before .before .before .before .pre .1) _ (c .before .before .before .before .before .before .before .before .before .before .before .before .state-length .ensures) (c .before .before .before .before .before .before .before .before .before .before .before .if1 .left) (c .before .before .before .before .before .before .before .before .before .before .if2 .left) _ (c .before .before .before .before .before .before .before .before .before .before .before .before .before .before .pre .0) (sym (c .before .before .before .before .before .before .before .before .before .content-fits .ensures) ∙ not-false _ (c .before .before .before .before .before .before .before .before .if3 .left)) _ (c .before .before .before .before .copy .ensures) in (p, (sym (c .before .before .before .before .before .before .before .is-event .ensures) ∙ not-false _ (c .before .before .before .before .before .before .if4 .left)), c .before .sought .ensures _ (p .state .whole), ap length (sym (c .before .before .before .before .copy .ensures)), λ u. sym (c .before .before .before .before .copy .ensures))
+happened-requires c κs = let p = copy-plays _ _ (c .before .before .before .before .before .before .before .before .before .before .before .before .before .before .args .result .now) (c .before .before .before .before .before .before .before .before .before .before .before .before .before .before .args .ev .now) (c .before .before .before .before .before .before .before .before .before .before .before .before .before .before .pre .1) _ (c .before .before .before .before .before .before .before .before .before .before .before .before .state-length .ensures) (c .before .before .before .before .before .before .before .before .before .before .before .if1 .left) (c .before .before .before .before .before .before .before .before .before .before .if2 .left) _ (c .before .before .before .before .before .before .before .before .before .before .before .before .before .before .pre .0) (sym (c .before .before .before .before .before .before .before .before .before .content-fits .ensures) ∙ not-false _ (c .before .before .before .before .before .before .before .before .if3 .left)) _ (c .before .before .before .before .copy .ensures) in (p, (sym (c .before .before .before .before .before .before .before .is-event .ensures) ∙ c .before .before .before .before .before .before .if4 .taken), c .before .sought .ensures _ (p .state .whole), ap length (sym (c .before .before .before .before .copy .ensures)), λ u. sym (c .before .before .before .before .copy .ensures))
 
 same-length : tie.Need-same-length
 same-length c = search needs
 
+returns-4 : tie.Need-returns-4
+returns-4 c = happened-event _ _ _ _ (c .before .before .before .before .before .before .before .before .before .before .before .before .before .before .before .before .pre .1) _ (c .before .before .before .before .before .before .before .before .before .before .before .before .before .before .state-length .ensures) (c .before .before .before .before .before .before .before .before .before .before .before .before .before .if1 .left) (c .before .before .before .before .before .before .before .before .before .before .before .before .if2 .left) _ _ _ (c .before .before .before .before .before .before .copy .ensures) (sym (c .before .before .before .before .before .before .before .before .before .before .before .content-fits .ensures) ∙ not-false _ (c .before .before .before .before .before .before .before .before .before .before .if3 .left)) (sym (c .before .before .before .before .before .before .before .before .before .is-event .ensures) ∙ c .before .before .before .before .before .before .before .before .if4 .taken) (c .before .happened .ensures)
+
+answered-requires-4 : tie.Need-answered-requires-4
+answered-requires-4 c κs = search needs
+
 returns-5 : tie.Need-returns-5
-returns-5 c = happened-event _ _ _ _ (c .before .before .before .before .before .before .before .before .before .before .before .before .before .before .before .before .pre .1) _ (c .before .before .before .before .before .before .before .before .before .before .before .before .before .before .state-length .ensures) (c .before .before .before .before .before .before .before .before .before .before .before .before .before .if1 .left) (c .before .before .before .before .before .before .before .before .before .before .before .before .if2 .left) _ _ _ (c .before .before .before .before .before .before .copy .ensures) (sym (c .before .before .before .before .before .before .before .before .before .before .before .content-fits .ensures) ∙ not-false _ (c .before .before .before .before .before .before .before .before .before .before .if3 .left)) (sym (c .before .before .before .before .before .before .before .before .before .is-event .ensures) ∙ not-false _ (c .before .before .before .before .before .before .before .before .if4 .left)) (c .before .happened .ensures)
+returns-5 c = malformed-event _ _ _ _ (c .before .before .before .before .before .before .before .before .before .pre .1) _ (c .before .before .before .before .before .before .before .state-length .ensures) (c .before .before .before .before .before .before .if1 .left) (c .before .before .before .before .before .if2 .left) _ (c .answered4 .ensures) (sym (c .before .before .before .before .content-fits .ensures) ∙ not-false _ (c .before .before .before .if3 .left)) (sym (c .before .before .is-event .ensures) ∙ c .before .if4 .left)
 
 pub on-passed-spec : {M : Type 1} → statement M
 on-passed-spec =
@@ -69,10 +69,10 @@ on-passed-spec =
     answered-requires-3
     returns-3
     is-event-requires
-    answered-requires-4
-    returns-4
     copy-requires
     sought-requires
     happened-requires
     same-length
+    returns-4
+    answered-requires-4
     returns-5)
