@@ -9,11 +9,12 @@ ghost use mathlib.Core.Bool.{true, false};
 ghost use mathlib.Core.Path.{_≡_};
 ghost use lib.IntN.{natAbs};
 ghost use lib.ListN.{length};
+ghost use Rattle.laris.specs.declared.Handed.the-variants.{Outside};
 ghost use Rattle.laris.specs.Fields.{externalsOf};
 ghost use Rattle.laris.specs.Types.{reactsTo};
 ghost use Rattle.laris.specs.Values.{isBelow, isBound};
 ghost use Rattle.laris.specs.Valid.{isInternal, telegramFits};
-ghost use Rattle.laris.specs.Play.{ended, elementBody, reacting, panicking, delivered};
+ghost use Rattle.laris.specs.Play.{ended, answer, elementBody, reacting, panicking, delivered};
 ghost use Rattle.turns.specs.Playing.{Playing};
 
 // The panic body of element e, whose chart is c.
@@ -64,6 +65,17 @@ fn received(
     panicked(sheet, directory, old, st, e)
 }
 
+// Handed outside: no body runs.
+fn handed(t: Telegram) -> Answer
+    ensures { λ a. ⌜ a ≡ answer 0 0 (Outside t) ⌝ }
+{
+    Answer {
+        number: 0,
+        steps: 0,
+        handed: Handed::Outside(t),
+    }
+}
+
 // 2: "If r is external it is handed outside. If bound, the reaction for its port and name runs, or
 // without one the panic body."
 pub fn delivers(
@@ -77,11 +89,7 @@ pub fn delivers(
     ensures { λ a. ⌜ ended a (now (st .exit)) ≡ delivered (now (sheet .entry)) (now (old .entry)) t (now (st .entry)) ⌝ }
 {
     if tests::is_below(t.receiver, values::externals(sheet, directory)) {
-        return Answer {
-            number: 0,
-            steps: 0,
-            handed: Handed::Outside(t),
-        };
+        return handed(t);
     }
     received(sheet, directory, old, st, t)
 }

@@ -6,12 +6,14 @@ use sheet::Found;
 ghost use mathlib.Core.Bool.{true};
 ghost use mathlib.Core.List.{[]};
 ghost use mathlib.Core.Path.{_≡_};
-ghost use lib.ListN.{length};
+ghost use lib.IntN.{pos};
+ghost use lib.ListN.{length, replicate};
 ghost use Rattle.sheet.specs.Sheet.{directoryOf};
 ghost use Rattle.laris.specs.declared.Checked.the-variants.{Passed};
+ghost use Rattle.laris.specs.declared.Handed.the-variants.{Nothing};
 ghost use Rattle.laris.specs.Values.{isBound};
 ghost use Rattle.laris.specs.State.{stateLength};
-ghost use Rattle.laris.specs.Play.{ended, isInitial, elementBody, ranBody, started};
+ghost use Rattle.laris.specs.Play.{ended, answer, isInitial, elementBody, ranBody, started};
 ghost use Rattle.laris.specs.Check.{checkOf};
 ghost use Rattle.turns.specs.Playing.{Playing};
 
@@ -26,6 +28,14 @@ fn initial(sheet: &[u8], directory: &[usize; 16], st: &mut [i32], e: usize) -> R
     let j = finders::with_role(sheet, directory, c, 0);
     let none = [0i32; 4];
     bodies::run_body(sheet, directory, st, e, c.f4 as usize + j, &none)
+}
+
+// "after 6 to 10 its state is all zeros"
+fn refused(st: &mut [i32], number: u8, steps: u32) -> Answer
+    ensures { λ a. ⌜ (a ≡ answer number steps Nothing) × (now (st .exit) ≡ replicate (length (now (st .entry))) (pos 0)) ⌝ }
+{
+    store::zero(st);
+    answered(number, steps)
 }
 
 // "all defaults, nothing waiting, then the initial bodies in element order"
@@ -46,9 +56,7 @@ pub fn from_defaults(sheet: &[u8], directory: &[usize; 16], st: &mut [i32]) -> A
                 steps += most - left;
             }
             Ran::Refused { number, left } => {
-                let all = steps + (most - left);
-                store::zero(st);
-                return answered(number, all);
+                return refused(st, number, steps + (most - left));
             }
             Ran::Stuck => {
                 return answered(0, 0);

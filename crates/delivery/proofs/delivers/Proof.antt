@@ -1,7 +1,9 @@
-use mathlib.Core.Path.{sym, ap, _∙_}
+use mathlib.Core.Path.{_≡_, sym, ap, _∙_}
+use mathlib.Core.Bool.{true, false}
 use borrow.Author.Needs.{needs}
 use Rattle.laris.specs.Fields.{externalsOf}
 use Rattle.laris.specs.Values.{isBelow}
+use Rattle.laris.specs.Play.{ended}
 use Rattle.turns.proofs.Laws.{handed-outside}
 use Rattle.store.proofs.Laws.{given}
 use Rattle.delivery.proofs.delivers.Statement.{statement}
@@ -13,8 +15,11 @@ externals-requires c κs = search needs
 is-below-requires : tie.Need-is-below-requires
 is-below-requires c κs = search needs
 
+handed-requires : tie.Need-handed-requires
+handed-requires c κs = search needs
+
 returns : tie.Need-returns
-returns c = sym (handed-outside _ (c .before .before .before .before .before .args .old .now) (c .before .before .before .before .before .args .t) _ (ap (λ z. isBelow z (externalsOf (c .before .before .before .before .before .args .sheet .now))) (sym (given (c .before .before .before .before .before .args .t .receiver) (c .before .before .struct-told .given .1 .0 .1))) ∙ ap (isBelow _) (sym (c .before .before .before .externals .ensures .0)) ∙ sym (c .before .is-below .ensures) ∙ c .if1 .taken))
+returns c = ap (λ a. ended a (c .before .before .before .before .before .before .args .st .now)) (c .handed .ensures) ∙ sym (handed-outside _ (c .before .before .before .before .before .before .args .old .now) (c .before .before .before .before .before .before .args .t) _ (ap (λ z. isBelow z (externalsOf (c .before .before .before .before .before .before .args .sheet .now))) (sym (given (c .before .before .before .before .before .before .args .t .receiver) (c .before .before .before .struct-told .given .1 .0 .1))) ∙ ap (isBelow _) (sym (c .before .before .before .before .externals .ensures .0)) ∙ sym (c .before .before .is-below .ensures) ∙ c .before .if1 .taken))
 
 received-requires : tie.Need-received-requires
 received-requires c κs = (c .before .before .before .before .before .before .pre .0, c .before .before .before .before .before .before .pre .1, c .before .before .before .before .before .before .pre .2, c .before .before .before .before .before .before .pre .3, ap (λ z. isBelow z (externalsOf (c .before .before .before .before .before .before .args .sheet .now))) (sym (given (c .before .before .before .before .before .before .args .t .receiver) (c .before .before .before .struct-told .given .1 .0 .1))) ∙ ap (isBelow _) (sym (c .before .before .before .before .externals .ensures .0)) ∙ sym (c .before .before .is-below .ensures) ∙ c .before .if1 .left)
@@ -28,4 +33,11 @@ returns-2 c = c .before .received .ensures
 pub delivers-spec : {M : Type 1} → statement M
 delivers-spec =
     tie.close
-    (tie.spec externals-requires is-below-requires returns received-requires same-length returns-2)
+    (tie.spec
+    externals-requires
+    is-below-requires
+    handed-requires
+    returns
+    received-requires
+    same-length
+    returns-2)

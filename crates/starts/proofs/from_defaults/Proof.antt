@@ -52,43 +52,40 @@ add-steps : tie.Need-add-steps Inv-loop μ-loop
 add-steps c =
     let f = few _ (c .before .before .before .before .before .before .before .before .before .before .before .before .before .before .before .pre .1) _ _ _ _ (c .before .before .before .before .before .before .before .before .before .before .externals .ensures .0) (c .before .before .before .before .before .before .before .before .before .count-in .ensures _ (c .before .before .before .before .before .before .before .before .before .before .before .before .before .before .before .pre .0)) (c .before .before .before .before .before .before .before .before .limit .ensures .0) (c .before .before .before .before .before .before .loop-test .taken) in
     let l = c .before .before .before .before .before .before .loop-test .taken in
-    let h = done-left _ (c .before .before .before .before .before .before .before .before .before .before .before .before .before .before .before .pre .1) _ _ _ _ (c .before .before .before .before .before .before .before .before .before .before .externals .ensures .0) (c .before .before .before .before .before .before .before .before .before .count-in .ensures _ (c .before .before .before .before .before .before .before .before .before .before .before .before .before .before .before .pre .0)) (c .before .before .before .before .before .before .before .before .limit .ensures .0) (c .before .before .before .before .before .before .loop-test .taken) _ (c .before .before .before .before .before .before .before .loop .inv .1) _ _ (c .before .before .before .before .initial .ensures .0) (c .before .before .before .before .initial .ensures .1) _ (c .before .r .given .1) in
     let w = c .before .before .before .before .before .before .before .loop .inv .2 in
     let z = c .before .before .before .before .before .before .before .before .limit .ensures .1 in
+    let h = done-left _ (c .before .before .before .before .before .before .before .before .before .before .before .before .before .before .before .pre .1) _ _ _ _ (c .before .before .before .before .before .before .before .before .before .before .externals .ensures .0) (c .before .before .before .before .before .before .before .before .before .count-in .ensures _ (c .before .before .before .before .before .before .before .before .before .before .before .before .before .before .before .pre .0)) (c .before .before .before .before .before .before .before .before .limit .ensures .0) (c .before .before .before .before .before .before .loop-test .taken) _ (c .before .before .before .before .before .before .before .loop .inv .1) _ _ (c .before .before .before .before .initial .ensures .0) (c .before .before .before .before .initial .ensures .1) _ (c .before .r .given .1) in
     record { fits = omega arith }
 
 enum-known-r-2 : tie.Need-enum-known-r-2 Inv-loop μ-loop
 enum-known-r-2 c = search needs
 
-sub-all : tie.Need-sub-all Inv-loop μ-loop
-sub-all c = let h = refused-left _ (c .before .before .before .before .before .before .before .before .before .before .before .before .before .before .before .pre .1) _ _ _ _ (c .before .before .before .before .before .before .before .before .before .before .externals .ensures .0) (c .before .before .before .before .before .before .before .before .before .count-in .ensures _ (c .before .before .before .before .before .before .before .before .before .before .before .before .before .before .before .pre .0)) (c .before .before .before .before .before .before .before .before .limit .ensures .0) (c .before .before .before .before .before .before .loop-test .taken) _ (c .before .before .before .before .before .before .before .loop .inv .1) _ _ (c .before .before .before .before .initial .ensures .0) (c .before .before .before .before .initial .ensures .1) _ _ (c .before .r2 .given .1) in search needs
+sub-refused : tie.Need-sub-refused Inv-loop μ-loop
+sub-refused c = let h = refused-left _ (c .before .before .before .before .before .before .before .before .before .before .before .before .before .before .before .before .pre .1) _ _ _ _ (c .before .before .before .before .before .before .before .before .before .before .before .externals .ensures .0) (c .before .before .before .before .before .before .before .before .before .before .count-in .ensures _ (c .before .before .before .before .before .before .before .before .before .before .before .before .before .before .before .before .pre .0)) (c .before .before .before .before .before .before .before .before .before .limit .ensures .0) (c .before .before .before .before .before .before .before .loop-test .taken) _ (c .before .before .before .before .before .before .before .before .loop .inv .1) _ _ (c .before .before .before .before .before .initial .ensures .0) (c .before .before .before .before .before .initial .ensures .1) _ _ (c .before .before .r2 .given .1) in search needs
 
-add-all : tie.Need-add-all Inv-loop μ-loop
-add-all c =
-    let f = few _ (c .before .before .before .before .before .before .before .before .before .before .before .before .before .before .before .pre .1) _ _ _ _ (c .before .before .before .before .before .before .before .before .before .before .externals .ensures .0) (c .before .before .before .before .before .before .before .before .before .count-in .ensures _ (c .before .before .before .before .before .before .before .before .before .before .before .before .before .before .before .pre .0)) (c .before .before .before .before .before .before .before .before .limit .ensures .0) (c .before .before .before .before .before .before .loop-test .taken) in
-    let l = c .before .before .before .before .before .before .loop-test .taken in
-    let h = refused-left _ (c .before .before .before .before .before .before .before .before .before .before .before .before .before .before .before .pre .1) _ _ _ _ (c .before .before .before .before .before .before .before .before .before .before .externals .ensures .0) (c .before .before .before .before .before .before .before .before .before .count-in .ensures _ (c .before .before .before .before .before .before .before .before .before .before .before .before .before .before .before .pre .0)) (c .before .before .before .before .before .before .before .before .limit .ensures .0) (c .before .before .before .before .before .before .loop-test .taken) _ (c .before .before .before .before .before .before .before .loop .inv .1) _ _ (c .before .before .before .before .initial .ensures .0) (c .before .before .before .before .initial .ensures .1) _ _ (c .before .r2 .given .1) in
-    let w = c .before .before .before .before .before .before .before .loop .inv .2 in
-    let z = c .before .before .before .before .before .before .before .before .limit .ensures .1 in
+add-refused : tie.Need-add-refused Inv-loop μ-loop
+add-refused c =
+    let f = few _ (c .before .before .before .before .before .before .before .before .before .before .before .before .before .before .before .before .pre .1) _ _ _ _ (c .before .before .before .before .before .before .before .before .before .before .before .externals .ensures .0) (c .before .before .before .before .before .before .before .before .before .before .count-in .ensures _ (c .before .before .before .before .before .before .before .before .before .before .before .before .before .before .before .before .pre .0)) (c .before .before .before .before .before .before .before .before .before .limit .ensures .0) (c .before .before .before .before .before .before .before .loop-test .taken) in
+    let l = c .before .before .before .before .before .before .before .loop-test .taken in
+    let w = c .before .before .before .before .before .before .before .before .loop .inv .2 in
+    let z = c .before .before .before .before .before .before .before .before .before .limit .ensures .1 in
+    let h = refused-left _ (c .before .before .before .before .before .before .before .before .before .before .before .before .before .before .before .before .pre .1) _ _ _ _ (c .before .before .before .before .before .before .before .before .before .before .before .externals .ensures .0) (c .before .before .before .before .before .before .before .before .before .before .count-in .ensures _ (c .before .before .before .before .before .before .before .before .before .before .before .before .before .before .before .before .pre .0)) (c .before .before .before .before .before .before .before .before .before .limit .ensures .0) (c .before .before .before .before .before .before .before .loop-test .taken) _ (c .before .before .before .before .before .before .before .before .loop .inv .1) _ _ (c .before .before .before .before .before .initial .ensures .0) (c .before .before .before .before .before .initial .ensures .1) _ _ (c .before .before .r2 .given .1) in
     record { fits = omega arith }
 
-zero-requires : tie.Need-zero-requires Inv-loop μ-loop
-zero-requires c κs = search needs
-
-answered-requires : tie.Need-answered-requires Inv-loop μ-loop
-answered-requires c κs = search needs
+refused-requires : tie.Need-refused-requires Inv-loop μ-loop
+refused-requires c κs = search needs
 
 same-length : tie.Need-same-length Inv-loop μ-loop
-same-length c = c .before .st3 .given ∙ c .before .before .before .before .before .before .before .st2 .given ∙ c .before .before .before .before .before .before .before .before .before .before .before .loop .inv .1 .whole ∙ sym (c .before .before .before .before .before .before .before .before .before .before .before .before .before .before .before .before .before .before .before .pre .2)
+same-length c = c .st3 .given ∙ c .before .before .before .before .before .before .st2 .given ∙ c .before .before .before .before .before .before .before .before .before .before .loop .inv .1 .whole ∙ sym (c .before .before .before .before .before .before .before .before .before .before .before .before .before .before .before .before .before .before .pre .2)
 
 returns : tie.Need-returns Inv-loop μ-loop
-returns c = refused-ends _ (c .before .before .before .before .before .before .before .before .before .before .before .before .before .before .before .before .before .before .before .pre .1) _ _ _ _ (c .before .before .before .before .before .before .before .before .before .before .before .before .before .before .externals .ensures .0) (c .before .before .before .before .before .before .before .before .before .before .before .before .before .count-in .ensures _ (c .before .before .before .before .before .before .before .before .before .before .before .before .before .before .before .before .before .before .before .pre .0)) (c .before .before .before .before .before .before .before .before .before .before .before .before .limit .ensures .0) (c .before .before .before .before .before .before .before .before .before .before .loop-test .taken) _ (c .before .before .before .before .before .before .before .before .before .before .before .loop .inv .1) _ _ (c .before .before .before .before .before .before .before .before .initial .ensures .0) (c .before .before .before .before .before .before .before .before .initial .ensures .1) _ (c .before .before .before .before .before .before .before .before .before .before .before .loop .inv .3) _ _ (c .before .before .before .before .before .r2 .given .1) _ _ (c .before .before .zero .ensures) (c .before .before .before .before .before .before .before .st2 .given ∙ c .before .before .before .before .before .before .before .before .before .before .before .loop .inv .1 .whole) _ (c .answered .ensures)
+returns c = refused-ends _ (c .before .before .before .before .before .before .before .before .before .before .before .before .before .before .before .before .before .before .pre .1) _ _ _ _ (c .before .before .before .before .before .before .before .before .before .before .before .before .before .externals .ensures .0) (c .before .before .before .before .before .before .before .before .before .before .before .before .count-in .ensures _ (c .before .before .before .before .before .before .before .before .before .before .before .before .before .before .before .before .before .before .pre .0)) (c .before .before .before .before .before .before .before .before .before .before .before .limit .ensures .0) (c .before .before .before .before .before .before .before .before .before .loop-test .taken) _ (c .before .before .before .before .before .before .before .before .before .before .loop .inv .1) _ _ (c .before .before .before .before .before .before .before .initial .ensures .0) (c .before .before .before .before .before .before .before .initial .ensures .1) _ (c .before .before .before .before .before .before .before .before .before .before .loop .inv .3) _ _ (c .before .before .before .before .r2 .given .1) _ _ (c .before .refused .ensures .1) (c .before .before .before .before .before .before .st2 .given ∙ c .before .before .before .before .before .before .before .before .before .before .loop .inv .1 .whole) _ (c .before .refused .ensures .0)
 
 enum-told : tie.Need-enum-told Inv-loop μ-loop
 enum-told c = search needs
 
-answered-requires-2 : tie.Need-answered-requires-2 Inv-loop μ-loop
-answered-requires-2 c κs = search needs
+answered-requires : tie.Need-answered-requires Inv-loop μ-loop
+answered-requires c κs = search needs
 
 same-length-2 : tie.Need-same-length-2 Inv-loop μ-loop
 same-length-2 c = c .before .before .before .st2 .given ∙ c .before .before .before .before .before .before .before .loop .inv .1 .whole ∙ sym (c .before .before .before .before .before .before .before .before .before .before .before .before .before .before .before .pre .2)
@@ -110,8 +107,8 @@ loop-again c =
     let z = c .before .before .before .before .before .before .before .before .limit .ensures .1 in
     (omega arith, done-kept _ (c .before .before .before .before .before .before .before .before .before .before .before .before .before .before .before .pre .1) _ _ _ _ (c .before .before .before .before .before .before .before .before .before .before .externals .ensures .0) (c .before .before .before .before .before .before .before .before .before .count-in .ensures _ (c .before .before .before .before .before .before .before .before .before .before .before .before .before .before .before .pre .0)) (c .before .before .before .before .before .before .before .before .limit .ensures .0) (c .before .before .before .before .before .before .loop-test .taken) _ (c .before .before .before .before .before .before .before .loop .inv .1) _ _ (c .before .before .before .before .initial .ensures .0) (c .before .before .before .before .initial .ensures .1) _ (c .before .r .given .1), omega arith, done-next _ (c .before .before .before .before .before .before .before .before .before .before .before .before .before .before .before .pre .1) _ _ _ _ (c .before .before .before .before .before .before .before .before .before .before .externals .ensures .0) (c .before .before .before .before .before .before .before .before .before .count-in .ensures _ (c .before .before .before .before .before .before .before .before .before .before .before .before .before .before .before .pre .0)) (c .before .before .before .before .before .before .before .before .limit .ensures .0) (c .before .before .before .before .before .before .loop-test .taken) _ (c .before .before .before .before .before .before .before .loop .inv .1) _ _ (c .before .before .before .before .initial .ensures .0) (c .before .before .before .before .initial .ensures .1) _ (c .before .before .before .before .before .before .before .loop .inv .3) _ (c .before .r .given .1))
 
-answered-requires-3 : tie.Need-answered-requires-3 Inv-loop μ-loop
-answered-requires-3 c κs = search needs
+answered-requires-2 : tie.Need-answered-requires-2 Inv-loop μ-loop
+answered-requires-2 c κs = search needs
 
 same-length-3 : tie.Need-same-length-3 Inv-loop μ-loop
 same-length-3 c = c .before .before .loop .inv .1 .whole ∙ sym (c .before .before .before .before .before .before .before .before .before .before .pre .2)
@@ -120,7 +117,7 @@ returns-3 : tie.Need-returns-3 Inv-loop μ-loop
 returns-3 c =
     let l = c .before .before .loop .inv .0 in
     let m = c .before .loop-test .left in
-    ends _ _ _ _ _ _ (omega arith) (c .answered3 .ensures) ∙ sym (c .before .before .loop .inv .3)
+    ends _ _ _ _ _ _ (omega arith) (c .answered2 .ensures) ∙ sym (c .before .before .loop .inv .3)
 
 pub from-defaults-spec : {M : Type 1} → statement M
 from-defaults-spec =
@@ -139,19 +136,18 @@ from-defaults-spec =
     sub-steps
     add-steps
     enum-known-r-2
-    sub-all
-    add-all
-    zero-requires
-    answered-requires
+    sub-refused
+    add-refused
+    refused-requires
     same-length
     returns
     enum-told
-    answered-requires-2
+    answered-requires
     same-length-2
     returns-2
     add-i
     loop-less
     loop-again
-    answered-requires-3
+    answered-requires-2
     same-length-3
     returns-3)
