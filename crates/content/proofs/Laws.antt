@@ -15,7 +15,7 @@ use Rattle.sheet.specs.declared.Found.the-variants.{Present, Absent}
 use Rattle.sheet.specs.All.{_and_, allBelow}
 use Rattle.sheet.specs.Sheet.{wordAt, offsetOf, countOf, recordAt, recordOf}
 use Rattle.sheet.proofs.All.{and-first}
-use Rattle.sheet.proofs.Sheet.{count-limit, record-present}
+use Rattle.sheet.proofs.Sheet.{count-limit, record-present, present-below}
 use Rattle.laris.specs.Fields.{numberOr0, typeAt, sumBelow, externalsOf}
 use Rattle.laris.proofs.Fields.{number-present, holds-present, holds-absent, sum-more}
 use Rattle.laris.specs.Shape.{variablesBound, variablesOf}
@@ -25,7 +25,6 @@ use Rattle.laris.specs.Valid.{zeroWords, cellFits, elementFits, telegramFits, h
 use Rattle.states.proofs.Frame.{all-same}
 use Rattle.states.proofs.Parts.{below-abs}
 use Rattle.states.proofs.Elements.{element-count, element-cells}
-use Rattle.passed.proofs.Records.{present-below}
 use Rattle.tests.proofs.Laws.{below-from}
 
 -- ---- how many variables: a field is below 65,536, as bytes are below 256

@@ -1,14 +1,13 @@
 -- What the marking functions add, as the definition of the uses counts it.
-use Prim.Native.Nat.{ℕ, zero, suc, _+_, _-_, _≤_, _<_}
-use mathlib.Core.Path.{_≡_, refl, sym, ap, _∙_}
+use Prim.Native.Nat.{ℕ, _+_, _-_, _<_}
+use mathlib.Core.Path.{_≡_, sym, ap, _∙_}
 use mathlib.Core.List.{List}
-use mathlib.Core.Bool.{Bool, true}
+use mathlib.Core.Bool.{Bool}
 use native.Mathlib.Omega.{arith}
 use Rattle.sheet.specs.declared.Record.{Record}
 use Rattle.sheet.specs.declared.Found.the-variants.{Present, Absent}
 use Rattle.sheet.specs.Names.{root}
-use Rattle.sheet.specs.Sheet.{directoryRight, countOf, recordOf}
-use Rattle.sheet.proofs.Sheet.{count-some, record-inside, sheet-limit}
+use Rattle.sheet.specs.Sheet.{countOf, recordOf}
 use Rattle.laris.specs.declared.Operands.{Operands}
 use Rattle.laris.specs.Fields.{fieldOf, numberOr0, sumBelow}
 use Rattle.laris.specs.Forms.{operandsOf, operandAt}
@@ -68,14 +67,3 @@ module _ (s : List ℕ) (k m : ℕ) where
     pub operands-added : (c r : Record) (o : Operands) → 0 < k → recordOf s 4 (k - 1) ≡ Present c → recordOf s 6 m ≡ Present r → o ≡ operandsOf s c r → Marked s m a d (λ n. sumBelow (o .count + o .tail) (operandTurn s k m r o n)) x → Marked s m a d (λ n. markedBelow s k n m) x
     unfolding markedBelow belowIn
     operands-added c r o l p q e h = marked-as s m a d _ _ x (λ n _. ap (λ (o : Operands). sumBelow (o .count + o .tail) (operandTurn s k m r o n)) e ∙ ap (λ (g : ℕ → ℕ). sumBelow (operandsOf s c r .count + operandsOf s c r .tail) (λ j. lowerOnly m g (operandAt r (operandsOf s c r) j))) (marked-chart s k c n l p) ∙ sym (number-present _ c _ p ∙ number-present _ r _ q)) h
-
--- ---- how many records a section has
-
-pub count-small : (s : List ℕ) (k : ℕ) → countOf s k ≤ 4095
-count-small s k = go (countOf s k) refl
-  where
-    go : (n : ℕ) → countOf s k ≡ n → n ≤ 4095
-    go zero e = omega arith
-    go (suc n) e =
-        let some : (directoryRight s ≡ true) × (k < 8) = count-some s k n (omega arith) in
-        omega (arith, sheet-limit s (some .0), record-inside s k n (omega arith))

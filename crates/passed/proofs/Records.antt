@@ -1,19 +1,18 @@
 -- What is known of each record of a passed sheet.
-use Prim.Native.Nat.{ℕ, _+_, _-_, _<_, _≤_}
+use Prim.Native.Nat.{ℕ, _+_, _<_, _≤_}
 use mathlib.Core.Path.{_≡_, refl, sym, ap, _∙_}
 use mathlib.Core.List.{List}
 use mathlib.Core.Bool.{Bool, true, false}
 use native.Mathlib.Omega.{arith}
 use borrow.Author.Tests.{leb-true, eqb-true}
-use native.Mathlib.Decide.{decLt}
 use Rattle.sheet.specs.declared.Record.{Record}
 use Rattle.sheet.specs.declared.Found.{Found}
 use Rattle.sheet.specs.declared.Found.the-variants.{Present, Absent}
-use Rattle.sheet.specs.All.{_and_}
 use Rattle.sheet.specs.Names.{head, enumeratedTypes, declarations, names, charts, bodies, bindings, declaredType, components, externals, ports}
 use Rattle.sheet.specs.Sheet.{directoryRight, countOf, recordOf}
 use Rattle.sheet.proofs.All.{true-false, and-first, and-second, all-at}
-use Rattle.sheet.proofs.Sheet.{record-present, record-absent}
+use Rattle.sheet.proofs.Sheet.{record-present}
+pub use Rattle.sheet.proofs.Sheet.{present-below}
 use Rattle.laris.specs.declared.Checked.{Checked}
 use Rattle.laris.specs.declared.Checked.the-variants.{Passed, Shape, Static}
 use Rattle.laris.specs.Fields.{holds, numberOr0, typeAt, componentsOf, externalsOf, portsOf}
@@ -23,16 +22,6 @@ use Rattle.laris.specs.Check.{nodesShape, sectionsShape, shape, checkOf, checkN
 use Rattle.laris.proofs.Fields.{holds-present, number-present}
 
 -- ---- a record that is there
-
-pub present-below : (s : List ℕ) (k n : ℕ) (r : Record) → recordOf s k n ≡ Present r → n < countOf s k
-present-below s k n r e = elim (decLt n (countOf s k)) [ yes h ↦ h | no h ↦ absurd (differ (sym e ∙ record-absent s k n (omega arith))) ]
-  where
-    there : Found → Bool
-    there (Present r) = true
-    there Absent = false
-
-    differ : Present r ≡ Absent → ⊥
-    differ q = true-false {b = true} refl (ap there q)
 
 -- a test that holds is of a record that is there
 pub held : (f : Found) (p : Record → Bool) → holds f p ≡ true → (r : Record) × (f ≡ Present r) × (p r ≡ true)

@@ -86,6 +86,13 @@ pub record-absent : (s : List ℕ) (k n : ℕ) → countOf s k ≤ n → recordO
 unfolding recordOf
 record-absent s k n h = rw (recordOf, le-ltb n (countOf s k) h) refl
 
+-- a record that is there is one of its section's
+pub present-below : (s : List ℕ) (k n : ℕ) (r : Record) → recordOf s k n ≡ Present r → n < countOf s k
+present-below s k n r e = elim (decLt n (countOf s k)) [
+  | yes l ↦ l
+  | no l ↦ (let z : _≡_ {A = ℕ} 0 1 = cc (record-absent s k n (omega arith)) in absurd (omega arith))
+]
+
 -- its sixteen bytes lie in the sheet
 pub record-inside : (s : List ℕ) (k n : ℕ) → n < countOf s k → offsetOf s k + 16 * n + 16 ≤ length s
 record-inside s k n h =

@@ -8,8 +8,8 @@ use Rattle.laris.specs.Fields.{sumBelow}
 use Rattle.laris.proofs.Fields.{number-absent}
 use Rattle.marks.specs.Marks.{Marked}
 use Rattle.marks.proofs.Marks.{marked-none, same-length, loop-start, loop-more, loop-twice, loop-end, was}
-use Rattle.marks.proofs.Added.{count-small, constantTurn, constant-added, binding-absent, binding-added}
-use Rattle.passed.proofs.Records.{present-below}
+use Rattle.marks.proofs.Added.{constantTurn, constant-added, binding-absent, binding-added}
+use Rattle.sheet.proofs.Sheet.{count-limit, present-below}
 use Rattle.marks.proofs.mark_binding.Statement.{statement}
 use Rattle.marks.proofs.mark_binding.Tie as tie
 
@@ -47,7 +47,7 @@ returns-2 : tie.Need-returns-2 Inv-loop μ-loop
 returns-2 c = marked-none _ _ _ _ (λ n l. binding-absent (c .before .before .before .before .before .before .before .before .before .args .sheet .now) _ n _ (sym (c .before .before .before .before .before .before .before .read .ensures) ∙ c .before .before .before .before .before .r .given .1) (sym (c .before .before .read2 .ensures) ∙ c .enum-told2 .given .1))
 
 add-k : tie.Need-add-k Inv-loop μ-loop
-add-k c = omega (arith, count-small (c .before .before .before .before .before .before .before .before .before .before .before .args .sheet .now) 4, present-below (c .before .before .before .before .before .before .before .before .before .before .before .args .sheet .now) 4 _ _ (sym (c .before .before .before .before .read2 .ensures) ∙ c .before .before .c .given .1))
+add-k c = omega (arith, count-limit (c .before .before .before .before .before .before .before .before .before .before .before .args .sheet .now) 4, present-below (c .before .before .before .before .before .before .before .before .before .before .before .args .sheet .now) 4 _ _ (sym (c .before .before .before .before .read2 .ensures) ∙ c .before .before .c .given .1))
 
 cast-total : tie.Need-cast-total Inv-loop μ-loop
 cast-total c = search needs
@@ -62,7 +62,7 @@ field-requires : tie.Need-field-requires Inv-loop μ-loop
 field-requires c κs = search needs
 
 mark-requires : tie.Need-mark-requires Inv-loop μ-loop
-mark-requires c κs = (omega (arith, count-small (c .before .before .before .before .before .before .before .before .before .before .before .before .before .before .before .before .args .sheet .now) 6, c .before .before .before .before .before .before .before .before .before .before .before .before .before .before .before .before .pre .1 .0), (omega arith, same-length _ _ _ _ _ (c .before .before .before .loop .inv .1) ∙ c .before .before .before .before .before .before .before .before .before .before .before .before .before .before .before .before .pre .1 .1))
+mark-requires c κs = (omega (arith, count-limit (c .before .before .before .before .before .before .before .before .before .before .before .before .before .before .before .before .args .sheet .now) 6, c .before .before .before .before .before .before .before .before .before .before .before .before .before .before .before .before .pre .1 .0), (omega arith, same-length _ _ _ _ _ (c .before .before .before .loop .inv .1) ∙ c .before .before .before .before .before .before .before .before .before .before .before .before .before .before .before .before .pre .1 .1))
 
 returns-3 : tie.Need-returns-3 Inv-loop μ-loop
 returns-3 c = binding-added _ _ _ _ _ _ _ _ (sym (c .before .before .before .before .before .before .before .before .before .before .before .before .before .before .before .before .read .ensures) ∙ c .before .before .before .before .before .before .before .before .before .before .before .before .before .before .r .given .1) (sym (c .before .before .before .before .before .before .before .before .before .before .before .read2 .ensures) ∙ c .before .before .before .before .before .before .before .before .before .c .given .1) (loop-twice _ _ _ _ _ (constantTurn (c .before .before .before .before .before .before .before .before .before .before .before .before .before .before .before .before .before .before .args .sheet .now) _ _) (c .before .before .before .before .before .loop .j) _ (c .before .before .before .before .loop-test .taken) (c .before .before .before .before .before .loop .inv .1) (constant-added _ _ _ _ _ _ _ (c .before .before .before .before .before .loop .j) _ (c .before .before .before .before .before .before .before .before .before .before .before .before .before .before .before .before .before .before .pre .1 .0) (c .before .before .field .ensures .0) (was _ _ _ _ _ _ _ (not-true _ (c .if1 .taken)) (c .before .mark .ensures (c .before .before .before .before .before .before .before .before .before .before .before .before .before .before .before .before .before .before .args .sheet .now)))))

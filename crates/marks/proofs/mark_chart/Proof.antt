@@ -8,8 +8,8 @@ use Rattle.laris.specs.Fields.{sumBelow}
 use Rattle.laris.proofs.Fields.{number-absent}
 use Rattle.marks.specs.Marks.{Marked}
 use Rattle.marks.proofs.Marks.{marked-none, same-length, loop-start, loop-more, loop-twice, loop-end, was}
-use Rattle.marks.proofs.Added.{count-small, rootTurn, chart-added}
-use Rattle.passed.proofs.Records.{present-below}
+use Rattle.marks.proofs.Added.{rootTurn, chart-added}
+use Rattle.sheet.proofs.Sheet.{count-limit, present-below}
 use Rattle.marks.proofs.mark_chart.Statement.{statement}
 use Rattle.marks.proofs.mark_chart.Tie as tie
 
@@ -32,10 +32,10 @@ returns : tie.Need-returns Inv-loop μ-loop
 returns c = marked-none _ _ _ _ (λ n l. number-absent _ _ (sym (c .before .before .read .ensures) ∙ c .enum-told .given .1))
 
 add-k : tie.Need-add-k Inv-loop μ-loop
-add-k c = omega (arith, count-small (c .before .before .before .before .before .args .sheet .now) 4, present-below (c .before .before .before .before .before .args .sheet .now) 4 (c .before .before .before .before .before .args .i) _ (sym (c .before .before .before .read .ensures) ∙ c .before .c .given .1))
+add-k c = omega (arith, count-limit (c .before .before .before .before .before .args .sheet .now) 4, present-below (c .before .before .before .before .before .args .sheet .now) 4 (c .before .before .before .before .before .args .i) _ (sym (c .before .before .before .read .ensures) ∙ c .before .c .given .1))
 
 cast-k : tie.Need-cast-k Inv-loop μ-loop
-cast-k c = omega (arith, count-small (c .before .before .before .before .before .args .sheet .now) 4, present-below (c .before .before .before .before .before .args .sheet .now) 4 (c .before .before .before .before .before .args .i) _ (sym (c .before .before .before .read .ensures) ∙ c .before .c .given .1))
+cast-k c = omega (arith, count-limit (c .before .before .before .before .before .args .sheet .now) 4, present-below (c .before .before .before .before .before .args .sheet .now) 4 (c .before .before .before .before .before .args .i) _ (sym (c .before .before .before .read .ensures) ∙ c .before .c .given .1))
 
 cast-first : tie.Need-cast-first Inv-loop μ-loop
 cast-first c = search needs

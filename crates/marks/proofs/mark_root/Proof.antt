@@ -1,9 +1,10 @@
 use native.Mathlib.Omega.{arith}
 use mathlib.Core.Path.{sym, _∙_}
 use borrow.Author.Needs.{needs}
+use Rattle.sheet.proofs.Sheet.{count-limit}
 use Rattle.laris.proofs.Fields.{number-absent}
 use Rattle.marks.proofs.Marks.{marked-none}
-use Rattle.marks.proofs.Added.{count-small, root-added}
+use Rattle.marks.proofs.Added.{root-added}
 use Rattle.marks.proofs.mark_root.Statement.{statement}
 use Rattle.marks.proofs.mark_root.Tie as tie
 
@@ -23,7 +24,7 @@ cast-mark : tie.Need-cast-mark
 cast-mark c = search needs
 
 mark-requires : tie.Need-mark-requires
-mark-requires c κs = (omega (arith, count-small (c .before .before .before .before .before .before .before .args .sheet .now) 6), (c .before .before .before .before .before .before .before .pre .1 .1 .0, c .before .before .before .before .before .before .before .pre .1 .1 .1))
+mark-requires c κs = (omega (arith, count-limit (c .before .before .before .before .before .before .before .args .sheet .now) 6), (c .before .before .before .before .before .before .before .pre .1 .1 .0, c .before .before .before .before .before .before .before .pre .1 .1 .1))
 
 returns-2 : tie.Need-returns-2
 returns-2 c = root-added _ _ _ _ _ _ _ _ (c .before .before .before .before .before .before .before .before .pre .1 .0) (sym (c .before .before .before .before .before .before .read .ensures) ∙ c .before .before .before .before .b .given .1) (c .mark .ensures (c .before .before .before .before .before .before .before .before .args .sheet .now))
