@@ -1,12 +1,12 @@
 -- The recursion equation of `evalOf`: enough fuel is enough.
-use Prim.Native.Nat.{ℕ, zero, suc, _≤_, _<_}
+use Prim.Native.Nat.{ℕ, zero, suc, _<_}
 use mathlib.Core.Path.{_≡_, refl, ap, fun-ext}
 use mathlib.Core.List.{List}
 use mathlib.Core.Bool.{Bool, true, false}
 use native.Mathlib.Omega.{arith}
 use lib.Dec.{ltb}
 use lib.IntN.{ℤ}
-use borrow.Author.Tests.{ltb-true, lt-ltb, le-ltb}
+use borrow.Author.Tests.{ltb-true, lt-ltb}
 use Rattle.sheet.specs.Names.{nodes, operator}
 use Rattle.sheet.specs.Sheet.{recordOf}
 use Rattle.laris.specs.declared.Out.{Out}
@@ -26,10 +26,6 @@ lower-same n f g h = fun-ext (λ m. fun-ext (λ l. go m l (ltb m n) (ltb-true m 
 pub lower-eval : (n m : ℕ) (f : ℕ → ℕ → Out) (l : ℕ) → m < n → lowerEval n f m l ≡ f m l
 unfolding lowerEval
 lower-eval n m f l h = rw (lowerEval, lt-ltb m n h) refl
-
-pub not-lower-eval : (n m : ℕ) (f : ℕ → ℕ → Out) (l : ℕ) → n ≤ m → lowerEval n f m l ≡ Stuck
-unfolding lowerEval
-not-lower-eval n m f l h = rw (lowerEval, le-ltb m n h) refl
 
 module _ (s : List ℕ) (x : Context) (st lo : List ℤ) where
   enough : (k k′ n : ℕ) → n < k → n < k′ → (l : ℕ) → evalF s x st lo k n l ≡ evalF s x st lo k′ n l

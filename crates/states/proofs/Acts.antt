@@ -7,17 +7,15 @@ use lib.ListN.{getD, replicate}
 use lib.Dec.{eqb}
 use lib.IntN.{ℤ, pos}
 use lib.Signed.{leZ}
-use borrow.Author.Tests.{eqb-true}
 use Rattle.sheet.specs.declared.Record.{Record}
 use Rattle.sheet.specs.declared.Found.the-variants.{Present}
-use Rattle.sheet.specs.Names.{internal, chartVariables, chartVariable, bodyVariable, Timer-type, isClock}
+use Rattle.sheet.specs.Names.{internal, chartVariables, Timer-type, isClock}
 use Rattle.laris.specs.Fields.{typeAt}
-use Rattle.laris.specs.Values.{fits32, inType, chartOf, firstCell}
+use Rattle.laris.specs.Values.{fits32, chartOf, firstCell}
 use Rattle.laris.specs.State.{cellAt}
 use Rattle.laris.specs.Valid.{nameFits, reactionAwaits, OfSheet}
-use Rattle.laris.specs.Eval.{Context, variableAtCell}
-use Rattle.laris.specs.Run.{armed, clockSet, assigned}
-use Rattle.states.proofs.Kept.{cell-put, data-set}
+use Rattle.laris.specs.Run.{armed, clockSet}
+use Rattle.states.proofs.Kept.{cell-put}
 use Rattle.states.proofs.Clocks.{stopped-fits, started-fits, armed-fits, armed-value}
 
 -- the variable j of element e
@@ -43,13 +41,3 @@ module _ (s : List ℕ) (st : List ℤ) (o : OfSheet s st) (e : ℕ) (c : Record
   pub started-kept : kind ≡ Timer-type → (l : ℕ) (lo : List ℤ) → OfSheet s (clockSet cell (pos 1) l st lo .st)
   unfolding clockSet
   started-kept k l lo = cell-put s st o e c p j m (pos 1 ∷ replicate 7 (pos 0)) refl (started-fits s e kind k)
-
--- an assignment changes the state only where the place is a variable of the chart
-pub assigned-kept : (s : List ℕ) (x : Context) (st : List ℤ) → OfSheet s st → chartOf s (x .element) ≡ Present (x .chart) → (place n : ℕ) (z : ℤ) → (place ≡ chartVariable → n < chartVariables (x .chart) .count) → (place ≡ chartVariable → isClock (typeAt s (chartVariables (x .chart) .first + n)) ≡ false) → (place ≡ chartVariable → inType s (typeAt s (chartVariables (x .chart) .first + n)) z ≡ true) → (l : ℕ) (lo : List ℤ) → OfSheet s (assigned s x place n z l st lo .st)
-unfolding assigned variableAtCell
-assigned-kept s x st o p place n z h k t l lo = go (eqb place chartVariable) (eqb place bodyVariable) refl refl
-  where
-    go : (a b : Bool) → eqb place chartVariable ≡ a → eqb place bodyVariable ≡ b → OfSheet s (assigned s x place n z l st lo .st)
-    go true b q r = let e : place ≡ chartVariable = eqb-true place chartVariable q in rw (assigned, q) (data-set s st o (x .element) (x .chart) p n (h e) z (k e) (t e))
-    go false true q r = rw (assigned, q, r) o
-    go false false q r = rw (assigned, q, r) o

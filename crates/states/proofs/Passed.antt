@@ -10,18 +10,17 @@ use borrow.Author.Tests.{ltb-true, leb-true, lt-ltb, le-leb, ne-eqb}
 use Rattle.sheet.specs.declared.Record.{Record}
 use Rattle.sheet.specs.declared.Found.the-variants.{Present}
 use Rattle.sheet.specs.All.{_and_}
-use Rattle.sheet.specs.Names.{enumeratedTypes, declarations, size, defaultMember, chartVariables, boundChart, isClock}
+use Rattle.sheet.specs.Names.{enumeratedTypes, size, defaultMember, chartVariables, isClock}
 use Rattle.sheet.specs.Sheet.{countOf, recordOf, recordAt, offsetOf}
 use Rattle.sheet.proofs.All.{true-false, and-first, and-second, and-true}
 use Rattle.sheet.proofs.Sheet.{record-present}
 use Rattle.laris.specs.declared.Checked.the-variants.{Passed}
-use Rattle.laris.specs.Fields.{numberOr0, typeAt, componentsOf, portsOf, inSection}
-use Rattle.laris.specs.Shape.{enumeratedShape, typeExists, chartShape}
+use Rattle.laris.specs.Fields.{numberOr0, typeAt, componentsOf, portsOf}
+use Rattle.laris.specs.Shape.{enumeratedShape, typeExists}
 use Rattle.laris.specs.Check.{checkOf}
 use Rattle.laris.specs.Values.{isBelow, fits32, inType, defaultOf, membersOf, chartOf}
 use Rattle.laris.proofs.Fields.{number-present}
-use Rattle.passed.proofs.Records.{type-shape, chart-shape, two-externals, externals-components, two-ports, declared-exists}
-use Rattle.passed.proofs.Charts.{chart-element}
+use Rattle.passed.proofs.Records.{type-shape, two-externals, externals-components, two-ports, declared-exists}
 
 pub in-enumerated : (s : List ℕ) (t : ℕ) (z : ℤ) → 8 ≤ t → isBelow z (membersOf s (t - 8)) ≡ true → inType s t z ≡ true
 unfolding inType
@@ -64,9 +63,5 @@ module _ (s : List ℕ) (ok : checkOf s ≡ Passed) where
   -- ---- the variables of an element
 
   module _ (e : ℕ) (c : Record) (p : chartOf s e ≡ Present c) where
-    pub variables-declared : chartVariables c .first + chartVariables c .count ≤ countOf s declarations
-    unfolding chartShape inSection
-    variables-declared = let x = chart-element s e c p in leb-true _ _ (and-first _ _ (and-second _ _ (and-second _ _ (chart-shape s ok (boundChart (x .0)) c (x .1 .chart)))))
-
     pub variable-exists : (j : ℕ) → j < chartVariables c .count → typeExists s (typeAt s (chartVariables c .first + j)) ≡ true
     variable-exists j l = declared-exists s ok (chartVariables c .first + j)

@@ -73,10 +73,6 @@ pub word-not-waiting : (st : List ℤ) (n i : ℕ) → 0 < i → wordOf (setWait
 unfolding setWaiting
 word-not-waiting st n i l = word-set-other st 0 i (pos n) (λ e. omega arith)
 
-pub waiting-set : (st : List ℤ) (n : ℕ) → 0 < length st → waiting (setWaiting st n) ≡ n
-unfolding waiting
-waiting-set st n l = ap natAbs (word-waiting st n l)
-
 -- ---- a telegram's words
 
 pub words-telegram : (st : List ℤ) (at : ℕ) (t : Telegram) → Same st at (wordsOf t) 0 → telegramIn st at ≡ t

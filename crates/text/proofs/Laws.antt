@@ -106,10 +106,6 @@ module _ (n : ℕ) (long : 10 ≤ n) (fits : n < 18446744073709551616) where
   unfolding decimal
   decimal-room = rw nineteen (digits-length 19 (n / 10))
 
-pub decimal-length : (n : ℕ) → length (decimal n) ≤ 20
-unfolding decimal
-decimal-length n = digits-length 20 n
-
 -- ---- signed numbers
 
 module _ (z : ℤ) (h : SFits w32 z) where

@@ -10,7 +10,7 @@ use lib.ListN.{length}
 use lib.Dec.{ltb, eqb}
 use lib.IntN.{ℤ, pos, negsuc, natAbs}
 use lib.Signed.{leZ}
-use borrow.Author.Tests.{eqb-true, lt-ltb, le-ltb, le-leb, not-true}
+use borrow.Author.Tests.{eqb-true, lt-ltb, le-leb, not-true}
 use Rattle.sheet.specs.All.{_and_}
 use Rattle.sheet.proofs.All.{true-false, not-so, and-first, and-second, and-true, false-and, and-false}
 use Rattle.laris.specs.declared.Telegram.{Telegram}

@@ -1,4 +1,3 @@
-use mathlib.Core.Path.{_≡_, refl, sym, ap, _∙_}
 use borrow.Author.Needs.{needs}
 use Rattle.kinds.proofs.Calls.{slice-done, slice-refused}
 use Rattle.kinds.proofs.sliced.Statement.{statement}

@@ -1,6 +1,5 @@
-use mathlib.Core.Path.{sym, ap, _∙_}
+use mathlib.Core.Path.{ap, _∙_}
 use lib.Dec.{ltb}
-use borrow.Author.Needs.{needs}
 use Rattle.tests.proofs.Laws.{back, from-zero, negative, below-number}
 use Rattle.tests.proofs.is_below.Statement.{statement}
 use Rattle.tests.proofs.is_below.Tie as tie

@@ -1,4 +1,3 @@
-use borrow.Author.Needs.{needs}
 use Rattle.tests.proofs.Laws.{zero-bits}
 use Rattle.tests.proofs.is_zero.Statement.{statement}
 use Rattle.tests.proofs.is_zero.Tie as tie

@@ -1,8 +1,7 @@
-use mathlib.Core.Path.{sym, ap, _∙_}
+use mathlib.Core.Path.{sym, _∙_}
 use borrow.Author.Tests.{not-true, not-false}
 use borrow.Author.Needs.{needs}
 use Rattle.sheet.proofs.All.{first-fails, first-holds}
-use Rattle.laris.specs.Eval.{sameWord}
 use Rattle.tests.proofs.Laws.{back}
 use Rattle.tests.proofs.same.Statement.{statement}
 use Rattle.tests.proofs.same.Tie as tie
