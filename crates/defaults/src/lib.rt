@@ -19,7 +19,7 @@ ghost use Rattle.defaults.specs.Blank.{Blank};
 ghost use Rattle.defaults.specs.Bound.{chartBound};
 
 // "Defaults: false, 0, Log, log, the declared member, a stopped clock"
-pub fn default_of(sheet: &[u8], directory: &[usize; 16], t: usize) -> i32
+fn default_of(sheet: &[u8], directory: &[usize; 16], t: usize) -> i32
     requires { ⌜ now directory ≡ directoryOf (now sheet) ⌝ }
     ensures { λ z. ⌜ z ≡ defaultOf (now (sheet .entry)) t ⌝ }
 {

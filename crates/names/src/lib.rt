@@ -39,7 +39,7 @@ fn datum_fits(
 }
 
 // Whether the four words from `at` on fit a name's types.
-pub fn data_fit(sheet: &[u8], directory: &[usize; 16], g: Range, st: &[i32], at: usize) -> bool
+fn data_fit(sheet: &[u8], directory: &[usize; 16], g: Range, st: &[i32], at: usize) -> bool
     requires { ⌜ (now directory ≡ directoryOf (now sheet)) × (g .first < 65536) × (at + 4 ≤ length (now st)) ⌝ }
     ensures { λ b. ⌜ b ≡ dataFit (now (sheet .entry)) g (λ j. wordOf (now (st .entry)) (at + j)) ⌝ }
 {

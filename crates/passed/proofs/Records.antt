@@ -16,7 +16,7 @@ pub use Rattle.sheet.proofs.Sheet.{present-below}
 use Rattle.laris.specs.declared.Checked.{Checked}
 use Rattle.laris.specs.declared.Checked.the-variants.{Passed, Shape, Static}
 use Rattle.laris.specs.Fields.{holds, numberOr0, typeAt, componentsOf, externalsOf, portsOf}
-use Rattle.laris.specs.Shape.{headShape, enumeratedShape, typeExists, declarationShape, nameShape, chartShape, bodyShape, bindingShape, elementsBound, variablesOf, treesShape, recordShape, sectionShape, bodiesCovered}
+use Rattle.laris.specs.Shape.{headShape, enumeratedShape, typeExists, declarationShape, nameShape, bodyShape, bindingShape, elementsBound, variablesOf, treesShape, recordShape, sectionShape, bodiesCovered}
 use Rattle.laris.specs.Static.{nameStatic, chartStatic, bindingStatic, recordStatic, sectionStatic, static}
 use Rattle.laris.specs.Check.{nodesShape, sectionsShape, shape, checkOf, checkNumber}
 use Rattle.laris.proofs.Fields.{holds-present, number-present}
@@ -105,10 +105,6 @@ module _ (s : List ℕ) (ok : checkOf s ≡ Passed) where
     pub name-shape : recordOf s names n ≡ Present r → nameShape s r ≡ true
     unfolding recordShape
     name-shape e = record-shape 3 n r (omega arith) e
-
-    pub chart-shape : recordOf s charts n ≡ Present r → chartShape s n r ≡ true
-    unfolding recordShape
-    chart-shape e = record-shape 4 n r (omega arith) e
 
     pub body-shape : recordOf s bodies n ≡ Present r → bodyShape s r ≡ true
     unfolding recordShape

@@ -1,13 +1,12 @@
 // Words of a state and of an event, and the tests that compare them.
 ghost use mathlib.Core.Path.{_≡_};
 ghost use mathlib.Core.Bool.{true};
-ghost use Prim.Native.Nat.{_+_, _<_, _≤_};
+ghost use Prim.Native.Nat.{_<_};
 ghost use lib.ListN.{length};
 ghost use lib.IntN.{pos, natAbs};
 ghost use lib.Signed.{leZ, ltZ};
 ghost use Rattle.laris.specs.Values.{fits32, isBelow, isZero};
 ghost use Rattle.laris.specs.State.{wordOf};
-ghost use Rattle.laris.specs.Eval.{sameWord};
 
 // A word: a number of 32 bits, like every one that the machine holds.
 pub fn word(st: &[i32], i: usize) -> i32
@@ -29,16 +28,7 @@ pub fn less(a: i32, b: i32) -> bool
     a < b
 }
 
-pub fn same(a: i32, b: i32) -> bool
-    ensures { λ r. ⌜ r ≡ sameWord a b ⌝ }
-{
-    if !at_least(b, a) {
-        return false;
-    }
-    at_least(a, b)
-}
-
-pub fn is_zero(z: i32) -> bool
+fn is_zero(z: i32) -> bool
     ensures { λ r. ⌜ r ≡ isZero z ⌝ }
 {
     z == 0

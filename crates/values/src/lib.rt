@@ -52,7 +52,7 @@ pub fn is_bound(sheet: &[u8], directory: &[usize; 16], e: usize) -> bool
     e < components(sheet, directory)
 }
 
-pub fn binding_of(sheet: &[u8], directory: &[usize; 16], e: usize) -> Found
+fn binding_of(sheet: &[u8], directory: &[usize; 16], e: usize) -> Found
     requires { ⌜ now directory ≡ directoryOf (now sheet) ⌝ }
     ensures { λ f. ⌜ f ≡ bindingOf (now (sheet .entry)) e ⌝ }
 {
@@ -90,7 +90,7 @@ fn is_member(sheet: &[u8], directory: &[usize; 16], t: usize, z: i32) -> bool
 }
 
 // Whether a word is a value of type t. Every word is an Int.
-pub fn in_type(sheet: &[u8], directory: &[usize; 16], t: usize, z: i32) -> bool
+fn in_type(sheet: &[u8], directory: &[usize; 16], t: usize, z: i32) -> bool
     requires { ⌜ now directory ≡ directoryOf (now sheet) ⌝ }
     ensures { λ b. ⌜ b ≡ inType (now (sheet .entry)) t z ⌝ }
 {

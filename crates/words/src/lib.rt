@@ -30,7 +30,7 @@ pub fn signed(n: u32) -> i32
     }
 }
 
-pub fn word(bytes: &[u8], at: usize) -> i32
+fn word(bytes: &[u8], at: usize) -> i32
     requires { ⌜ at + 4 ≤ length (now bytes) ⌝ }
     ensures { λ z. ⌜ z ≡ wordAt (now (bytes .entry)) at ⌝ }
 {
