@@ -24,17 +24,9 @@ answerOf : Answer → Outcome → Answer
 answerOf d (ended a st) = a
 answerOf d stuck = d
 
-stateOf : List ℤ → Outcome → List ℤ
-stateOf d (ended a st) = st
-stateOf d stuck = d
-
 same-answer : (a b : Answer) (st st′ : List ℤ) → ended a st ≡ ended b st′ → a ≡ b
 unfolding answerOf
 same-answer a b st st′ e = ap (answerOf a) e
-
-same-state : (a b : Answer) (st st′ : List ℤ) → ended a st ≡ ended b st′ → st ≡ st′
-unfolding stateOf
-same-state a b st st′ e = ap (stateOf st) e
 
 module _ (s : List ℕ) (ok : checkOf s ≡ Passed) where
   -- whatever was lent, the answer and the state that goes on are those of the machine's own list
