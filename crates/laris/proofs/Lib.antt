@@ -2,4 +2,3 @@ pub mod Forms
 pub mod Fields
 pub mod Types
 pub mod Appending
-pub mod Samples

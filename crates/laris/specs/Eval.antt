@@ -12,12 +12,12 @@ use Rattle.sheet.specs.declared.Found.{Found}
 use Rattle.sheet.specs.declared.Found.the-variants.{Present, Absent}
 use Rattle.sheet.specs.All.{_and_}
 use Rattle.sheet.specs.Names
-use Rattle.sheet.specs.Names.{nodes, chartVariables, operator, Bool-type, Int-type, Component-type, Port-type, enumerated, isClock, isLiteral}
+use Rattle.sheet.specs.Names.{declarations, nodes, declaredType, chartVariables, operator, Bool-type, Int-type, Component-type, Port-type, enumerated, isClock, isLiteral}
 use Rattle.sheet.specs.Sheet.{recordOf}
 use Rattle.laris.specs.declared.Value.{Value}
 use Rattle.laris.specs.declared.Out.{Out}
 use Rattle.laris.specs.declared.Out.the-variants.{Val, Refused, Stuck}
-use Rattle.laris.specs.Fields.{typeAt}
+use Rattle.laris.specs.Fields.{isField, declaredSo}
 use Rattle.laris.specs.Forms.{Form, literal, read, unary, binary, clock, skip, assign, externalSend, internalSend, arm, clockAct, call, choice, loop, sequence, unknown, formOf}
 use Rattle.laris.specs.Shape.{variablesAt, constantOf}
 use Rattle.laris.specs.Types.{variableAt}
@@ -130,9 +130,17 @@ pub record Context : Type 0 where
 unfoldable pub ofType : ℕ → Value → Out → Out
 ofType t x o = needs (eqb (x .kind) t) o
 
--- "Reading a chart parameter doesn't visit its binding's node": the constant in the element's binding
+-- the type of a declaration; without one the machine is stuck
+abbrev pub onType : List ℕ → ℕ → (ℕ → Out) → Out
+onType s d K = onRecord (recordOf s declarations d) (λ r. K (declaredType r))
+
+-- "Reading a chart parameter doesn't visit its binding's node": the constant in the element's binding, a field from f1 on
 unfoldable pub parameterVal : List ℕ → Context → ℕ → ℕ → ℕ → Out
-parameterVal s x n t l = onRecord (recordOf s nodes (constantOf (x .binding) n)) (λ r. needs (isLiteral (operator r)) (ofType t (literalValue (x .element) r) (within s (literalValue (x .element) r) l)))
+parameterVal s x n t l = needs (isField (1 + n)) (onRecord (recordOf s nodes (constantOf (x .binding) n)) (λ r. needs (isLiteral (operator r)) (ofType t (literalValue (x .element) r) (within s (literalValue (x .element) r) l))))
+
+-- "Parameters and locals together at most 16": a body's variables have that many words
+abbrev pub bodyWords : ℕ
+bodyWords = 16
 
 module _ (s : List ℕ) (x : Context) (st lo : List ℤ) where
   -- the word of the element's variable n
@@ -144,16 +152,16 @@ module _ (s : List ℕ) (x : Context) (st lo : List ℤ) where
   readAs place n t l =
       elim (eqb place Names.chartParameter) [
         | true ↦ parameterVal s x n t l
-        | false ↦ elim (eqb place Names.chartVariable) [ true ↦ within s (val t (wordOf st (variableAtCell n))) l | false ↦ within s (val t (wordOf lo n)) l ]
+        | false ↦ elim (eqb place Names.chartVariable) [ true ↦ within s (val t (wordOf st (variableAtCell n))) l | false ↦ needs (ltb n bodyWords) (within s (val t (wordOf lo n)) l) ]
       ]
 
   unfoldable pub readVal : ℕ → ℕ → ℕ → Out
-  readVal place n l = needs (ltb n (variablesAt (x .chart) (x .body) place)) (readAs place n (typeAt s (variableAt (x .chart) (x .body) place n)) l)
+  readVal place n l = needs (ltb n (variablesAt (x .chart) (x .body) place)) (onType s (variableAt (x .chart) (x .body) place n) (λ t. readAs place n t l))
 
   -- "17 gives the clock's running word, 18 its value, 0 when stopped"
   unfoldable pub clockVal : ℕ → ℕ → ℕ → Out
   clockVal op n l =
-      needs (ltb n (chartVariables (x .chart) .count) and isClock (typeAt s (chartVariables (x .chart) .first + n)))
+      needs (ltb n (chartVariables (x .chart) .count) and declaredSo s (chartVariables (x .chart) .first + n) isClock)
       (elim (eqb op 17) [ true ↦ within s (val Bool-type (wordOf st (variableAtCell n))) l | false ↦ within s (val Int-type (wordOf st (variableAtCell n + 1))) l ])
 
   -- ---- a node
@@ -182,16 +190,12 @@ module _ (s : List ℕ) (x : Context) (st lo : List ℤ) where
   evalStep f n zero = Refused 10 0
   evalStep f n (suc l) = onRecord (recordOf s nodes n) (λ r. evalIn f r l (formOf (operator r)))
 
--- An operand that isn't lower is none: the machine, which reads any sheet, is stuck there. On a passed sheet it never happens.
-unfoldable pub lowerEval : ℕ → (ℕ → ℕ → Out) → ℕ → ℕ → Out
-lowerEval n f m l = elim (ltb m n) [ true ↦ f m l | false ↦ Stuck ]
-
 module _ (s : List ℕ) (x : Context) (st lo : List ℤ) where
-  -- fuel is not the paper's: the node number falls, so enough of it makes no difference
+  -- fuel is not the paper's: each visit takes a step, so enough of it makes no difference
   unfoldable pub evalF : ℕ → ℕ → ℕ → Out
   evalF zero n l = Stuck
-  evalF (suc k) n l = evalStep s x st lo (lowerEval n (evalF k)) n l
+  evalF (suc k) n l = evalStep s x st lo (evalF k) n l
 
   -- what node n gives, with l steps left
   unfoldable pub evalOf : ℕ → ℕ → Out
-  evalOf n l = evalF (suc n) n l
+  evalOf n l = evalF (suc l) n l

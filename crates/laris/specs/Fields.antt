@@ -3,7 +3,7 @@ use Prim.Native.Nat.{ℕ, zero, suc, _+_, _-_}
 use mathlib.Core.List.{List, [], _∷_}
 use mathlib.Core.Bool.{Bool, true, false}
 use lib.ListN.{getD}
-use lib.Dec.{leb, eqb}
+use lib.Dec.{ltb, leb, eqb}
 use Rattle.sheet.specs.declared.Record.{Record}
 use Rattle.sheet.specs.declared.Range.{Range}
 use Rattle.sheet.specs.declared.Found.{Found}
@@ -11,6 +11,10 @@ use Rattle.sheet.specs.declared.Found.the-variants.{Present, Absent}
 use Rattle.sheet.specs.All.{allBelow}
 use Rattle.sheet.specs.Names.{head, declarations, components, externals, ports, declaredType}
 use Rattle.sheet.specs.Sheet.{countOf, recordOf}
+
+-- a record has eight fields
+abbrev pub isField : ℕ → Bool
+isField i = ltb i 8
 
 unfoldable pub fieldOf : Record → ℕ → ℕ
 fieldOf r i = getD (r .f0 ∷ r .f1 ∷ r .f2 ∷ r .f3 ∷ r .f4 ∷ r .f5 ∷ r .f6 ∷ r .f7 ∷ []) i 0
@@ -55,7 +59,15 @@ externalsOf s = numberOr0 (recordOf s head 0) externals
 unfoldable pub portsOf : List ℕ → ℕ
 portsOf s = numberOr0 (recordOf s head 0) ports
 
--- the type of a declaration
+-- how many bound elements: "numbers below f1" are external, "the rest are bound elements"
+unfoldable pub elementsOf : List ℕ → ℕ
+elementsOf s = componentsOf s - externalsOf s
+
+-- declaration d is there, and its type meets a test
+unfoldable pub declaredSo : List ℕ → ℕ → (ℕ → Bool) → Bool
+declaredSo s d p = holds (recordOf s declarations d) (λ r. p (declaredType r))
+
+-- the type of a declaration, 0 where there is none
 unfoldable pub typeAt : List ℕ → ℕ → ℕ
 typeAt s d = numberOr0 (recordOf s declarations d) declaredType
 

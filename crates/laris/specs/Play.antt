@@ -3,13 +3,13 @@ use Prim.Native.Nat.{ℕ, zero, suc, _+_, _*_, _-_}
 use mathlib.Core.List.{List, [], _∷_, _++_}
 use mathlib.Core.Bool.{Bool, true, false, not}
 use lib.ListN.{length, set, replicate}
-use lib.Dec.{ltb, eqb}
+use lib.Dec.{ltb, leb, eqb}
 use lib.IntN.{ℤ, pos, negsuc, natAbs, _+ℤ_, _-ℤ_}
 use Rattle.sheet.specs.declared.Record.{Record}
 use Rattle.sheet.specs.declared.Found.{Found}
 use Rattle.sheet.specs.declared.Found.the-variants.{Present, Absent}
 use Rattle.sheet.specs.All.{_and_, allBelow}
-use Rattle.sheet.specs.Names.{head, bodies, bindings, stepLimit, external, chartVariables, chartBodies, role, initial, panic, externalReaction, reactionPort, reactionName, bodyParameters, root, Timer-type, Timeout-type, isClock}
+use Rattle.sheet.specs.Names.{head, declarations, names, bodies, declaredType, dataOf, stepLimit, external, chartVariables, chartBodies, role, initial, panic, externalReaction, reactionPort, reactionName, bodyParameters, root, Timer-type, Timeout-type, isClock}
 use Rattle.sheet.specs.Sheet.{countOf, recordOf}
 use Rattle.laris.specs.declared.Checked.{Checked}
 use Rattle.laris.specs.declared.Checked.the-variants.{Passed, Shape, Static}
@@ -19,13 +19,13 @@ use Rattle.laris.specs.declared.Handed.the-variants.{Nothing, Outside}
 use Rattle.laris.specs.declared.Answer.{Answer}
 use Rattle.laris.specs.declared.Ran.{Ran}
 use Rattle.laris.specs.declared.Ran.the-variants.{Done, Refused, Stuck}
-use Rattle.laris.specs.Fields.{holds, numberOr0, typeAt, componentsOf, externalsOf, portsOf}
-use Rattle.laris.specs.Types.{reactsTo, nameRange}
-use Rattle.laris.specs.Values.{isBelow, isZero, defaultOf, bindingOf, chartOf, firstCell}
-use Rattle.laris.specs.State.{places, cellAt, stateLength, wordOf, waiting, telegramOf, putWords, Changed, on, off, appended, withoutTelegram}
+use Rattle.laris.specs.Fields.{holds, numberOr0, declaredSo, typeAt, componentsOf, externalsOf, portsOf, elementsOf, inSection}
+use Rattle.laris.specs.Types.{reactsTo}
+use Rattle.laris.specs.Values.{isBelow, recordBy, isZero, defaultOf, hasDefault, bindingOf, chartOf, firstCell}
+use Rattle.laris.specs.State.{places, cellAt, stateLength, wordOf, waiting, telegramOf, putWords, Changed, on, off, lost, counted, appended, withoutTelegram}
 use Rattle.laris.specs.Valid.{dataFit, nameFits, datumOf, isInternal, contentFits}
 use Rattle.laris.specs.Eval.{sameWord}
-use Rattle.laris.specs.Run.{World, localsOf, telegram, runOf}
+use Rattle.laris.specs.Run.{World, withRecord, provided, localsOf, localsThere, telegram, runOf}
 use Rattle.laris.specs.Check.{checkOf}
 
 -- What a call comes to: an answer and what the result state then holds; or the machine is stuck.
@@ -62,20 +62,20 @@ reactsOn p n b = eqb (role b) externalReaction and eqb (reactionPort b) p and eq
 -- a body of element e runs, with data for its parameters: what is left of the limit, and the state
 unfoldable pub ranBody : List ℕ → ℕ → Found → List ℤ → List ℤ → World
 ranBody s e f zs st =
-    elim (bindingOf s e) [
-      | Absent ↦ record { ran = Stuck; st = st; lo = [] }
-      | Present b ↦ elim (chartOf s e) [
-        | Absent ↦ record { ran = Stuck; st = st; lo = [] }
-        | Present c ↦ elim f [
-          | Absent ↦ record { ran = Stuck; st = st; lo = [] }
-          | Present d ↦ runOf s 0 (record { element = e; chart = c; binding = b; body = d }) (root d) (limitOf s) st (localsOf s d zs)
-        ]
-      ]
-    ]
+    withRecord (bindingOf s e) st [] (λ b.
+    withRecord (chartOf s e) st [] (λ c.
+    withRecord f st [] (λ d.
+    provided (localsThere s d) st []
+    (runOf s 0 (record { element = e; chart = c; binding = b; body = d }) (root d) (limitOf s) st (localsOf s d zs)))))
 
 -- the body of element e's chart that meets a test
 unfoldable pub elementBody : List ℕ → ℕ → (Record → Bool) → Found
 elementBody s e p = elim (chartOf s e) [ Present c ↦ bodyWhere s c p | Absent ↦ Absent ]
+
+-- a body that runs without data has no parameters
+unfoldable pub alone : Found → Found
+alone (Present b) = elim (eqb (bodyParameters b .count) 0) [ true ↦ Present b | false ↦ Absent ]
+alone Absent = Absent
 
 -- an event's body: "6 to 10" leave a copy of the old state
 unfoldable pub eventEnd : List ℕ → List ℤ → Ran → List ℤ → Outcome
@@ -104,7 +104,18 @@ cellsFrom s zero e = []
 cellsFrom s (suc n) e = elementCells s e ++ cellsFrom s n (suc e)
 
 unfoldable pub defaultState : List ℕ → List ℤ
-defaultState s = replicate 8 (pos 0) ++ cellsFrom s (countOf s bindings) (externalsOf s) ++ replicate (8 * places) (pos 0)
+defaultState s = replicate 8 (pos 0) ++ cellsFrom s (elementsOf s) (externalsOf s) ++ replicate (8 * places) (pos 0)
+
+-- the head is there
+unfoldable pub hasHead : List ℕ → Bool
+hasHead s = holds (recordOf s head 0) (λ h. true)
+
+-- element e has its binding and chart, and its variables have defaults
+unfoldable pub elementThere : List ℕ → ℕ → Bool
+elementThere s e = holds (chartOf s e) (λ c. allBelow (chartVariables c .count) (λ j. hasDefault s (chartVariables c .first + j)))
+
+unfoldable pub elementsThere : List ℕ → Bool
+elementsThere s = hasHead s and allBelow (elementsOf s) (λ i. elementThere s (externalsOf s + i))
 
 -- a body of start ended after earlier ones took k steps; "after 6 to 10 its state is all zeros"
 unfoldable pub startNext : List ℕ → ℕ → Ran → List ℤ → (ℕ → List ℤ → Outcome) → Outcome
@@ -115,10 +126,10 @@ startNext s k Stuck st K = stuck
 -- n elements from e on
 unfoldable pub startFrom : List ℕ → ℕ → ℕ → ℕ → List ℤ → Outcome
 startFrom s zero e k st = ended (answer 0 k Nothing) st
-startFrom s (suc n) e k st = let w = ranBody s e (elementBody s e isInitial) [] st in startNext s k (w .ran) (w .st) (λ k st. startFrom s n (suc e) k st)
+startFrom s (suc n) e k st = let w = ranBody s e (alone (elementBody s e isInitial)) [] st in startNext s k (w .ran) (w .st) (λ k st. startFrom s n (suc e) k st)
 
 unfoldable pub started : List ℕ → Outcome
-started s = startFrom s (countOf s bindings) (externalsOf s) 0 (defaultState s)
+started s = elim (elementsThere s) [ true ↦ startFrom s (elementsOf s) (externalsOf s) 0 (defaultState s) | false ↦ stuck ]
 
 -- ---- telegrams that wait
 
@@ -138,17 +149,31 @@ innerOf r t = isInternal t and sameWord (t .receiver) r
 
 -- the telegram found is removed and taken on; "no such telegram waits": 5
 unfoldable pub taking : List ℕ → List ℤ → (Telegram → Bool) → (Telegram → List ℤ → Outcome) → Outcome
-taking s st p K = elim (ltb (oldest s st p) (waiting st)) [ true ↦ K (telegramOf s st (oldest s st p)) (withoutTelegram s st (oldest s st p)) | false ↦ ended (answer 5 0 Nothing) st ]
+taking s st p K = elim (counted st) [ true ↦ elim (ltb (oldest s st p) (waiting st)) [ true ↦ K (telegramOf s st (oldest s st p)) (withoutTelegram s st (oldest s st p)) | false ↦ ended (answer 5 0 Nothing) st ] | false ↦ stuck ]
 
--- the data that a telegram brings to a body with as many parameters of their types
+-- two declarations are there and are of one type
+unfoldable pub sameDeclared : List ℕ → ℕ → ℕ → Bool
+sameDeclared s d d′ = declaredSo s d (λ t. declaredSo s d′ (eqb t))
+
+-- the data that a telegram brings to a body: values of its name's types, as many as the body has parameters and of their types
 unfoldable pub brought : List ℕ → Telegram → Record → Bool
-brought s t b = eqb (nameRange s (natAbs (t .name)) .count) (bodyParameters b .count) and dataFit s (bodyParameters b) (datumOf t)
+brought s t b =
+    holds (recordBy s names (t .name)) (λ n.
+    eqb (dataOf n .count) (bodyParameters b .count)
+    and leb (dataOf n .count) 4
+    and allBelow (dataOf n .count) (λ j. sameDeclared s (dataOf n .first + j) (bodyParameters b .first + j))
+    and dataFit s (dataOf n) (datumOf t))
 
 unfoldable pub reacting : List ℕ → List ℤ → ℕ → Found → Telegram → List ℤ → Outcome
 reacting s old e f t st = elim (holds f (brought s t)) [ true ↦ bodyEvent s old e f (t .d0 ∷ t .d1 ∷ t .d2 ∷ t .d3 ∷ []) st | false ↦ stuck ]
 
 unfoldable pub panicking : List ℕ → List ℤ → ℕ → List ℤ → Outcome
-panicking s old e st = bodyEvent s old e (elementBody s e hasPanic) [] st
+panicking s old e st = bodyEvent s old e (alone (elementBody s e hasPanic)) [] st
+
+-- a word that has to be a number
+unfoldable pub withNumber : ℤ → (ℕ → Outcome) → Outcome
+withNumber (pos n) K = K n
+withNumber (negsuc n) K = stuck
 
 -- ---- the five kinds
 
@@ -156,20 +181,30 @@ panicking s old e st = bodyEvent s old e (elementBody s e hasPanic) [] st
 unfoldable pub changeEnd : List ℤ → Changed → Outcome
 changeEnd old (on st) = ended (answer 0 0 Nothing) st
 changeEnd old (off n) = ended (answer n 0 Nothing) old
+changeEnd old lost = stuck
 
 -- 1: "external s sends to bound r on port p external name n; appended"
 unfoldable pub outside : List ℕ → List ℤ → Telegram → Outcome
 outside s st t = changeEnd st (appended s st t)
 
--- 2: "If r is external it is handed outside. If bound, the reaction for its port and name runs, or without one the panic body."
+-- every body of element e's chart is there
+unfoldable pub bodiesThere : List ℕ → ℕ → Bool
+bodiesThere s e = holds (chartOf s e) (λ c. inSection s bodies (chartBodies c))
+
+-- a telegram for bound element e: "the reaction for its port and name runs, or without one the panic body"
+unfoldable pub received : List ℕ → List ℤ → Telegram → List ℤ → ℕ → ℕ → ℕ → Outcome
+received s old t st e p n =
+    elim (elementBody s e (reactsOn p n)) [
+      | Present b ↦ reacting s old e (Present b) t st
+      | Absent ↦ elim (bodiesThere s e) [ true ↦ panicking s old e st | false ↦ stuck ]
+    ]
+
+-- 2: "If r is external it is handed outside. If bound, .."
 unfoldable pub delivered : List ℕ → List ℤ → Telegram → List ℤ → Outcome
 delivered s old t st =
     elim (isBelow (t .receiver) (externalsOf s)) [
       | true ↦ ended (answer 0 0 (Outside t)) st
-      | false ↦ elim (elementBody s (natAbs (t .receiver)) (reactsOn (natAbs (t .port)) (natAbs (t .name)))) [
-        | Present b ↦ reacting s old (natAbs (t .receiver)) (Present b) t st
-        | Absent ↦ panicking s old (natAbs (t .receiver)) st
-      ]
+      | false ↦ withNumber (t .receiver) (λ e. withNumber (t .port) (λ p. withNumber (t .name) (λ n. received s old t st e p n)))
     ]
 
 unfoldable pub deliver : List ℕ → List ℤ → ℤ → ℤ → Outcome
@@ -177,25 +212,26 @@ deliver s st a r = taking s st (goesFrom a r) (delivered s st)
 
 -- 3: "as 2 with bound r, but the panic body runs"
 unfoldable pub corrupt : List ℕ → List ℤ → ℤ → ℤ → Outcome
-corrupt s st a r = taking s st (goesFrom a r) (λ t st′. panicking s st (natAbs r) st′)
+corrupt s st a r = taking s st (goesFrom a r) (λ t st′. withNumber r (λ e. panicking s st e st′))
 
 -- 4: "the oldest internal telegram of r is removed and its reaction runs"
 unfoldable pub inner : List ℕ → List ℤ → ℤ → Outcome
-inner s st r = taking s st (innerOf r) (λ t st′. reacting s st (natAbs r) (elementBody s (natAbs r) (reactsTo (natAbs (t .name)))) t st′)
+inner s st r = taking s st (innerOf r) (λ t st′. withNumber r (λ e. withNumber (t .name) (λ n. reacting s st e (elementBody s e (reactsTo n)) t st′)))
 
 -- 5: "clocks in state order, stopped ones passed over"
 
 unfoldable pub thenSlice : Changed → (List ℤ → Changed) → Changed
 thenSlice (on st) K = K st
 thenSlice (off n) K = off n
+thenSlice lost K = lost
 
 -- the telegram of a clock of element e
 abbrev pub clockTelegram : ℕ → List ℤ → ℕ → Telegram
 clockTelegram e st at = telegram (pos e) (pos e) (negsuc 0) (natAbs (wordOf st (at + 3))) (wordOf st (at + 4) ∷ wordOf st (at + 5) ∷ wordOf st (at + 6) ∷ wordOf st (at + 7) ∷ [])
 
--- it is appended, then the clock's words are set
+-- its name is there; it is appended, then the clock's words are set
 unfoldable pub fires : List ℕ → ℕ → ℕ → List ℤ → List ℤ → Changed
-fires s e at ws st = thenSlice (appended s st (clockTelegram e st at)) (λ st′. on (putWords st′ at ws))
+fires s e at ws st = elim (isBelow (wordOf st (at + 3)) (countOf s names)) [ true ↦ thenSlice (appended s st (clockTelegram e st at)) (λ st′. on (putWords st′ at ws)) | false ↦ lost ]
 
 -- "Timer: plus 1, or 6 at 2,147,483,647. Timeout: at 1 its telegram is appended and it stops, otherwise minus 1. Cycler: at 0 its telegram is appended and value becomes period − 1, otherwise minus 1."
 unfoldable pub ticks : List ℕ → ℕ → ℕ → ℕ → List ℤ → Changed
@@ -211,20 +247,24 @@ ticks s e t at st =
 unfoldable pub slicedCell : List ℕ → ℕ → ℕ → ℕ → List ℤ → Changed
 slicedCell s e t at st = elim (isClock t and not (isZero (wordOf st at))) [ true ↦ ticks s e t at st | false ↦ on st ]
 
+-- the variable of a declaration
+unfoldable pub slicedVariable : List ℕ → ℕ → ℕ → ℕ → List ℤ → Changed
+slicedVariable s e d at st = elim (recordOf s declarations d) [ Present r ↦ slicedCell s e (declaredType r) at st | Absent ↦ lost ]
+
 -- n variables of element e, of declaration d and cell i on
 unfoldable pub slicedCells : List ℕ → ℕ → ℕ → ℕ → ℕ → List ℤ → Changed
 slicedCells s e zero d i st = on st
-slicedCells s e (suc n) d i st = thenSlice (slicedCell s e (typeAt s d) (cellAt i) st) (slicedCells s e n (suc d) (suc i))
+slicedCells s e (suc n) d i st = thenSlice (slicedVariable s e d (cellAt i) st) (slicedCells s e n (suc d) (suc i))
 
 unfoldable pub slicedElement : List ℕ → ℕ → List ℤ → Changed
-slicedElement s e st = elim (chartOf s e) [ Present c ↦ slicedCells s e (chartVariables c .count) (chartVariables c .first) (firstCell s e) st | Absent ↦ on st ]
+slicedElement s e st = elim (chartOf s e) [ Present c ↦ slicedCells s e (chartVariables c .count) (chartVariables c .first) (firstCell s e) st | Absent ↦ lost ]
 
 unfoldable pub slicedFrom : List ℕ → ℕ → ℕ → List ℤ → Changed
 slicedFrom s zero e st = on st
 slicedFrom s (suc n) e st = thenSlice (slicedElement s e st) (slicedFrom s n (suc e))
 
 unfoldable pub slice : List ℕ → List ℤ → Outcome
-slice s st = changeEnd st (slicedFrom s (countOf s bindings) (externalsOf s) st)
+slice s st = changeEnd st (elim (hasHead s) [ true ↦ slicedFrom s (elementsOf s) (externalsOf s) st | false ↦ lost ])
 
 -- ---- events: "nine words: kind, s, r, p, n, four data"
 

@@ -10,22 +10,23 @@ use Rattle.sheet.specs.declared.Record.{Record}
 use Rattle.sheet.specs.declared.Range.{Range}
 use Rattle.sheet.specs.declared.Found.{Found}
 use Rattle.sheet.specs.declared.Found.the-variants.{Present, Absent}
-use Rattle.sheet.specs.All.{_and_}
+use Rattle.sheet.specs.All.{_and_, allBelow}
 use Rattle.sheet.specs.Names
 use Rattle.sheet.specs.Names.{names, nodes, dataOf, chartVariables, bodyParameters, bodyLocals, root, operator, Bool-type, Int-type, Component-type, Port-type, Timer-type, Timeout-type, isClock}
 use Rattle.sheet.specs.Sheet.{recordOf}
+use Rattle.laris.specs.declared.Value.{Value}
 use Rattle.laris.specs.declared.Out.{Out}
 use Rattle.laris.specs.declared.Out.the-variants as out
 use Rattle.laris.specs.declared.Ran.{Ran}
 use Rattle.laris.specs.declared.Ran.the-variants.{Done, Refused, Stuck}
 use Rattle.laris.specs.declared.Telegram.{Telegram}
-use Rattle.laris.specs.Fields.{fieldOf, typeAt}
+use Rattle.laris.specs.Fields.{isField, fieldOf, declaredSo, typeAt}
 use Rattle.laris.specs.Forms.{Form, literal, read, unary, binary, clock, skip, assign, externalSend, internalSend, arm, clockAct, call, choice, loop, sequence, unknown, formOf, calledBody}
 use Rattle.laris.specs.Shape.{variablesAt}
 use Rattle.laris.specs.Types.{variableAt, clockOf}
-use Rattle.laris.specs.Values.{isZero, defaultOf}
-use Rattle.laris.specs.State.{on, off, putWords, appended}
-use Rattle.laris.specs.Eval.{Context, variableAtCell, evalOf}
+use Rattle.laris.specs.Values.{isZero, defaultOf, hasDefault}
+use Rattle.laris.specs.State.{on, off, lost, putWords, appended}
+use Rattle.laris.specs.Eval.{Context, bodyWords, variableAtCell, evalOf}
 
 -- how a statement ended, and the state and the body's variables then
 pub record World : Type 0 where
@@ -46,11 +47,11 @@ goOn Stuck st lo K = world Stuck st lo
 abbrev pub thenRun : World → (ℕ → List ℤ → List ℤ → World) → World
 thenRun w K = goOn (w .ran) (w .st) (w .lo) K
 
--- a value of type t goes on
-unfoldable pub thenValue : Out → ℕ → List ℤ → List ℤ → (ℤ → ℕ → World) → World
-thenValue (out.Val x l) t st lo K = elim (eqb (x .kind) t) [ true ↦ K (x .word) l | false ↦ world Stuck st lo ]
-thenValue (out.Refused n l) t st lo K = world (Refused n l) st lo
-thenValue out.Stuck t st lo K = world Stuck st lo
+-- a value goes on; a refusal and stuck end the statement
+unfoldable pub thenOperand : Out → List ℤ → List ℤ → (Value → ℕ → World) → World
+thenOperand (out.Val v l) st lo K = K v l
+thenOperand (out.Refused n l) st lo K = world (Refused n l) st lo
+thenOperand out.Stuck st lo K = world Stuck st lo
 
 unfoldable pub withRecord : Found → List ℤ → List ℤ → (Record → World) → World
 withRecord (Present r) st lo K = K r
@@ -60,32 +61,42 @@ unfoldable pub provided : Bool → List ℤ → List ℤ → World → World
 provided true st lo w = w
 provided false st lo w = world Stuck st lo
 
--- ---- data: worked out in field order, each of its declared type
+-- ---- data: worked out "in field order", then held against declarations
 
-pub data Data : Type 0 where
-  given : List ℤ → ℕ → Data
-  refused : ℕ → ℕ → Data
-  stuck : Data
+-- the values, with the steps left
+pub data Values : Type 0 where
+  given : List Value → ℕ → Values
+  refused : ℕ → ℕ → Values
+  stuck : Values
 
-unfoldable pub before : ℤ → Data → Data
-before z (given zs l) = given (z ∷ zs) l
-before z (refused n l) = refused n l
-before z stuck = stuck
+unfoldable pub before : Value → Values → Values
+before v (given vs l) = given (v ∷ vs) l
+before v (refused n l) = refused n l
+before v stuck = stuck
 
-unfoldable pub nextDatum : Out → ℕ → (ℕ → Data) → Data
-nextDatum (out.Val x l) t K = elim (eqb (x .kind) t) [ true ↦ before (x .word) (K l) | false ↦ stuck ]
-nextDatum (out.Refused n l) t K = refused n l
-nextDatum out.Stuck t K = stuck
+unfoldable pub nextValue : Out → (ℕ → Values) → Values
+nextValue (out.Val v l) K = before v (K l)
+nextValue (out.Refused n l) K = refused n l
+nextValue out.Stuck K = stuck
 
--- n data of a node from number j on, for the declarations of a range
-unfoldable pub dataFrom : List ℕ → (ℕ → ℕ → Out) → Range → Record → ℕ → ℕ → ℕ → Data
-dataFrom s f g r zero j l = given [] l
-dataFrom s f g r (suc n) j l = nextDatum (f (fieldOf r (4 + j)) l) (typeAt s (g .first + j)) (λ l. dataFrom s f g r n (suc j) l)
+-- n data of a node from number j on; they stand in the fields from f4 on
+unfoldable pub valuesFrom : (ℕ → ℕ → Out) → Record → ℕ → ℕ → ℕ → Values
+valuesFrom f r zero j l = given [] l
+valuesFrom f r (suc n) j l = elim (isField (4 + j)) [ true ↦ nextValue (f (fieldOf r (4 + j)) l) (λ l. valuesFrom f r n (suc j) l) | false ↦ stuck ]
 
-unfoldable pub thenData : Data → List ℤ → List ℤ → (List ℤ → ℕ → World) → World
-thenData (given zs l) st lo K = K zs l
-thenData (refused n l) st lo K = world (Refused n l) st lo
-thenData stuck st lo K = world Stuck st lo
+unfoldable pub thenValues : Values → List ℤ → List ℤ → (List Value → ℕ → World) → World
+thenValues (given vs l) st lo K = K vs l
+thenValues (refused n l) st lo K = world (Refused n l) st lo
+thenValues stuck st lo K = world Stuck st lo
+
+-- the values are of the types of the declarations from number d on
+unfoldable pub areOf : List ℕ → ℕ → List Value → Bool
+areOf s d [] = true
+areOf s d (v ∷ vs) = declaredSo s d (eqb (v .kind)) and areOf s (suc d) vs
+
+unfoldable pub wordsIn : List Value → List ℤ
+wordsIn [] = []
+wordsIn (v ∷ vs) = v .word ∷ wordsIn vs
 
 abbrev pub datum : List ℤ → ℕ → ℤ
 datum zs j = getD zs j (pos 0)
@@ -93,7 +104,7 @@ datum zs j = getD zs j (pos 0)
 abbrev pub telegram : ℤ → ℤ → ℤ → ℕ → List ℤ → Telegram
 telegram sender receiver port name zs = record { sender = sender; receiver = receiver; port = port; name = pos name; d0 = datum zs 0; d1 = datum zs 1; d2 = datum zs 2; d3 = datum zs 3 }
 
--- ---- the body's variables: parameters from data, then "fresh default locals"; 16 words
+-- ---- the body's variables: parameters from data, then "fresh default locals", which have to be there
 
 unfoldable pub localAt : List ℕ → Record → List ℤ → ℕ → ℤ
 localAt s b zs i =
@@ -107,13 +118,16 @@ listFrom zero i f = []
 listFrom (suc n) i f = f i ∷ listFrom n (suc i) f
 
 unfoldable pub localsOf : List ℕ → Record → List ℤ → List ℤ
-localsOf s b zs = listFrom 16 0 (localAt s b zs)
+localsOf s b zs = listFrom bodyWords 0 (localAt s b zs)
+
+unfoldable pub localsThere : List ℕ → Record → Bool
+localsThere s b = allBelow (bodyLocals b .count) (λ j. hasDefault s (bodyLocals b .first + j))
 
 -- ---- acts
 
 -- "Sends append"
 unfoldable pub append : List ℕ → Telegram → ℕ → List ℤ → List ℤ → World
-append s t l st lo = elim (appended s st t) [ on st′ ↦ world (Done l) st′ lo | off n ↦ world (Refused n l) st lo ]
+append s t l st lo = elim (appended s st t) [ on st′ ↦ world (Done l) st′ lo | off n ↦ world (Refused n l) st lo | lost ↦ world Stuck st lo ]
 
 -- the words of an armed clock; "period below 1": 7. "Arming a Timeout sets its value to the period, a Cycler's to 0"
 unfoldable pub armed : ℕ → ℕ → ℤ → ℕ → List ℤ → ℕ → List ℤ → List ℤ → World
@@ -150,67 +164,78 @@ module _ (s : List ℕ) (x : Context) where
         | false ↦ elim (eqb place Names.bodyVariable) [ true ↦ world (Done l) st (set lo n z) | false ↦ world Stuck st lo ]
       ]
 
-  unfoldable pub assignOf : Record → ℕ → List ℤ → List ℤ → World
-  assignOf r l st lo = provided (ltb (r .f2) (variablesAt (x .chart) (x .body) (r .f1))) st lo (thenValue (evalOf s x st lo (r .f3) l) (typeAt s (variableAt (x .chart) (x .body) (r .f1) (r .f2))) st lo (λ z l. assigned (r .f1) (r .f2) z l st lo))
+  -- the body has variable n of a place, and it is of type t
+  unfoldable pub hasVariable : ℕ → ℕ → ℕ → Bool
+  hasVariable place n t =
+      ltb n (variablesAt (x .chart) (x .body) place)
+      and elim (eqb place Names.bodyVariable) [ true ↦ ltb n bodyWords | false ↦ true ]
+      and declaredSo s (variableAt (x .chart) (x .body) place n) (eqb t)
 
-  -- the data that a node hands to name f3
-  unfoldable pub nameDataOf : Record → Record → ℕ → List ℤ → List ℤ → Data
-  nameDataOf n r l st lo = dataFrom s (evalOf s x st lo) (dataOf n) r (dataOf n .count) 0 l
+  unfoldable pub assignOf : Record → ℕ → List ℤ → List ℤ → World
+  assignOf r l st lo =
+      thenOperand (evalOf s x st lo (r .f3) l) st lo (λ v l.
+      provided (hasVariable (r .f1) (r .f2) (v .kind)) st lo
+      (assigned (r .f1) (r .f2) (v .word) l st lo))
+
+  -- the data that a node hands to a name: as many as the name has
+  unfoldable pub nameValues : Record → Record → ℕ → List ℤ → List ℤ → Values
+  nameValues n r l st lo = valuesFrom (evalOf s x st lo) r (dataOf n .count) 0 l
 
   unfoldable pub externalSendOf : Record → ℕ → List ℤ → List ℤ → World
   externalSendOf r l st lo =
+      thenOperand (evalOf s x st lo (r .f1) l) st lo (λ receiver l.
+      thenOperand (evalOf s x st lo (r .f2) l) st lo (λ port l.
       withRecord (recordOf s names (r .f3)) st lo (λ n.
-      thenValue (evalOf s x st lo (r .f1) l) Component-type st lo (λ receiver l.
-      thenValue (evalOf s x st lo (r .f2) l) Port-type st lo (λ port l.
-      thenData (nameDataOf n r l st lo) st lo (λ zs l.
-      append s (telegram (pos (x .element)) receiver port (r .f3) zs) l st lo))))
+      thenValues (nameValues n r l st lo) st lo (λ vs l.
+      provided (eqb (receiver .kind) Component-type and eqb (port .kind) Port-type and areOf s (dataOf n .first) vs) st lo
+      (append s (telegram (pos (x .element)) (receiver .word) (port .word) (r .f3) (wordsIn vs)) l st lo)))))
 
   unfoldable pub internalSendOf : Record → ℕ → List ℤ → List ℤ → World
   internalSendOf r l st lo =
       withRecord (recordOf s names (r .f3)) st lo (λ n.
-      thenData (nameDataOf n r l st lo) st lo (λ zs l.
-      append s (telegram (pos (x .element)) (pos (x .element)) (negsuc 0) (r .f3) zs) l st lo))
+      thenValues (nameValues n r l st lo) st lo (λ vs l.
+      provided (areOf s (dataOf n .first) vs) st lo
+      (append s (telegram (pos (x .element)) (pos (x .element)) (negsuc 0) (r .f3) (wordsIn vs)) l st lo)))
 
-  -- the type of the element's variable n
-  abbrev pub cellType : ℕ → ℕ
-  cellType n = typeAt s (chartVariables (x .chart) .first + n)
+  -- variable n of the element's chart is there, and its type meets a test
+  unfoldable pub isVariable : ℕ → (ℕ → Bool) → Bool
+  isVariable n p = ltb n (chartVariables (x .chart) .count) and declaredSo s (chartVariables (x .chart) .first + n) p
 
-  abbrev pub isVariable : ℕ → Bool
-  isVariable n = ltb n (chartVariables (x .chart) .count)
-
+  -- 36 arms a Timeout, 37 a Cycler
   unfoldable pub armOf : Record → ℕ → List ℤ → List ℤ → World
   armOf r l st lo =
-      provided (isVariable (r .f1) and eqb (cellType (r .f1)) (clockOf (operator r))) st lo
-      (withRecord (recordOf s names (r .f3)) st lo (λ n.
-      thenValue (evalOf s x st lo (r .f2) l) Int-type st lo (λ period l.
-      thenData (nameDataOf n r l st lo) st lo (λ zs l.
-      armed (variableAtCell s x st lo (r .f1)) (cellType (r .f1)) period (r .f3) zs l st lo))))
+      thenOperand (evalOf s x st lo (r .f2) l) st lo (λ period l.
+      withRecord (recordOf s names (r .f3)) st lo (λ n.
+      thenValues (nameValues n r l st lo) st lo (λ vs l.
+      provided (isVariable (r .f1) (eqb (clockOf (operator r))) and eqb (period .kind) Int-type and areOf s (dataOf n .first) vs) st lo
+      (armed (variableAtCell s x st lo (r .f1)) (clockOf (operator r)) (period .word) (r .f3) (wordsIn vs) l st lo))))
 
   -- 38 start Timer, 39 stop any clock
   unfoldable pub clockActOf : Record → ℕ → List ℤ → List ℤ → World
   clockActOf r l st lo =
       elim (eqb (operator r) 38) [
-        | true ↦ provided (isVariable (r .f1) and eqb (cellType (r .f1)) Timer-type) st lo (clockSet (variableAtCell s x st lo (r .f1)) (pos 1) l st lo)
-        | false ↦ provided (isVariable (r .f1) and isClock (cellType (r .f1))) st lo (clockSet (variableAtCell s x st lo (r .f1)) (pos 0) l st lo)
+        | true ↦ provided (isVariable (r .f1) (eqb Timer-type)) st lo (clockSet (variableAtCell s x st lo (r .f1)) (pos 1) l st lo)
+        | false ↦ provided (isVariable (r .f1) isClock) st lo (clockSet (variableAtCell s x st lo (r .f1)) (pos 0) l st lo)
       ]
 
   -- "a 17th open call": 9. The called body has variables of its own
   unfoldable pub entered : Runs → ℕ → Record → List ℤ → ℕ → List ℤ → List ℤ → World
   entered f depth b zs l st lo =
       elim (ltb depth openCalls) [
-        | true ↦ (let w = f (depth + 1) (inBody x b) (root b) l st (localsOf s b zs) in world (w .ran) (w .st) lo)
+        | true ↦ provided (localsThere s b) st lo (let w = f (depth + 1) (inBody x b) (root b) l st (localsOf s b zs) in world (w .ran) (w .st) lo)
         | false ↦ world (Refused 9 l) st lo
       ]
 
   unfoldable pub callOf : Runs → ℕ → Record → ℕ → List ℤ → List ℤ → World
   callOf f depth r l st lo =
       withRecord (calledBody s (x .chart) r) st lo (λ b.
-      thenData (dataFrom s (evalOf s x st lo) (bodyParameters b) r (bodyParameters b .count) 0 l) st lo (λ zs l.
-      entered f depth b zs l st lo))
+      thenValues (valuesFrom (evalOf s x st lo) r (bodyParameters b .count) 0 l) st lo (λ vs l.
+      provided (areOf s (bodyParameters b .first) vs) st lo
+      (entered f depth b (wordsIn vs) l st lo)))
 
   -- a condition, and what follows if it holds or not
   unfoldable pub choiceOf : ℕ → ℕ → List ℤ → List ℤ → (ℕ → World) → (ℕ → World) → World
-  choiceOf n l st lo K L = thenValue (evalOf s x st lo n l) Bool-type st lo (λ z l. elim (isZero z) [ true ↦ L l | false ↦ K l ])
+  choiceOf n l st lo K L = thenOperand (evalOf s x st lo n l) st lo (λ v l. provided (eqb (v .kind) Bool-type) st lo (elim (isZero (v .word)) [ true ↦ L l | false ↦ K l ]))
 
   unfoldable pub runIn : Runs → ℕ → ℕ → Record → ℕ → List ℤ → List ℤ → Form → World
   runIn f depth n r l st lo literal = world Stuck st lo

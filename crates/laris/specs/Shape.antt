@@ -8,7 +8,7 @@ use Rattle.sheet.specs.All.{_and_, allBelow}
 use Rattle.sheet.specs.Names
 use Rattle.sheet.specs.Names.{head, enumeratedTypes, declarations, names, charts, bodies, nodes, bindings, components, externals, ports, size, defaultMember, declaredType, dataOf, class, chartParameters, chartVariables, chartBodies, role, externalReaction, internalReaction, procedure, reactionPort, reactionName, bodyParameters, bodyLocals, root, boundChart, operator, isLiteral}
 use Rattle.sheet.specs.Sheet.{countOf, recordOf}
-use Rattle.laris.specs.Fields.{fieldOf, zeroFrom, holds, numberOr0, sumBelow, componentsOf, externalsOf, portsOf, inSection}
+use Rattle.laris.specs.Fields.{fieldOf, zeroFrom, holds, numberOr0, sumBelow, componentsOf, externalsOf, portsOf, elementsOf, inSection}
 use Rattle.laris.specs.Forms.{Form, literal, read, unary, binary, clock, skip, assign, externalSend, internalSend, arm, clockAct, call, choice, loop, sequence, unknown, formOf, callData, operandsOf, operandCount, operandAt}
 
 -- a number of a record of section k
@@ -165,7 +165,7 @@ unfoldable pub variablesBound : List ℕ → ℕ → ℕ
 variablesBound s i = numberOr0 (recordOf s bindings i) (λ b. numberOr0 (recordOf s charts (boundChart b)) (λ c. chartVariables c .count))
 
 unfoldable pub variablesOf : List ℕ → ℕ
-variablesOf s = sumBelow (countOf s bindings) (variablesBound s)
+variablesOf s = sumBelow (elementsOf s) (variablesBound s)
 
 -- ---- every record of every section. Nodes are judged in the tree that they stand in
 

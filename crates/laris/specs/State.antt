@@ -1,12 +1,13 @@
 -- The state's words: head, a cell for each variable, 128 places for telegrams.
 use Prim.Native.Nat.{ℕ, _+_, _*_, _-_}
 use mathlib.Core.List.{List, [], _∷_, _++_}
-use mathlib.Core.Bool.{true, false}
+use mathlib.Core.Bool.{Bool, true, false}
 use lib.ListN.{length, getD, take, drop, set, replicate}
 use lib.Dec.{ltb}
 use lib.IntN.{ℤ, pos, natAbs}
 use Rattle.laris.specs.declared.Telegram.{Telegram}
 use Rattle.laris.specs.Shape.{variablesOf}
+use Rattle.laris.specs.Values.{isBelow}
 
 -- ---- where things lie: "8 head words ..; 8 words per variable ..; 128 telegram places of 8 words"
 
@@ -53,14 +54,19 @@ putWords st at ws = take at st ++ ws ++ drop (at + length ws) st
 unfoldable pub withTelegram : List ℕ → List ℤ → Telegram → List ℤ
 withTelegram s st t = setWaiting (putWords st (placeAt s (waiting st)) (wordsOf t)) (waiting st + 1)
 
--- what a change of the state comes to: the new state, or the number of its refusal
+-- what a change of the state comes to: the new state, or the number of its refusal; or the machine is stuck
 pub data Changed : Type 0 where
   on : List ℤ → Changed
   off : ℕ → Changed
+  lost : Changed
+
+-- the state's first word is a number of telegrams that can wait
+abbrev pub counted : List ℤ → Bool
+counted st = isBelow (wordOf st 0) (places + 1)
 
 -- "128 telegrams wait and one more is appended": 8. Sends, Outside and slices all append by this
 unfoldable pub appended : List ℕ → List ℤ → Telegram → Changed
-appended s st t = elim (ltb (waiting st) places) [ true ↦ on (withTelegram s st t) | false ↦ off 8 ]
+appended s st t = elim (counted st) [ true ↦ elim (ltb (waiting st) places) [ true ↦ on (withTelegram s st t) | false ↦ off 8 ] | false ↦ lost ]
 
 -- telegram j "is removed, later ones close up"; "unused ones zero"
 unfoldable pub withoutTelegram : List ℕ → List ℤ → ℕ → List ℤ

@@ -9,13 +9,13 @@ use lib.IntN.{ℤ, pos, negsuc, natAbs}
 use lib.Signed.{leZ, ltZ}
 use Rattle.sheet.specs.declared.Range.{Range}
 use Rattle.sheet.specs.All.{_and_, allBelow}
-use Rattle.sheet.specs.Names.{names, bindings, external, internal, chartVariables, Timer-type, Timeout-type, isClock}
+use Rattle.sheet.specs.Names.{names, external, internal, chartVariables, Timer-type, Timeout-type, isClock}
 use Rattle.sheet.specs.Sheet.{countOf}
 use Rattle.laris.specs.declared.Telegram.{Telegram}
-use Rattle.laris.specs.Fields.{holds, typeAt, componentsOf, externalsOf, portsOf}
+use Rattle.laris.specs.Fields.{holds, typeAt, componentsOf, externalsOf, portsOf, elementsOf}
 use Rattle.laris.specs.Types.{hasClass, hasReaction, nameRange}
 use Rattle.laris.specs.Values.{fits32, isBelow, isZero, inType, isBound, chartOf, firstCell}
-use Rattle.laris.specs.State.{places, cellAt, placeAt, stateLength, wordOf, waiting, telegramOf}
+use Rattle.laris.specs.State.{places, cellAt, placeAt, stateLength, wordOf, waiting, counted, telegramOf}
 
 -- ---- data: "Surplus data are zero." "Data, also a clock's, fit their name's types"
 
@@ -82,10 +82,10 @@ telegramFits s t = isBelow (t .sender) (componentsOf s) and isBelow (t .receiver
 -- ---- the whole state
 
 unfoldable pub headFits : List ℤ → Bool
-headFits st = isBelow (wordOf st 0) (places + 1) and zeroWords st 0 1
+headFits st = counted st and zeroWords st 0 1
 
 unfoldable pub cellsFit : List ℕ → List ℤ → Bool
-cellsFit s st = allBelow (countOf s bindings) (λ i. elementFits s st (externalsOf s + i))
+cellsFit s st = allBelow (elementsOf s) (λ i. elementFits s st (externalsOf s + i))
 
 unfoldable pub waitingFit : List ℕ → List ℤ → Bool
 waitingFit s st = allBelow (waiting st) (λ j. telegramFits s (telegramOf s st j))

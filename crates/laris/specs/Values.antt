@@ -7,10 +7,10 @@ use lib.IntN.{ℤ, pos, negsuc}
 use lib.Signed.{mag}
 use Rattle.sheet.specs.declared.Found.{Found}
 use Rattle.sheet.specs.declared.Found.the-variants.{Present, Absent}
-use Rattle.sheet.specs.Names.{enumeratedTypes, charts, bindings, size, defaultMember, boundChart, Bool-type, Int-type, Component-type, Port-type}
+use Rattle.sheet.specs.Names.{enumeratedTypes, charts, bindings, size, defaultMember, boundChart, Bool-type, Int-type, Component-type, Port-type, isClock}
 use Rattle.sheet.specs.All.{_and_}
 use Rattle.sheet.specs.Sheet.{recordOf}
-use Rattle.laris.specs.Fields.{numberOr0, sumBelow, componentsOf, externalsOf, portsOf}
+use Rattle.laris.specs.Fields.{numberOr0, declaredSo, sumBelow, componentsOf, externalsOf, portsOf}
 use Rattle.laris.specs.Shape.{variablesBound}
 
 -- ---- words: 32-bit signed numbers
@@ -23,6 +23,11 @@ fits32 z = ltb (mag z) 2147483648
 unfoldable pub isBelow : ℤ → ℕ → Bool
 isBelow (pos k) n = ltb k n
 isBelow (negsuc k) n = false
+
+-- a word that is a number, and which record of a section it names: none where it is negative
+unfoldable pub recordBy : List ℕ → ℕ → ℤ → Found
+recordBy s k (pos n) = recordOf s k n
+recordBy s k (negsuc n) = Absent
 
 unfoldable pub isZero : ℤ → Bool
 isZero (pos k) = eqb k 0
@@ -51,6 +56,10 @@ inType s t z =
 -- "Defaults: false, 0, Log, log, the declared member, a stopped clock": 0 but for an enumerated type
 unfoldable pub defaultOf : List ℕ → ℕ → ℤ
 defaultOf s t = elim (leb 8 t) [ true ↦ pos (numberOr0 (recordOf s enumeratedTypes (t - 8)) defaultMember) | false ↦ pos 0 ]
+
+-- the declaration is there and its default is in its type, or it is a clock
+unfoldable pub hasDefault : List ℕ → ℕ → Bool
+hasDefault s d = declaredSo s d (λ t. elim (isClock t) [ true ↦ true | false ↦ inType s t (defaultOf s t) ])
 
 -- ---- bound elements: the components from the head's f1 on
 
