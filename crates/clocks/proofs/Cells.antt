@@ -8,14 +8,15 @@ use native.Mathlib.Decide.{decLt}
 use lib.Dec.{leb, eqb}
 use lib.IntN.{ℤ, pos, negsuc}
 use lib.Signed.{leZ, ltZ}
-use borrow.Author.Tests.{ltb-true, le-leb, lt-leb}
-use Rattle.sheet.specs.Names.{Timer-type, Timeout-type, isClock}
+use borrow.Author.Tests.{ltb-true, le-leb, lt-leb, ne-eqb}
+use Rattle.sheet.specs.Names.{names, Timer-type, Timeout-type, isClock}
+use Rattle.sheet.specs.Sheet.{countOf}
 use Rattle.sheet.proofs.All.{and-true, and-first, and-second, false-and, and-false, all-at}
 use Rattle.laris.specs.Values.{isBelow, isZero}
 use Rattle.laris.specs.State.{cellAt, placeAt, stateLength, wordOf, on}
-use Rattle.laris.specs.Valid.{nameFits, zeroWords, runningClock}
+use Rattle.laris.specs.Valid.{zeroWords, runningClock}
 use Rattle.laris.specs.Play.{ticks, slicedCell}
-use Rattle.states.proofs.Clocks.{running, running-below, timer-runs, timeout-runs, cycler-runs}
+use Rattle.states.proofs.Clocks.{running, running-below, timer-runs, timeout-runs, cycler-runs, clock-named}
 use Rattle.ticks.specs.Running.{Running}
 use Rattle.clocks.specs.Cells.{Cell}
 
@@ -83,8 +84,7 @@ module _ (s : List ℕ) (e t : ℕ) (st : List ℤ) (at : ℕ) (h : runningClock
   timer-zero q k l = all-at 6 _ (and-second _ _ (and-second _ _ (and-second _ _ (rw (runningClock, q) at h)))) k l
 
   name-below : eqb t Timer-type ≡ false → leZ (pos 0) (wordOf st (at + 3)) ≡ true
-  unfolding runningClock nameFits
-  name-below n = below-from (wordOf st (at + 3)) _ (and-first _ _ (and-first _ _ (and-second _ _ (and-second _ _ (and-second _ _ (rw (runningClock, n) at h))))))
+  name-below n = below-from (wordOf st (at + 3)) (countOf s names) (clock-named s e t st at h n)
 
   words-from : (leZ (pos 0) (wordOf st (at + 1)) ≡ true) × (leZ (pos 0) (wordOf st (at + 2)) ≡ true) × (leZ (pos 0) (wordOf st (at + 3)) ≡ true)
   words-from = go (eqb t Timer-type) (eqb t Timeout-type) refl refl
@@ -96,6 +96,13 @@ module _ (s : List ℕ) (e t : ℕ) (st : List ℤ) (at : ℕ) (h : runningClock
           (timer-runs s e t st at h p, zero-from (wordOf st (at + 2)) (rw f at (timer-zero p 0 (omega arith))), zero-from (wordOf st (at + 3)) (rw g at (timer-zero p 1 (omega arith))))
       go false true p q = let w = timeout-runs s e t st at h p q in (one-from (wordOf st (at + 1)) (and-first _ _ w), above-from 1 (wordOf st (at + 1)) (wordOf st (at + 2)) (and-first _ _ w) (and-second _ _ w), name-below p)
       go false false p q = let w = cycler-runs s e t st at h p q in (and-first _ _ w, beyond-from 0 (wordOf st (at + 1)) (wordOf st (at + 2)) (and-first _ _ w) (and-second _ _ w), name-below p)
+
+-- a type read as 5 or 6
+pub not-timer : (k x : ℕ) {t : ℕ} → x ≡ t → x ≡ k → 5 ≤ k → eqb t Timer-type ≡ false
+not-timer k x e f l = ap (λ (u : ℕ). eqb u Timer-type) (sym e ∙ f) ∙ ne-eqb k 4 (λ q. omega arith)
+
+pub cell-named : (s : List ℕ) (e t : ℕ) (st : List ℤ) (i : ℕ) → Cell s e t st i → isClock t ≡ true → eqb t Timer-type ≡ false → isZero (wordOf st (cellAt i)) ≡ false → isBelow (wordOf st (cellAt i + 3)) (countOf s names) ≡ true
+cell-named s e t st i c clock named n = clock-named s e t st (cellAt i) (running s e t st (cellAt i) (c .fits) clock n) named
 
 pub cell-runs : (s : List ℕ) (e t : ℕ) (st : List ℤ) (i : ℕ) → Cell s e t st i → isClock t ≡ true → isZero (wordOf st (cellAt i)) ≡ false → Running st (cellAt i)
 unfolding cellAt stateLength placeAt

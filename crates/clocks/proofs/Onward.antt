@@ -9,22 +9,27 @@ use lib.Dec.{eqb}
 use lib.IntN.{ℤ, pos, _+ℤ_, _-ℤ_}
 use borrow.Author.Tests.{lt-ltb}
 use Rattle.sheet.specs.declared.Record.{Record}
-use Rattle.sheet.specs.declared.Found.the-variants.{Present}
+use Rattle.sheet.specs.declared.Found.{Found}
+use Rattle.sheet.specs.declared.Found.the-variants.{Present, Absent}
 use Rattle.sheet.specs.All.{_and_}
-use Rattle.sheet.specs.Names.{chartVariables, Timer-type, Timeout-type, isClock}
+use Rattle.sheet.specs.Names.{declarations, names, declaredType, chartVariables, Timer-type, Timeout-type, isClock}
+use Rattle.sheet.specs.Sheet.{countOf, recordOf}
 use Rattle.laris.proofs.Appending.{appending}
+use Rattle.laris.specs.declared.Checked.the-variants.{Passed}
 use Rattle.laris.specs.declared.Telegram.{Telegram}
 use Rattle.laris.specs.Fields.{sumBelow, typeAt, externalsOf}
 use Rattle.laris.specs.Shape.{variablesBound, variablesOf}
 use Rattle.laris.specs.Values.{isBelow, isZero, chartOf, firstCell}
-use Rattle.laris.specs.State.{cellAt, placeAt, stateLength, wordOf, waiting, putWords, withTelegram, Changed, on, off}
-use Rattle.laris.specs.Valid.{cellFits, headFits, OfSheet}
+use Rattle.laris.specs.State.{cellAt, placeAt, stateLength, wordOf, waiting, putWords, withTelegram, Changed, on, off, lost, appended}
+use Rattle.laris.specs.Valid.{cellFits, OfSheet}
+use Rattle.laris.specs.Check.{checkOf}
 use Rattle.laris.specs.Eval.{sameWord}
-use Rattle.laris.specs.Play.{thenSlice, clockTelegram, fires, ticks, slicedCell, slicedCells, slicedElement, slicedFrom}
-use Rattle.sheet.proofs.All.{and-first}
+use Rattle.laris.specs.Play.{thenSlice, clockTelegram, fires, ticks, slicedCell, slicedVariable, slicedCells, slicedElement, slicedFrom}
+use Rattle.passed.proofs.Declared.{element-declared}
 use Rattle.states.proofs.Words.{word-set-other, length-put, word-put-before, word-put-behind, with-length, with-head, with-before}
 use Rattle.states.proofs.Frame.{cell-same}
-use Rattle.states.proofs.Parts.{cell-of}
+use Rattle.states.proofs.Parts.{is-counted, cell-of}
+use Rattle.states.proofs.Ticks.{sliced-variable}
 use Rattle.clocks.specs.Cells.{Cell, Cells}
 
 -- as long as the sheet's states, at most 128 waiting, and from a word on up to the places as before
@@ -36,6 +41,7 @@ pub record After (s : List ℕ) (from : ℕ) (old st : List ℤ) : Type 0 where
 abbrev pub Onward : List ℕ → ℕ → List ℤ → Changed → Type 0
 Onward s from old (on st) = After s from old st
 Onward s from old (off n) = Unit {0}
+Onward s from old lost = Unit {0}
 
 module _ (s : List ℕ) where
   pub after-none : (from : ℕ) (st : List ℤ) → length st ≡ stateLength s → isBelow (wordOf st 0) 129 ≡ true → After s from st st
@@ -67,15 +73,23 @@ module _ (s : List ℕ) where
     abbrev t : Telegram
     t = clockTelegram e st at
 
-    fires-onward : (ws : List ℤ) → length ws ≤ 8 → Onward s (at + 8) st (fires s e at ws st)
-    unfolding fires thenSlice placeAt isBelow
-    fires-onward ws n = appending s st t (λ r. Onward s (at + 8) st (thenSlice r (λ st′. on (putWords st′ at ws))))
+    fired-onward : (ws : List ℤ) → length ws ≤ 8 → Onward s (at + 8) st (thenSlice (appended s st t) (λ st′. on (putWords st′ at ws)))
+    unfolding thenSlice placeAt isBelow
+    fired-onward ws n = appending s st t head (λ r. Onward s (at + 8) st (thenSlice r (λ st′. on (putWords st′ at ws))))
         (λ room.
         let long : length (withTelegram s st t) ≡ stateLength s = with-length s st t whole room ∙ whole in
         let first : isBelow (wordOf (withTelegram s st t) 0) 129 ≡ true = ap (λ (w : ℤ). isBelow w 129) (with-head s st t whole room) ∙ lt-ltb (waiting st + 1) 129 (omega arith) in
         let sent : After s (at + 8) st (withTelegram s st t) = record { whole = long; head = first; later = λ k l m. with-before s st t whole room k (omega arith) (omega arith) } in
         after-more (at + 8) (at + 8) st (withTelegram s st t) (putWords (withTelegram s st t) at ws) (omega arith) sent (put-onward (withTelegram s st t) at long first behind inside ws n))
         tt
+
+    fires-onward : (ws : List ℤ) → length ws ≤ 8 → Onward s (at + 8) st (fires s e at ws st)
+    unfolding fires
+    fires-onward ws n = go (isBelow (wordOf st (at + 3)) (countOf s names))
+      where
+        go : (b : Bool) → Onward s (at + 8) st (elim b as (λ b. Changed) [ true ↦ thenSlice (appended s st t) (λ st′. on (putWords st′ at ws)) | false ↦ lost ])
+        go true = fired-onward ws n
+        go false = tt
 
     ticks-onward : (t : ℕ) → Onward s (at + 8) st (ticks s e t at st)
     unfolding ticks
@@ -120,11 +134,21 @@ module _ (s : List ℕ) where
   onward-more : (from from′ : ℕ) (a b : List ℤ) (r : Changed) → from ≤ from′ → After s from a b → Onward s from′ b r → Onward s from′ a r
   onward-more from from′ a b (on c) l h k = after-more from from′ a b c l h k
   onward-more from from′ a b (off n) l h k = tt
+  onward-more from from′ a b lost l h k = tt
 
   then-onward : (from from′ : ℕ) (st : List ℤ) (r : Changed) (K : List ℤ → Changed) → from ≤ from′ → Onward s from st r → ((st′ : List ℤ) → After s from st st′ → Onward s from′ st′ (K st′)) → Onward s from′ st (thenSlice r K)
   unfolding thenSlice
   then-onward from from′ st (on st′) K l h k = onward-more from from′ st st′ (K st′) l h (k st′ h)
   then-onward from from′ st (off n) K l h k = tt
+  then-onward from from′ st lost K l h k = tt
+
+  variable-onward : (e d i : ℕ) (st : List ℤ) → length st ≡ stateLength s → isBelow (wordOf st 0) 129 ≡ true → i < variablesOf s → Onward s (cellAt i + 8) st (slicedVariable s e d (cellAt i) st)
+  unfolding slicedVariable cellAt placeAt
+  variable-onward e d i st w h l = go (recordOf s declarations d)
+    where
+      go : (f : Found) → Onward s (cellAt i + 8) st (elim f as (λ f. Changed) [ Present r ↦ slicedCell s e (declaredType r) (cellAt i) st | Absent ↦ lost ])
+      go (Present r) = cell-onward st e (cellAt i) w h (omega arith) (omega arith) (declaredType r)
+      go Absent = tt
 
   cells-onward : (e n d i : ℕ) (st : List ℤ) → length st ≡ stateLength s → isBelow (wordOf st 0) 129 ≡ true → i + n ≤ variablesOf s → Onward s (cellAt (i + n)) st (slicedCells s e n d i st)
   unfolding slicedCells cellAt placeAt
@@ -132,8 +156,8 @@ module _ (s : List ℕ) where
   cells-onward e (suc n) d i st w h l =
       let f : cellAt i + 8 ≡ cellAt (i + 1) = omega arith in
       let g : suc i + n ≡ i + suc n = omega arith in
-      then-onward (cellAt (i + 1)) (cellAt (i + suc n)) st (slicedCell s e (typeAt s d) (cellAt i) st) (slicedCells s e n (suc d) (suc i)) (omega arith)
-      (rw f at (cell-onward st e (cellAt i) w h (omega arith) (omega arith) (typeAt s d)))
+      then-onward (cellAt (i + 1)) (cellAt (i + suc n)) st (slicedVariable s e d (cellAt i) st) (slicedCells s e n (suc d) (suc i)) (omega arith)
+      (rw f at (variable-onward e d i st w h (omega arith)))
       (λ st′ a. rw g at (cells-onward e n (suc d) (suc i) st′ (a .whole) (a .head) (omega arith)))
 
   pub cells-after : (e n d i : ℕ) (st st′ : List ℤ) → length st ≡ stateLength s → isBelow (wordOf st 0) 129 ≡ true → i + n ≤ variablesOf s → slicedCells s e n d i st ≡ on st′ → After s (cellAt (i + n)) st st′
@@ -144,16 +168,16 @@ module _ (s : List ℕ) where
 
   -- ---- the pass over an element's variables
 
-  cells-next : (e n m d i : ℕ) (st : List ℤ) → m ≡ suc n → slicedCells s e m d i st ≡ thenSlice (slicedCell s e (typeAt s d) (cellAt i) st) (slicedCells s e n (suc d) (suc i))
+  cells-next : (e n m d i : ℕ) (st : List ℤ) → m ≡ suc n → slicedCells s e m d i st ≡ thenSlice (slicedVariable s e d (cellAt i) st) (slicedCells s e n (suc d) (suc i))
   unfolding slicedCells
   cells-next e n m d i st q = rw q refl
 
-  pub cells-here : (e n j d i : ℕ) (st : List ℤ) → j < n → slicedCells s e (n - j) (d + j) (i + j) st ≡ thenSlice (slicedCell s e (typeAt s (d + j)) (cellAt (i + j)) st) (slicedCells s e (n - (j + 1)) (d + (j + 1)) (i + (j + 1)))
-  cells-here e n j d i st l =
+  pub cells-here : (e n j d i : ℕ) (st : List ℤ) → j < n → d + j < countOf s declarations → slicedCells s e (n - j) (d + j) (i + j) st ≡ thenSlice (slicedCell s e (typeAt s (d + j)) (cellAt (i + j)) st) (slicedCells s e (n - (j + 1)) (d + (j + 1)) (i + (j + 1)))
+  cells-here e n j d i st l m =
       let q : n - j ≡ suc (n - (j + 1)) = omega arith in
       let a : suc (d + j) ≡ d + (j + 1) = omega arith in
       let b : suc (i + j) ≡ i + (j + 1) = omega arith in
-      rw (a, b) at (cells-next e (n - (j + 1)) (n - j) (d + j) (i + j) st q)
+      (rw (a, b) at (cells-next e (n - (j + 1)) (n - j) (d + j) (i + j) st q)) ∙ ap (λ (r : Changed). thenSlice r (slicedCells s e (n - (j + 1)) (d + (j + 1)) (i + (j + 1)))) (sliced-variable s e (d + j) (cellAt (i + j)) st m)
 
   pub cells-none : (e n j d i : ℕ) (st : List ℤ) → n ≤ j → slicedCells s e (n - j) d i st ≡ on st
   unfolding slicedCells
@@ -194,8 +218,7 @@ module _ (s : List ℕ) where
   from-first n e st = let q : n - 0 ≡ n = omega arith in let a : e + 0 ≡ e = omega arith in rw (q, a) refl
 
   pub after-first : (st : List ℤ) → OfSheet s st → After s (cellAt 0) st st
-  unfolding headFits
-  after-first st o = after-none s (cellAt 0) st (o .whole) (and-first _ _ (o .head))
+  after-first st o = after-none s (cellAt 0) st (o .whole) (is-counted s st o)
 
   pub first-number : (i cell : ℕ) → cell ≡ sumBelow i (variablesBound s) → firstCell s (externalsOf s + i) ≡ cell
   unfolding firstCell
@@ -212,12 +235,13 @@ module _ (s : List ℕ) where
         (rw a at (from-next (n - (i + 1)) (n - i) (externalsOf s + i) st f)) ∙ ap (λ (r : Changed). thenSlice r (slicedFrom s (n - (i + 1)) (externalsOf s + (i + 1)))) own
 
     -- its cells hold what they held
-    pub element-now : (old st : List ℤ) → OfSheet s old → cell + chartVariables c .count ≤ variablesOf s → After s (cellAt cell) old st → Cells s (x + i) c st cell
+    pub element-now : checkOf s ≡ Passed → (old st : List ℤ) → OfSheet s old → cell + chartVariables c .count ≤ variablesOf s → After s (cellAt cell) old st → Cells s (x + i) c st cell
     unfolding cellAt
-    element-now old st o l a = rw head (record {
+    element-now ok old st o l a = rw head (record {
       whole = a .whole;
       head = a .head;
       inside = l;
+      declared = element-declared s ok (externalsOf s + i) c p;
       fits = λ j m. same-fits s (externalsOf s + i) _ (cell + j) old st (omega arith) (record { whole = a .whole; head = a .head; later = λ k n b. a .later k (omega arith) b }) (rw (first-number i cell q) at (cell-of s old o (externalsOf s + i) c p j m));
     })
 

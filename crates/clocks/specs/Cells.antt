@@ -6,7 +6,8 @@ use mathlib.Core.Bool.{true}
 use lib.ListN.{length}
 use lib.IntN.{ℤ}
 use Rattle.sheet.specs.declared.Record.{Record}
-use Rattle.sheet.specs.Names.{chartVariables}
+use Rattle.sheet.specs.Names.{declarations, chartVariables}
+use Rattle.sheet.specs.Sheet.{countOf}
 use Rattle.laris.specs.Fields.{typeAt}
 use Rattle.laris.specs.Shape.{variablesOf}
 use Rattle.laris.specs.Values.{isBelow}
@@ -20,9 +21,10 @@ pub record Cell (s : List ℕ) (e t : ℕ) (st : List ℤ) (i : ℕ) : Type 0 wh
   pub inside : i < variablesOf s
   pub fits : cellFits s e t st (cellAt i) ≡ true
 
--- .. and all cells of an element with chart c, from cell i on
+-- .. and all cells of an element with chart c, from cell i on; its variables are declared
 pub record Cells (s : List ℕ) (e : ℕ) (c : Record) (st : List ℤ) (i : ℕ) : Type 0 where
   pub whole : length st ≡ stateLength s
   pub head : isBelow (wordOf st 0) 129 ≡ true
   pub inside : i + chartVariables c .count ≤ variablesOf s
+  pub declared : (j : ℕ) → j < chartVariables c .count → chartVariables c .first + j < countOf s declarations
   pub fits : (j : ℕ) → j < chartVariables c .count → cellFits s e (typeAt s (chartVariables c .first + j)) st (cellAt (i + j)) ≡ true

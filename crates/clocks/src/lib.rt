@@ -78,7 +78,7 @@ pub fn slice(sheet: &[u8], directory: &[usize; 16], st: &mut [i32]) -> u8
     let mut i: usize = 0;
     while i < count {
         let Found::Present(c) = defaults::chart_bound(sheet, directory, i) else {
-            return 0;
+            return 4;
         };
         let n = slice_cells(sheet, directory, st, first + i, c, cell);
         if n != 0 {

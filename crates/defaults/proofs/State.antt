@@ -8,22 +8,21 @@ use native.Mathlib.Numerals.{add-one}
 use lib.ListN.{length, set, replicate, length-append, replicate-append-replicate}
 use lib.Seq.{set-append-seam}
 use lib.IntN.{ℤ, pos}
-use borrow.Author.Tests.{lt-ltb, le-leb}
 use Rattle.sheet.specs.declared.Record.{Record}
 use Rattle.sheet.specs.declared.Found.the-variants.{Present, Absent}
 use Rattle.sheet.specs.Names.{bindings, chartVariables}
 use Rattle.sheet.specs.Sheet.{countOf}
-use Rattle.sheet.proofs.All.{true-false, and-true}
+use Rattle.sheet.proofs.All.{true-false}
 use Rattle.laris.specs.declared.Checked.the-variants.{Passed}
-use Rattle.laris.specs.Fields.{sumBelow, typeAt, externalsOf, componentsOf}
+use Rattle.laris.specs.Fields.{sumBelow, typeAt, externalsOf, elementsOf}
 use Rattle.laris.specs.Shape.{variablesBound, variablesOf}
 use Rattle.laris.specs.Check.{checkOf}
 use Rattle.laris.specs.Values.{defaultOf, isBound, bindingOf, chartOf}
 use Rattle.laris.specs.State.{cellAt, placeAt, stateLength}
 use Rattle.laris.specs.Play.{defaultCell, defaultCells, elementCells, cellsFrom, defaultState}
 use Rattle.laris.proofs.Fields.{holds-present, holds-absent, sum-more}
-use Rattle.passed.proofs.Records.{elements-bound}
-use Rattle.passed.proofs.Charts.{bound-element, element-chart}
+use Rattle.passed.proofs.Records.{elements-are}
+use Rattle.passed.proofs.Charts.{number-bound, bound-element, element-chart}
 use Rattle.states.proofs.Elements.{sum-rises, element-count}
 use Rattle.defaults.specs.Bound.{chartBound}
 use Rattle.defaults.specs.Blank.{Blank}
@@ -71,8 +70,7 @@ Filled s st cell i = Blank st (replicate 8 (pos 0) ++ cellsFrom s i (externalsOf
 
 module _ (s : List ℕ) (ok : checkOf s ≡ Passed) where
   is-bound : (i : ℕ) → i < countOf s bindings → isBound s (externalsOf s + i) ≡ true
-  unfolding isBound
-  is-bound i l = and-true _ _ (le-leb (externalsOf s) (externalsOf s + i) (omega arith)) (lt-ltb (externalsOf s + i) (componentsOf s) (omega (arith, elements-bound s ok)))
+  is-bound i l = number-bound s i (omega (arith, elements-are s ok))
 
   -- "record i binds component f1+i of the head"
   pub bound-is : (i : ℕ) → i < countOf s bindings → chartBound s i ≡ chartOf s (externalsOf s + i)
@@ -94,7 +92,7 @@ module _ (s : List ℕ) (ok : checkOf s ≡ Passed) where
     -- the cells of the element and of those before it are all in the state
     pub bound-inside : (cell : ℕ) → cell ≡ sumBelow i (variablesBound s) → cell + chartVariables c .count ≤ variablesOf s
     unfolding variablesOf
-    bound-inside cell q = omega (arith, sum-rises (variablesBound s) i (countOf s bindings) l, bound-count)
+    bound-inside cell q = omega (arith, sum-rises (variablesBound s) i (elementsOf s) (omega (arith, elements-are s ok)), bound-count)
 
     pub bound-next : (cell : ℕ) → cell ≡ sumBelow i (variablesBound s) → cell + chartVariables c .count ≡ sumBelow (i + 1) (variablesBound s)
     bound-next cell q = omega (arith, sum-more i (variablesBound s), bound-count)
@@ -124,6 +122,6 @@ module _ (s : List ℕ) (ok : checkOf s ≡ Passed) where
   pub filled-all : (st : List ℤ) (cell i : ℕ) → i ≤ countOf s bindings → countOf s bindings ≤ i → cell ≡ sumBelow i (variablesBound s) → Filled s st cell i → st ≡ defaultState s
   unfolding defaultState variablesOf
   filled-all st cell i l m q b =
-      let e : countOf s bindings ≡ i = omega arith in
+      let e : elementsOf s ≡ i = omega (arith, elements-are s ok) in
       let f : 8 * (variablesOf s - cell) + 1024 ≡ 1024 = omega (arith, ap (λ (k : ℕ). sumBelow k (variablesBound s)) e) in
       rw e ((rw f at (b .words)))

@@ -26,7 +26,7 @@ use Rattle.laris.specs.Check.{checkOf}
 use Rattle.laris.proofs.Fields.{holds-present, number-present}
 use Rattle.passed.specs.Places.{InChart}
 use Rattle.passed.proofs.Records.{present-below, type-shape, name-shape, chart-shape, body-shape, head-there, two-externals, externals-components, two-ports, declared-exists}
-use Rattle.passed.proofs.Charts.{element-chart, number-bound, bound-element, where-found, body-there, initial-there}
+use Rattle.passed.proofs.Charts.{element-chart, chart-element, number-bound, bound-element, where-found, body-there, initial-there}
 
 pub all-true : (n : ℕ) (p : ℕ → Bool) → ((i : ℕ) → i < n → p i ≡ true) → allBelow n p ≡ true
 unfolding allBelow
@@ -154,9 +154,12 @@ module _ (s : List ℕ) (ok : checkOf s ≡ Passed) where
   unfolding hasHead
   has-head = holds-present _ (head-there s ok .0) _ (head-there s ok .1)
 
+  pub element-declared : (e : ℕ) (c : Record) → chartOf s e ≡ Present c → (j : ℕ) → j < chartVariables c .count → chartVariables c .first + j < countOf s declarations
+  element-declared e c p = let x = chart-element s e c p in chart-variable-declared (boundChart (x .0)) c (x .1 .chart)
+
   pub element-there : (e : ℕ) → isBound s e ≡ true → elementThere s e ≡ true
   unfolding elementThere
-  element-there e h = let x = bound-element s ok e h in holds-present (chartOf s e) (x .1) _ (element-chart s e (x .0) (x .1) (x .2)) ∙ all-true _ _ (λ j l. has-default _ (chart-variable-declared (boundChart (x .0)) (x .1) (x .2 .chart) j l))
+  element-there e h = let x = bound-element s ok e h in let p = element-chart s e (x .0) (x .1) (x .2) in holds-present (chartOf s e) (x .1) _ p ∙ all-true _ _ (λ j l. has-default _ (element-declared e (x .1) p j l))
 
   pub elements-there : elementsThere s ≡ true
   unfolding elementsThere

@@ -12,7 +12,7 @@ use borrow.Author.Tests.{not-true}
 use Rattle.sheet.specs.declared.Record.{Record}
 use Rattle.sheet.specs.declared.Found.the-variants.{Present}
 use Rattle.sheet.specs.All.{_and_}
-use Rattle.sheet.specs.Names.{declarations, names, chartVariables, boundChart, Timer-type, Timeout-type, isClock}
+use Rattle.sheet.specs.Names.{declarations, names, chartVariables, Timer-type, Timeout-type, isClock}
 use Rattle.sheet.specs.Sheet.{countOf}
 use Rattle.sheet.proofs.All.{and-first, and-second}
 use Rattle.laris.proofs.Appending.{appending}
@@ -26,7 +26,7 @@ use Rattle.laris.specs.Eval.{sameWord}
 use Rattle.laris.specs.Play.{thenSlice, fires, ticks, slicedCell, slicedVariable, slicedCells, slicedElement, slicedFrom, clockTelegram}
 use Rattle.laris.specs.Check.{checkOf}
 use Rattle.passed.proofs.Charts.{element-chart, number-bound, bound-element}
-use Rattle.passed.proofs.Declared.{declared-record, chart-variable-declared}
+use Rattle.passed.proofs.Declared.{declared-record, element-declared}
 use Rattle.states.proofs.Words.{with-before}
 use Rattle.states.proofs.Parts.{is-counted}
 use Rattle.states.proofs.Kept.{cell-inside, cell-put, telegram-kept, ChangeKept}
@@ -157,7 +157,7 @@ module _ (s : List ℕ) (ok : checkOf s ≡ Passed) where
       let f : slicedElement s e st ≡ slicedCells s e (chartVariables c .count) (chartVariables c .first) (firstCell s e) st = rw (slicedElement, p) refl in
       let d : chartVariables c .first + 0 ≡ chartVariables c .first = omega arith in
       let k : firstCell s e + 0 ≡ firstCell s e = omega arith in
-      rw f (rw (d, k) at (cells-sliced e c p (chart-variable-declared s ok (boundChart (x .0)) c (x .2 .chart)) (chartVariables c .count) 0 (omega arith) st o))
+      rw f (rw (d, k) at (cells-sliced e c p (element-declared s ok e c p) (chartVariables c .count) 0 (omega arith) st o))
 
   elements-sliced : (n i : ℕ) → i + n ≤ elementsOf s → (st : List ℤ) → OfSheet s st → ChangeKept s (slicedFrom s n (externalsOf s + i) st)
   unfolding slicedFrom

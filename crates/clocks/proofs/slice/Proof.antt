@@ -53,7 +53,7 @@ slice-cells-requires : tie.Need-slice-cells-requires Inv-loop μ-loop
 slice-cells-requires c κs = let l = c .before .before .before .before .before .loop-test .taken in let n = c .before .before .before .before .before .before .loop .inv .2 in let f = c .before .before .before .before .before .before .loop .inv .1 in let a = elements-bound _ (c .before .before .before .before .before .before .before .before .before .before .pre .1) in let b = components-limit _ (c .before .before .before .before .before .before .before .before .before .before .pre .1) in
     let p = sym (c .before .before .before .before .chart-bound .ensures) ∙ c .before .before .c .given .1 in
     let d = bound-inside _ (c .before .before .before .before .before .before .before .before .before .before .pre .1) _ _ (omega arith) p _ (c .before .before .before .before .before .before .loop .inv .3) in let v = variables-limit _ (c .before .before .before .before .before .before .before .before .before .before .pre .1) in
-    (c .before .before .before .before .before .before .before .before .before .before .pre .0, omega arith, omega arith, element-now _ _ _ _ _ f (bound-chart _ (c .before .before .before .before .before .before .before .before .before .before .pre .1) _ _ (omega arith) p) (c .before .before .before .before .before .before .loop .inv .3) _ _ (c .before .before .before .before .before .before .before .before .before .before .pre .2) d (c .before .before .before .before .before .before .loop .inv .4))
+    (c .before .before .before .before .before .before .before .before .before .before .pre .0, omega arith, omega arith, element-now _ _ _ _ _ f (bound-chart _ (c .before .before .before .before .before .before .before .before .before .before .pre .1) _ _ (omega arith) p) (c .before .before .before .before .before .before .loop .inv .3) (c .before .before .before .before .before .before .before .before .before .before .pre .1) _ _ (c .before .before .before .before .before .before .before .before .before .before .pre .2) d (c .before .before .before .before .before .before .loop .inv .4))
 
 same-length-2 : tie.Need-same-length-2 Inv-loop μ-loop
 same-length-2 c = c .before .st .given ∙ c .before .before .before .before .before .before .before .before .before .loop .inv .4 .whole ∙ sym (c .before .before .before .before .before .before .before .before .before .before .before .before .before .pre .2 .whole)

@@ -8,7 +8,7 @@ use Rattle.laris.specs.State.{cellAt, placeAt, stateLength, wordOf}
 use Rattle.laris.specs.Play.{ticks}
 use Rattle.queue.specs.Changed.{changedTo}
 use Rattle.ticks.proofs.Laws.{bits-zero, bits-some}
-use Rattle.clocks.proofs.Cells.{cell-stopped, cell-data, cell-ticks, no-clock, cell-runs, is-clock}
+use Rattle.clocks.proofs.Cells.{cell-stopped, cell-data, cell-ticks, no-clock, cell-runs, cell-named, is-clock, not-timer}
 use Rattle.clocks.proofs.slice_cell.Statement.{statement}
 use Rattle.clocks.proofs.slice_cell.Tie as tie
 
@@ -52,7 +52,7 @@ same-length-2 c = search needs
 
 returns-3 : tie.Need-returns-3
 unfolding cellAt wordOf
-returns-3 c = cell-ticks _ _ _ _ _ (is-clock 5 _ (c .before .before .before .before .before .type-at .ensures) (c .before .before .before .if3 .taken) (omega arith) (omega arith)) (bits-some (getD (c .before .before .before .before .before .before .before .before .before .args .st .now) (8 + 8 * c .before .before .before .before .before .before .before .before .before .args .i) (pos 0)) (c .before .before .before .before .before .before .before .if12 .given) (c .before .before .before .before .before .before .if1 .left)) ∙ ap (λ k. ticks (c .before .before .before .before .before .before .before .before .before .args .sheet .now) (c .before .before .before .before .before .before .before .before .before .args .e) k (8 + 8 * c .before .before .before .before .before .before .before .before .before .args .i) (c .before .before .before .before .before .before .before .before .before .args .st .now)) (sym (c .before .before .before .before .before .type-at .ensures) ∙ c .before .before .before .if3 .taken) ∙ c .before .tick-timeout .ensures _ (c .before .before .before .before .before .before .before .before .before .pre .3 .whole)
+returns-3 c = cell-ticks _ _ _ _ _ (is-clock 5 _ (c .before .before .before .before .before .type-at .ensures) (c .before .before .before .if3 .taken) (omega arith) (omega arith)) (bits-some (getD (c .before .before .before .before .before .before .before .before .before .args .st .now) (8 + 8 * c .before .before .before .before .before .before .before .before .before .args .i) (pos 0)) (c .before .before .before .before .before .before .before .if12 .given) (c .before .before .before .before .before .before .if1 .left)) ∙ ap (λ k. ticks (c .before .before .before .before .before .before .before .before .before .args .sheet .now) (c .before .before .before .before .before .before .before .before .before .args .e) k (8 + 8 * c .before .before .before .before .before .before .before .before .before .args .i) (c .before .before .before .before .before .before .before .before .before .args .st .now)) (sym (c .before .before .before .before .before .type-at .ensures) ∙ c .before .before .before .if3 .taken) ∙ c .before .tick-timeout .ensures _ (c .before .before .before .before .before .before .before .before .before .pre .3 .whole) (cell-named _ _ _ _ _ (c .before .before .before .before .before .before .before .before .before .pre .3) (is-clock 5 _ (c .before .before .before .before .before .type-at .ensures) (c .before .before .before .if3 .taken) (omega arith) (omega arith)) (not-timer 5 _ (c .before .before .before .before .before .type-at .ensures) (c .before .before .before .if3 .taken) (omega arith)) (bits-some (getD (c .before .before .before .before .before .before .before .before .before .args .st .now) (8 + 8 * c .before .before .before .before .before .before .before .before .before .args .i) (pos 0)) (c .before .before .before .before .before .before .before .if12 .given) (c .before .before .before .before .before .before .if1 .left)))
 
 tick-cycler-requires : tie.Need-tick-cycler-requires
 unfolding cellAt wordOf
@@ -63,7 +63,7 @@ same-length-3 c = search needs
 
 returns-4 : tie.Need-returns-4
 unfolding cellAt wordOf
-returns-4 c = cell-ticks _ _ _ _ _ (is-clock 6 _ (c .before .before .before .before .before .before .type-at .ensures) (c .before .before .before .if4 .taken) (omega arith) (omega arith)) (bits-some (getD (c .before .before .before .before .before .before .before .before .before .before .args .st .now) (8 + 8 * c .before .before .before .before .before .before .before .before .before .before .args .i) (pos 0)) (c .before .before .before .before .before .before .before .before .if12 .given) (c .before .before .before .before .before .before .before .if1 .left)) ∙ ap (λ k. ticks (c .before .before .before .before .before .before .before .before .before .before .args .sheet .now) (c .before .before .before .before .before .before .before .before .before .before .args .e) k (8 + 8 * c .before .before .before .before .before .before .before .before .before .before .args .i) (c .before .before .before .before .before .before .before .before .before .before .args .st .now)) (sym (c .before .before .before .before .before .before .type-at .ensures) ∙ c .before .before .before .if4 .taken) ∙ c .before .tick-cycler .ensures _ (c .before .before .before .before .before .before .before .before .before .before .pre .3 .whole)
+returns-4 c = cell-ticks _ _ _ _ _ (is-clock 6 _ (c .before .before .before .before .before .before .type-at .ensures) (c .before .before .before .if4 .taken) (omega arith) (omega arith)) (bits-some (getD (c .before .before .before .before .before .before .before .before .before .before .args .st .now) (8 + 8 * c .before .before .before .before .before .before .before .before .before .before .args .i) (pos 0)) (c .before .before .before .before .before .before .before .before .if12 .given) (c .before .before .before .before .before .before .before .if1 .left)) ∙ ap (λ k. ticks (c .before .before .before .before .before .before .before .before .before .before .args .sheet .now) (c .before .before .before .before .before .before .before .before .before .before .args .e) k (8 + 8 * c .before .before .before .before .before .before .before .before .before .before .args .i) (c .before .before .before .before .before .before .before .before .before .before .args .st .now)) (sym (c .before .before .before .before .before .before .type-at .ensures) ∙ c .before .before .before .if4 .taken) ∙ c .before .tick-cycler .ensures _ (c .before .before .before .before .before .before .before .before .before .before .pre .3 .whole) (cell-named _ _ _ _ _ (c .before .before .before .before .before .before .before .before .before .before .pre .3) (is-clock 6 _ (c .before .before .before .before .before .before .type-at .ensures) (c .before .before .before .if4 .taken) (omega arith) (omega arith)) (not-timer 6 _ (c .before .before .before .before .before .before .type-at .ensures) (c .before .before .before .if4 .taken) (omega arith)) (bits-some (getD (c .before .before .before .before .before .before .before .before .before .before .args .st .now) (8 + 8 * c .before .before .before .before .before .before .before .before .before .before .args .i) (pos 0)) (c .before .before .before .before .before .before .before .before .if12 .given) (c .before .before .before .before .before .before .before .if1 .left)))
 
 returns-5 : tie.Need-returns-5
 unfolding changedTo

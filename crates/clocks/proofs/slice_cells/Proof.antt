@@ -38,7 +38,7 @@ same-length : tie.Need-same-length Inv-loop μ-loop
 same-length c = c .before .st .given ∙ c .before .before .before .before .before .before .loop .inv .1 .whole ∙ sym (c .before .before .before .before .before .before .before .before .before .pre .3 .whole)
 
 returns : tie.Need-returns Inv-loop μ-loop
-returns c = c .before .before .before .before .before .before .loop .inv .2 ∙ cells-here _ _ _ _ _ _ _ (c .before .before .before .before .before .loop-test .taken) ∙ then-refused _ _ _ _ _ (c .before .before .slice-cell .ensures) (c .if1 .taken)
+returns c = let l = c .before .before .before .before .before .loop-test .taken in c .before .before .before .before .before .before .loop .inv .2 ∙ cells-here _ _ _ _ _ _ _ l (c .before .before .before .before .before .before .before .before .before .pre .3 .declared _ l) ∙ then-refused _ _ _ _ _ (c .before .before .slice-cell .ensures) (c .if1 .taken)
 
 add-j : tie.Need-add-j Inv-loop μ-loop
 add-j c = search needs
@@ -47,7 +47,7 @@ loop-less : tie.Need-loop-less Inv-loop μ-loop
 loop-less c = search needs
 
 loop-again : tie.Need-loop-again Inv-loop μ-loop
-loop-again c = let l = c .before .before .before .before .before .loop-test .taken in let k = c .before .before .before .before .before .before .before .before .before .pre .3 .inside in (omega arith, pass-next _ _ _ _ _ _ _ _ (omega arith) (c .before .before .before .before .before .before .loop .inv .1) (goes-on _ _ _ (c .before .before .slice-cell .ensures) (c .if1 .left)), c .before .before .before .before .before .before .loop .inv .2 ∙ cells-here _ _ _ _ _ _ _ l ∙ then-done _ _ _ _ (c .before .before .slice-cell .ensures) (c .if1 .left))
+loop-again c = let l = c .before .before .before .before .before .loop-test .taken in let k = c .before .before .before .before .before .before .before .before .before .pre .3 .inside in (omega arith, pass-next _ _ _ _ _ _ _ _ (omega arith) (c .before .before .before .before .before .before .loop .inv .1) (goes-on _ _ _ (c .before .before .slice-cell .ensures) (c .if1 .left)), c .before .before .before .before .before .before .loop .inv .2 ∙ cells-here _ _ _ _ _ _ _ l (c .before .before .before .before .before .before .before .before .before .pre .3 .declared _ l) ∙ then-done _ _ _ _ (c .before .before .slice-cell .ensures) (c .if1 .left))
 
 same-length-2 : tie.Need-same-length-2 Inv-loop μ-loop
 same-length-2 c = c .before .loop .inv .1 .whole ∙ sym (c .before .before .before .before .pre .3 .whole)
