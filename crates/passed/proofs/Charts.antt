@@ -5,7 +5,7 @@ use mathlib.Core.List.{List}
 use mathlib.Core.Bool.{Bool, true, false, not}
 use native.Mathlib.Omega.{arith}
 use lib.Dec.{eqb}
-use borrow.Author.Tests.{ltb-true, leb-true, eqb-true}
+use borrow.Author.Tests.{ltb-true, leb-true, eqb-true, lt-ltb, le-leb}
 use Rattle.sheet.specs.declared.Record.{Record}
 use Rattle.sheet.specs.declared.Found.{Found}
 use Rattle.sheet.specs.declared.Found.the-variants.{Present, Absent}
@@ -15,7 +15,7 @@ use Rattle.sheet.specs.Sheet.{recordOf}
 use Rattle.sheet.proofs.All.{true-false, not-so, and-true, and-first, and-second, all-at}
 use Rattle.sheet.proofs.Sheet.{record-present}
 use Rattle.laris.specs.declared.Checked.the-variants.{Passed}
-use Rattle.laris.specs.Fields.{holds, oneIf, sumBelow, countBelow, externalsOf, componentsOf}
+use Rattle.laris.specs.Fields.{holds, oneIf, sumBelow, countBelow, externalsOf, componentsOf, elementsOf}
 use Rattle.laris.specs.Shape.{treeShape, treesShape, bindingShape}
 use Rattle.laris.specs.Types.{reactsTo, hasReaction}
 use Rattle.laris.specs.Static.{bodyOf, hasRole, bodiesWith, bodyStatic, bodiesStatic, chartStatic, noTwin}
@@ -59,6 +59,11 @@ module _ (s : List ℕ) (e : ℕ) where
       go : (f : Found) → bindingOf s e ≡ f → _≡_ {A = Found} (elim f [ Present b ↦ recordOf s charts (boundChart b) | Absent ↦ Absent ]) (Present c) → (b : Record) × Element s e b c
       go (Present b) q h = let p = binding-element b q in (b, record { bound = p .0; binding = p .1; chart = h })
       go Absent q h = no-record h
+
+-- the elements are the components from the first bound one on
+pub number-bound : (s : List ℕ) (i : ℕ) → i < elementsOf s → isBound s (externalsOf s + i) ≡ true
+unfolding elementsOf isBound
+number-bound s i l = and-true _ _ (le-leb (externalsOf s) (externalsOf s + i) (omega arith)) (lt-ltb (externalsOf s + i) (componentsOf s) (omega arith))
 
 -- ---- the body that is looked for
 

@@ -1,2 +1,3 @@
 pub mod Records
 pub mod Charts
+pub mod Declared

@@ -15,8 +15,8 @@ use Rattle.sheet.proofs.Sheet.{record-present}
 pub use Rattle.sheet.proofs.Sheet.{present-below}
 use Rattle.laris.specs.declared.Checked.{Checked}
 use Rattle.laris.specs.declared.Checked.the-variants.{Passed, Shape, Static}
-use Rattle.laris.specs.Fields.{holds, numberOr0, typeAt, componentsOf, externalsOf, portsOf}
-use Rattle.laris.specs.Shape.{headShape, enumeratedShape, typeExists, declarationShape, nameShape, bodyShape, bindingShape, elementsBound, variablesOf, treesShape, recordShape, sectionShape, bodiesCovered}
+use Rattle.laris.specs.Fields.{holds, numberOr0, typeAt, componentsOf, externalsOf, portsOf, elementsOf}
+use Rattle.laris.specs.Shape.{headShape, enumeratedShape, typeExists, declarationShape, nameShape, chartShape, bodyShape, bindingShape, elementsBound, variablesOf, treesShape, recordShape, sectionShape, bodiesCovered}
 use Rattle.laris.specs.Static.{nameStatic, chartStatic, bindingStatic, recordStatic, sectionStatic, static}
 use Rattle.laris.specs.Check.{nodesShape, sectionsShape, shape, checkOf, checkNumber}
 use Rattle.laris.proofs.Fields.{holds-present, number-present}
@@ -74,6 +74,10 @@ module _ (s : List ℕ) (ok : checkOf s ≡ Passed) where
   unfolding shape elementsBound
   elements-bound = eqb-true _ _ (and-first _ _ (and-second _ _ (and-second _ _ (and-second _ _ (and-second _ _ shaped)))))
 
+  pub elements-are : elementsOf s ≡ countOf s bindings
+  unfolding elementsOf
+  elements-are = omega (arith, elements-bound)
+
   pub variables-limit : variablesOf s ≤ 512
   unfolding shape
   variables-limit = leb-true _ _ (and-first _ _ (and-second _ _ (and-second _ _ (and-second _ _ (and-second _ _ (and-second _ _ shaped))))))
@@ -105,6 +109,10 @@ module _ (s : List ℕ) (ok : checkOf s ≡ Passed) where
     pub name-shape : recordOf s names n ≡ Present r → nameShape s r ≡ true
     unfolding recordShape
     name-shape e = record-shape 3 n r (omega arith) e
+
+    pub chart-shape : recordOf s charts n ≡ Present r → chartShape s n r ≡ true
+    unfolding recordShape
+    chart-shape e = record-shape 4 n r (omega arith) e
 
     pub body-shape : recordOf s bodies n ≡ Present r → bodyShape s r ≡ true
     unfolding recordShape

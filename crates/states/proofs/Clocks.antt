@@ -154,6 +154,11 @@ module _ (s : List ℕ) (e t : ℕ) (st : List ℤ) (at : ℕ) where
     unfolding runningClock
     clock-name n = and-first _ _ (and-second _ _ (and-second _ _ (and-second _ _ (rw (runningClock, n) at h))))
 
+    -- it is a name of the sheet
+    pub clock-named : eqb t Timer-type ≡ false → isBelow (wordOf st (at + 3)) (countOf s names) ≡ true
+    unfolding nameFits
+    clock-named n = and-first _ _ (clock-name n)
+
     pub clock-awaits : eqb t Timer-type ≡ false → reactionAwaits s e (wordOf st (at + 3)) ≡ true
     unfolding runningClock
     clock-awaits n = and-second _ _ (and-second _ _ (and-second _ _ (and-second _ _ (rw (runningClock, n) at h))))
@@ -191,7 +196,6 @@ module _ (s : List ℕ) (e t : ℕ) (st : List ℤ) (at : ℕ) (st′ : List ℤ
 -- ---- the telegram of a clock
 
 pub clock-telegram : (s : List ℕ) (e t : ℕ) (c : Record) (st : List ℤ) (at : ℕ) → chartOf s e ≡ Present c → runningClock s e t st at ≡ true → eqb t Timer-type ≡ false → telegramFits s (telegram (pos e) (pos e) (negsuc 0) (natAbs (wordOf st (at + 3))) (wordOf st (at + 4) ∷ wordOf st (at + 5) ∷ wordOf st (at + 6) ∷ wordOf st (at + 7) ∷ [])) ≡ true
-unfolding nameFits
 clock-telegram s e t c st at p h n =
     own-telegram s e c p (natAbs (wordOf st (at + 3))) zs
     (name-same s internal (pos (natAbs (wordOf st (at + 3)))) (wordOf st (at + 3)) (λ j. getD zs j (pos 0)) (λ j. wordOf st (at + 4 + j)) (sym name) same ∙ clock-name s e t st at h n)
@@ -201,7 +205,7 @@ clock-telegram s e t c st at p h n =
     zs = wordOf st (at + 4) ∷ wordOf st (at + 5) ∷ wordOf st (at + 6) ∷ wordOf st (at + 7) ∷ []
 
     name : wordOf st (at + 3) ≡ pos (natAbs (wordOf st (at + 3)))
-    name = below-pos (wordOf st (at + 3)) (countOf s names) (and-first _ _ (clock-name s e t st at h n))
+    name = below-pos (wordOf st (at + 3)) (countOf s names) (clock-named s e t st at h n)
 
     same : (j : ℕ) → j < 4 → getD zs j (pos 0) ≡ wordOf st (at + 4 + j)
     same zero l = let f : at + 4 + 0 ≡ at + 4 = omega arith in rw f refl

@@ -7,29 +7,28 @@ use native.Mathlib.Omega.{arith}
 use native.Mathlib.Decide.{decLt}
 use lib.ListN.{length, replicate, length-append, length-replicate, getD-replicate}
 use lib.IntN.{ℤ, pos, natAbs}
-use borrow.Author.Tests.{leb-true, lt-ltb, le-leb, lt-leb}
+use borrow.Author.Tests.{leb-true, lt-leb}
 use Rattle.sheet.specs.declared.Record.{Record}
 use Rattle.sheet.specs.declared.Found.{Found}
 use Rattle.sheet.specs.declared.Found.the-variants.{Present, Absent}
-use Rattle.sheet.specs.Names.{bindings, chartVariables, isClock}
-use Rattle.sheet.specs.Sheet.{countOf}
+use Rattle.sheet.specs.Names.{chartVariables, isClock}
 use Rattle.sheet.proofs.All.{true-false, and-second, and-true}
 use Rattle.laris.specs.declared.Checked.the-variants.{Passed}
-use Rattle.laris.specs.Fields.{typeAt, sumBelow, componentsOf, externalsOf}
+use Rattle.laris.specs.Fields.{typeAt, sumBelow, externalsOf, elementsOf}
 use Rattle.laris.specs.Shape.{typeExists, variablesBound, variablesOf}
 use Rattle.laris.specs.Check.{checkOf}
-use Rattle.laris.specs.Values.{isBelow, isZero, defaultOf, isBound, chartOf, firstCell}
+use Rattle.laris.specs.Values.{isBelow, isZero, defaultOf, chartOf, firstCell}
 use Rattle.laris.specs.State.{places, cellAt, placeAt, stateLength, wordOf, waiting}
 use Rattle.laris.specs.Valid.{zeroWords, clockCell, cellFits, headFits, OfSheet}
 use Rattle.laris.specs.Play.{defaultCell, defaultCells, elementCells, cellsFrom, defaultState}
 use Rattle.laris.proofs.Fields.{holds-present, holds-absent, sum-more}
-use Rattle.passed.proofs.Records.{elements-bound}
-use Rattle.passed.proofs.Charts.{element-chart, bound-element}
+use Rattle.passed.proofs.Records.{declared-exists}
+use Rattle.passed.proofs.Charts.{element-chart, number-bound, bound-element}
+use Rattle.passed.proofs.Declared.{default-in}
 use Rattle.states.proofs.Frame.{Same, cell-same}
 use Rattle.states.proofs.Words.{word-front, word-rest}
 use Rattle.states.proofs.Elements.{element-number, element-count, element-from, element-cells, sum-rises}
 use Rattle.states.proofs.Parts.{zeros, cells-fit, telegrams-fit, rest-unused}
-use Rattle.states.proofs.Passed.{default-in, variable-exists}
 
 -- ---- a cell
 
@@ -84,13 +83,12 @@ module _ (s : List ℕ) (e : ℕ) (c : Record) (p : chartOf s e ≡ Present c) w
 -- ---- all cells
 
 module _ (s : List ℕ) (ok : checkOf s ≡ Passed) where
-  bound-chart : (i : ℕ) → i < countOf s bindings → chartOf s (externalsOf s + i) ≡ Absent → ⊥
-  unfolding isBound
+  bound-chart : (i : ℕ) → i < elementsOf s → chartOf s (externalsOf s + i) ≡ Absent → ⊥
   bound-chart i l q =
-      let x = bound-element s ok (externalsOf s + i) (and-true _ _ (le-leb (externalsOf s) (externalsOf s + i) (omega arith)) (lt-ltb (externalsOf s + i) (componentsOf s) (omega (arith, elements-bound s ok)))) in
+      let x = bound-element s ok (externalsOf s + i) (number-bound s i l) in
       true-false (holds-present (chartOf s (externalsOf s + i)) (x .1) (λ c. true) (element-chart s (externalsOf s + i) (x .0) (x .1) (x .2))) (holds-absent (chartOf s (externalsOf s + i)) (λ c. true) q)
 
-  element-length : (i : ℕ) → i < countOf s bindings → length (elementCells s (externalsOf s + i)) ≡ 8 * variablesBound s i
+  element-length : (i : ℕ) → i < elementsOf s → length (elementCells s (externalsOf s + i)) ≡ 8 * variablesBound s i
   element-length i l = go (chartOf s (externalsOf s + i)) refl
     where
       go : (f : Found) → chartOf s (externalsOf s + i) ≡ f → length (elementCells s (externalsOf s + i)) ≡ 8 * variablesBound s i
@@ -103,7 +101,7 @@ module _ (s : List ℕ) (ok : checkOf s ≡ Passed) where
   next : (i : ℕ) → suc (externalsOf s + i) ≡ externalsOf s + (i + 1)
   next i = omega arith
 
-  all-length : (n i : ℕ) → i + n ≤ countOf s bindings → length (cellsFrom s n (externalsOf s + i)) + 8 * sumBelow i (variablesBound s) ≡ 8 * sumBelow (i + n) (variablesBound s)
+  all-length : (n i : ℕ) → i + n ≤ elementsOf s → length (cellsFrom s n (externalsOf s + i)) + 8 * sumBelow i (variablesBound s) ≡ 8 * sumBelow (i + n) (variablesBound s)
   unfolding cellsFrom
   all-length zero i l = let e : i + 0 ≡ i = omega arith in rw e (omega arith)
   all-length (suc n) i l =
@@ -111,7 +109,7 @@ module _ (s : List ℕ) (ok : checkOf s ≡ Passed) where
       rw (e, next i) (omega (arith, length-append (elementCells s (externalsOf s + i)) (cellsFrom s n (externalsOf s + (i + 1))), element-length i (omega arith), all-length n (i + 1) (omega arith), sum-more i (variablesBound s)))
 
   -- word x of element m's cells, among the cells of n elements from number i on
-  all-word : (n i m x y : ℕ) → i + n ≤ countOf s bindings → i ≤ m → m < i + n → x < 8 * variablesBound s m → y + 8 * sumBelow i (variablesBound s) ≡ 8 * sumBelow m (variablesBound s) + x → wordOf (cellsFrom s n (externalsOf s + i)) y ≡ wordOf (elementCells s (externalsOf s + m)) x
+  all-word : (n i m x y : ℕ) → i + n ≤ elementsOf s → i ≤ m → m < i + n → x < 8 * variablesBound s m → y + 8 * sumBelow i (variablesBound s) ≡ 8 * sumBelow m (variablesBound s) + x → wordOf (cellsFrom s n (externalsOf s + i)) y ≡ wordOf (elementCells s (externalsOf s + m)) x
   unfolding cellsFrom
   all-word zero i m x y l a b q h = absurd (omega arith)
   all-word (suc n) i m x y l a b q h = elim (decLt i m) [
@@ -132,14 +130,14 @@ module _ (s : List ℕ) (ok : checkOf s ≡ Passed) where
   -- ---- the state
 
   abbrev allCells : List ℤ
-  allCells = cellsFrom s (countOf s bindings) (externalsOf s)
+  allCells = cellsFrom s (elementsOf s) (externalsOf s)
 
   from-first : externalsOf s + 0 ≡ externalsOf s
   from-first = omega arith
 
   cells-whole : length allCells ≡ 8 * variablesOf s
   unfolding variablesOf sumBelow
-  cells-whole = let e : 0 + countOf s bindings ≡ countOf s bindings = omega arith in let h = (rw (from-first, e) at (all-length (countOf s bindings) 0 (omega arith))) in omega arith
+  cells-whole = let e : 0 + elementsOf s ≡ elementsOf s = omega arith in let h = (rw (from-first, e) at (all-length (elementsOf s) 0 (omega arith))) in omega arith
 
   front-whole : length (replicate 8 (pos 0) ++ allCells) ≡ placeAt s 0
   unfolding placeAt
@@ -166,7 +164,7 @@ module _ (s : List ℕ) (ok : checkOf s ≡ Passed) where
     element-word k m =
         let here : externalsOf s + (e - externalsOf s) ≡ e = omega (arith, element-from s e c p) in
         let inside : 8 * j + k < 8 * variablesBound s (e - externalsOf s) = omega (arith, element-count s e c p) in
-        (rw (from-first, here) at (all-word (countOf s bindings) 0 (e - externalsOf s) (8 * j + k) (8 * (firstCell s e + j) + k) (omega arith) (omega arith) (omega (arith, element-number s e c p)) inside (omega arith)))
+        (rw (from-first, here) at (all-word (elementsOf s) 0 (e - externalsOf s) (8 * j + k) (8 * (firstCell s e + j) + k) (omega arith) (omega arith) (omega (arith, element-number s e c p)) inside (omega arith)))
         ∙ ap (λ (ws : List ℤ). wordOf ws (8 * j + k)) (element-cells-are s e c p)
         ∙ cells-word s (chartVariables c .count) (chartVariables c .first) j k l m
 
@@ -179,7 +177,7 @@ module _ (s : List ℕ) (ok : checkOf s ≡ Passed) where
         rw (f, z) (word-front (replicate 8 (pos 0) ++ allCells) (replicate (8 * places) (pos 0)) (8 + (8 * (firstCell s e + j) + k)) (omega (arith, front-whole)) ∙ word-rest (replicate 8 (pos 0)) allCells 8 (8 * (firstCell s e + j) + k) refl ∙ element-word k m)
 
     default-fits : cellFits s e kind (defaultState s) (cellAt (firstCell s e + j)) ≡ true
-    default-fits = cell-same (defaultState s) (cellAt (firstCell s e + j)) (defaultCell s kind) 0 default-cell s e kind ∙ cell-fits s e kind ok (variable-exists s ok e c p j l)
+    default-fits = cell-same (defaultState s) (cellAt (firstCell s e + j)) (defaultCell s kind) 0 default-cell s e kind ∙ cell-fits s e kind ok (declared-exists s ok (chartVariables c .first + j))
 
   nothing-waits : waiting (defaultState s) ≡ 0
   unfolding waiting

@@ -9,13 +9,12 @@ use borrow.Author.Tests.{leb-true, ltb-true}
 use Rattle.sheet.specs.declared.Record.{Record}
 use Rattle.sheet.specs.declared.Found.the-variants.{Present}
 use Rattle.sheet.specs.Names.{charts, bindings, chartVariables, boundChart}
-use Rattle.sheet.specs.Sheet.{countOf, recordOf}
+use Rattle.sheet.specs.Sheet.{recordOf}
 use Rattle.sheet.proofs.All.{and-first, and-second}
-use Rattle.laris.specs.Fields.{sumBelow, componentsOf, externalsOf}
+use Rattle.laris.specs.Fields.{sumBelow, componentsOf, externalsOf, elementsOf}
 use Rattle.laris.specs.Shape.{variablesBound, variablesOf}
 use Rattle.laris.specs.Values.{isBound, chartOf, firstCell}
 use Rattle.laris.proofs.Fields.{number-present}
-use Rattle.passed.proofs.Records.{present-below}
 use Rattle.passed.proofs.Charts.{chart-element}
 
 pub sum-rises : (f : ℕ → ℕ) (n m : ℕ) → n < m → sumBelow n f + f n ≤ sumBelow m f
@@ -26,9 +25,6 @@ sum-rises f n (suc m) l = elim (decLt n m) [ yes q ↦ omega (arith, sum-rises f
 module _ (s : List ℕ) (e : ℕ) (c : Record) (p : chartOf s e ≡ Present c) where
   pub element-bound : isBound s e ≡ true
   element-bound = chart-element s e c p .1 .bound
-
-  pub element-number : e - externalsOf s < countOf s bindings
-  element-number = let x = chart-element s e c p in present-below s bindings (e - externalsOf s) (x .0) (x .1 .binding)
 
   pub element-count : variablesBound s (e - externalsOf s) ≡ chartVariables c .count
   unfolding variablesBound
@@ -44,9 +40,13 @@ module _ (s : List ℕ) (e : ℕ) (c : Record) (p : chartOf s e ≡ Present c) w
   unfolding isBound
   element-below = ltb-true _ _ (and-second _ _ element-bound)
 
+  pub element-number : e - externalsOf s < elementsOf s
+  unfolding elementsOf
+  element-number = omega (arith, element-from, element-below)
+
   pub element-cells : firstCell s e + chartVariables c .count ≤ variablesOf s
   unfolding firstCell variablesOf
-  element-cells = omega (arith, sum-rises (variablesBound s) (e - externalsOf s) (countOf s bindings) element-number, element-count)
+  element-cells = omega (arith, sum-rises (variablesBound s) (e - externalsOf s) (elementsOf s) element-number, element-count)
 
 module _ (s : List ℕ) (e : ℕ) (c : Record) (p : chartOf s e ≡ Present c) (e′ : ℕ) (c′ : Record) (p′ : chartOf s e′ ≡ Present c′) where
   -- the cells of an earlier element lie before

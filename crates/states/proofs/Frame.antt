@@ -10,12 +10,12 @@ use lib.Signed.{leZ, ltZ}
 use Rattle.sheet.specs.declared.Range.{Range}
 use Rattle.sheet.specs.All.{_and_, allBelow}
 use Rattle.sheet.specs.Names.{internal, Timer-type, Timeout-type, isClock}
-use Rattle.sheet.proofs.All.{and-true}
 use Rattle.laris.specs.Fields.{typeAt}
 use Rattle.laris.specs.Types.{nameRange}
 use Rattle.laris.specs.Values.{fits32, isBelow, isZero, inType}
 use Rattle.laris.specs.State.{wordOf, telegramIn}
 use Rattle.laris.specs.Valid.{dataFit, nameFits, reactionAwaits, zeroWords, runningClock, clockCell, cellFits}
+pub use Rattle.passed.proofs.Declared.{all-true}
 
 either : (b x x′ y y′ : Bool) → x ≡ x′ → y ≡ y′ → _≡_ {A = Bool} (elim b [ true ↦ x | false ↦ y ]) (elim b [ true ↦ x′ | false ↦ y′ ])
 either true x x′ y y′ e f = e
@@ -28,11 +28,6 @@ pub all-same : (n : ℕ) (p q : ℕ → Bool) → ((i : ℕ) → i < n → p i �
 unfolding allBelow
 all-same zero p q h = refl
 all-same (suc n) p q h = rw (all-same n p q (λ i l. h i (omega arith)), h n (omega arith)) refl
-
-pub all-true : (n : ℕ) (p : ℕ → Bool) → ((i : ℕ) → i < n → p i ≡ true) → allBelow n p ≡ true
-unfolding allBelow
-all-true zero p h = refl
-all-true (suc n) p h = and-true (allBelow n p) (p n) (all-true n p (λ i l. h i (omega arith))) (h n (omega arith))
 
 pub data-same : (s : List ℕ) (g : Range) (d d′ : ℕ → ℤ) → ((j : ℕ) → j < 4 → d j ≡ d′ j) → dataFit s g d ≡ dataFit s g d′
 unfolding dataFit

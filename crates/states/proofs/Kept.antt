@@ -16,18 +16,19 @@ use Rattle.laris.proofs.Appending.{appending}
 use Rattle.laris.specs.declared.Telegram.{Telegram}
 use Rattle.laris.specs.Fields.{typeAt, numberOr0}
 use Rattle.laris.specs.Values.{isBelow, inType, chartOf, firstCell}
-use Rattle.laris.specs.State.{places, cellAt, placeAt, stateLength, wordOf, waiting, telegramOf, putWords, withTelegram, withoutTelegram, Changed, on, off, appended}
+use Rattle.laris.specs.State.{places, cellAt, placeAt, stateLength, wordOf, waiting, telegramOf, putWords, withTelegram, withoutTelegram, Changed, on, off, lost, appended}
 use Rattle.laris.specs.Valid.{cellFits, telegramFits, headFits, cellsFit, OfSheet}
 use Rattle.laris.proofs.Fields.{number-present}
 use Rattle.states.proofs.Frame.{Same, zero-from, zero-same, telegram-same, cell-same}
 use Rattle.states.proofs.Words.{length-put, word-put-in, word-put-before, word-put-behind, word-set, word-set-other, with-length, with-head, with-waiting, with-before, with-behind, with-last, with-earlier, without-length, without-head, without-waiting, without-before, without-last, without-closed, without-earlier, without-later}
 use Rattle.states.proofs.Elements.{element-cells, cells-apart}
-use Rattle.states.proofs.Parts.{zeros, waiting-limit, head-zero, has-chart, cell-of, telegram-of, unused-of, cells-fit, telegrams-fit, rest-unused}
+use Rattle.states.proofs.Parts.{zeros, is-counted, waiting-limit, head-zero, has-chart, cell-of, telegram-of, unused-of, cells-fit, telegrams-fit, rest-unused}
 
 -- a change leaves a state of the sheet, or is refused
 abbrev pub ChangeKept : List ℕ → Changed → Type 0
 ChangeKept s (on st) = OfSheet s st
 ChangeKept s (off n) = (6 ≤ n) × (n ≤ 10)
+ChangeKept s lost = ⊥
 
 -- ---- a cell
 
@@ -57,7 +58,7 @@ module _ (s : List ℕ) (st : List ℤ) (o : OfSheet s st) (e : ℕ) (c : Record
   module _ (st′ : List ℤ) (whole : length st′ ≡ length st) (before : (i : ℕ) → i < cell → wordOf st′ i ≡ wordOf st i) (behind : (i : ℕ) → cell + 8 ≤ i → wordOf st′ i ≡ wordOf st i) where
     head-kept : headFits st′ ≡ true
     unfolding headFits
-    head-kept = and-true _ _ (ap (λ (z : ℤ). isBelow z 129) (before 0 (omega (arith, cell-late))) ∙ and-first _ _ (o .head)) (zero-same st′ 0 st 0 (λ k m. before (0 + k) (omega (arith, cell-late))) 1 ∙ head-zero s st o)
+    head-kept = and-true _ _ (ap (λ (z : ℤ). isBelow z 129) (before 0 (omega (arith, cell-late))) ∙ is-counted s st o) (zero-same st′ 0 st 0 (λ k m. before (0 + k) (omega (arith, cell-late))) 1 ∙ head-zero s st o)
 
     waiting-kept : waiting st′ ≡ waiting st
     unfolding waiting
@@ -131,7 +132,7 @@ telegram-kept s st o t room fits = record {
 }
 
 pub appended-kept : (s : List ℕ) (st : List ℤ) → OfSheet s st → (t : Telegram) → telegramFits s t ≡ true → ChangeKept s (appended s st t)
-appended-kept s st o t fits = appending s st t (ChangeKept s) (λ room. telegram-kept s st o t room fits) (omega arith, omega arith)
+appended-kept s st o t fits = appending s st t (is-counted s st o) (ChangeKept s) (λ room. telegram-kept s st o t room fits) (omega arith, omega arith)
 
 pub removed-kept : (s : List ℕ) (st : List ℤ) → OfSheet s st → (j : ℕ) → j < waiting st → OfSheet s (withoutTelegram s st j)
 unfolding placeAt

@@ -10,12 +10,11 @@ use borrow.Author.Tests.{ltb-true}
 use Rattle.sheet.specs.declared.Record.{Record}
 use Rattle.sheet.specs.declared.Found.{Found}
 use Rattle.sheet.specs.declared.Found.the-variants.{Present, Absent}
-use Rattle.sheet.specs.Names.{bindings, chartVariables}
-use Rattle.sheet.specs.Sheet.{countOf}
+use Rattle.sheet.specs.Names.{chartVariables}
 use Rattle.sheet.proofs.All.{and-first, and-second, and-true, all-at}
-use Rattle.laris.specs.Fields.{typeAt, externalsOf}
+use Rattle.laris.specs.Fields.{typeAt, externalsOf, elementsOf}
 use Rattle.laris.specs.Values.{isBelow, isZero, chartOf, firstCell}
-use Rattle.laris.specs.State.{places, cellAt, placeAt, stateLength, wordOf, waiting, telegramOf}
+use Rattle.laris.specs.State.{places, cellAt, placeAt, stateLength, wordOf, waiting, counted, telegramOf}
 use Rattle.laris.specs.Valid.{zeroWords, cellFits, elementFits, telegramFits, headFits, cellsFit, waitingFit, unusedZero, contentFits, OfSheet}
 use Rattle.laris.proofs.Fields.{holds-present, holds-absent}
 use Rattle.states.proofs.Frame.{all-true}
@@ -51,20 +50,24 @@ module _ (s : List ℕ) (st : List ℤ) where
 -- ---- what holds of a state of the sheet
 
 module _ (s : List ℕ) (st : List ℤ) (o : OfSheet s st) where
+  pub is-counted : counted st ≡ true
+  unfolding headFits
+  is-counted = and-first _ _ (o .head)
+
   pub waiting-limit : waiting st ≤ places
-  unfolding headFits waiting
-  waiting-limit = omega (arith, below-abs (wordOf st 0) 129 (and-first _ _ (o .head)))
+  unfolding waiting
+  waiting-limit = omega (arith, below-abs (wordOf st 0) 129 is-counted)
 
   pub head-zero : zeroWords st 0 1 ≡ true
   unfolding headFits
   head-zero = and-second _ _ (o .head)
 
-  element-fits : (i : ℕ) → i < countOf s bindings → elementFits s st (externalsOf s + i) ≡ true
+  element-fits : (i : ℕ) → i < elementsOf s → elementFits s st (externalsOf s + i) ≡ true
   unfolding cellsFit
-  element-fits i l = all-at (countOf s bindings) _ (o .cells) i l
+  element-fits i l = all-at (elementsOf s) _ (o .cells) i l
 
   -- every element has a chart
-  pub has-chart : (i : ℕ) → i < countOf s bindings → chartOf s (externalsOf s + i) ≡ Absent → ⊥
+  pub has-chart : (i : ℕ) → i < elementsOf s → chartOf s (externalsOf s + i) ≡ Absent → ⊥
   unfolding elementFits
   has-chart i l q = true≢false (sym (element-fits i l) ∙ holds-absent (chartOf s (externalsOf s + i)) _ q)
 
@@ -86,11 +89,11 @@ module _ (s : List ℕ) (st : List ℤ) (o : OfSheet s st) where
 -- ---- what is enough
 
 module _ (s : List ℕ) (st : List ℤ) where
-  pub cells-fit : ((i : ℕ) → i < countOf s bindings → chartOf s (externalsOf s + i) ≡ Absent → ⊥) → ((e : ℕ) (c : Record) → chartOf s e ≡ Present c → (j : ℕ) → j < chartVariables c .count → cellFits s e (typeAt s (chartVariables c .first + j)) st (cellAt (firstCell s e + j)) ≡ true) → cellsFit s st ≡ true
+  pub cells-fit : ((i : ℕ) → i < elementsOf s → chartOf s (externalsOf s + i) ≡ Absent → ⊥) → ((e : ℕ) (c : Record) → chartOf s e ≡ Present c → (j : ℕ) → j < chartVariables c .count → cellFits s e (typeAt s (chartVariables c .first + j)) st (cellAt (firstCell s e + j)) ≡ true) → cellsFit s st ≡ true
   unfolding cellsFit elementFits
-  cells-fit some fits = all-true (countOf s bindings) _ (λ i l. go i l (chartOf s (externalsOf s + i)) refl)
+  cells-fit some fits = all-true (elementsOf s) _ (λ i l. go i l (chartOf s (externalsOf s + i)) refl)
     where
-      go : (i : ℕ) → i < countOf s bindings → (f : Found) → chartOf s (externalsOf s + i) ≡ f → elementFits s st (externalsOf s + i) ≡ true
+      go : (i : ℕ) → i < elementsOf s → (f : Found) → chartOf s (externalsOf s + i) ≡ f → elementFits s st (externalsOf s + i) ≡ true
       go i l (Present c) p = holds-present (chartOf s (externalsOf s + i)) c _ p ∙ all-true (chartVariables c .count) _ (λ j m. fits (externalsOf s + i) c p j m)
       go i l Absent p = absurd (some i l p)
 

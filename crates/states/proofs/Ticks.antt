@@ -10,29 +10,44 @@ use lib.IntN.{ℤ, pos, _+ℤ_, _-ℤ_}
 use lib.Signed.{leZ}
 use borrow.Author.Tests.{not-true}
 use Rattle.sheet.specs.declared.Record.{Record}
-use Rattle.sheet.specs.declared.Found.{Found}
-use Rattle.sheet.specs.declared.Found.the-variants.{Present, Absent}
+use Rattle.sheet.specs.declared.Found.the-variants.{Present}
 use Rattle.sheet.specs.All.{_and_}
-use Rattle.sheet.specs.Names.{bindings, chartVariables, Timer-type, Timeout-type, isClock}
+use Rattle.sheet.specs.Names.{declarations, names, chartVariables, boundChart, Timer-type, Timeout-type, isClock}
 use Rattle.sheet.specs.Sheet.{countOf}
 use Rattle.sheet.proofs.All.{and-first, and-second}
 use Rattle.laris.proofs.Appending.{appending}
+use Rattle.laris.specs.declared.Checked.the-variants.{Passed}
 use Rattle.laris.specs.declared.Telegram.{Telegram}
-use Rattle.laris.specs.Fields.{typeAt, externalsOf}
-use Rattle.laris.specs.Values.{isZero, chartOf, firstCell}
-use Rattle.laris.specs.State.{places, cellAt, placeAt, wordOf, waiting, putWords, withTelegram, Changed, on, off}
+use Rattle.laris.specs.Fields.{typeAt, externalsOf, elementsOf}
+use Rattle.laris.specs.Values.{isBelow, isZero, chartOf, firstCell}
+use Rattle.laris.specs.State.{places, cellAt, placeAt, wordOf, waiting, putWords, withTelegram, Changed, on, off, lost, appended}
 use Rattle.laris.specs.Valid.{OfSheet}
 use Rattle.laris.specs.Eval.{sameWord}
-use Rattle.laris.specs.Play.{thenSlice, fires, ticks, slicedCell, slicedCells, slicedElement, slicedFrom, clockTelegram}
+use Rattle.laris.specs.Play.{thenSlice, fires, ticks, slicedCell, slicedVariable, slicedCells, slicedElement, slicedFrom, clockTelegram}
+use Rattle.laris.specs.Check.{checkOf}
+use Rattle.passed.proofs.Charts.{element-chart, number-bound, bound-element}
+use Rattle.passed.proofs.Declared.{declared-record, chart-variable-declared}
 use Rattle.states.proofs.Words.{with-before}
+use Rattle.states.proofs.Parts.{is-counted}
 use Rattle.states.proofs.Kept.{cell-inside, cell-put, telegram-kept, ChangeKept}
 use Rattle.states.proofs.Running.{is-running, value-set, put-again}
-use Rattle.states.proofs.Clocks.{timer-value, timer-int, timeout-value, cycler-value, cycler-again, timer-fits, timeout-fits, cycler-fits, value-int, period-int, timer-runs, timeout-runs, cycler-runs, clock-telegram, stopped-fits}
+use Rattle.states.proofs.Clocks.{timer-value, timer-int, timeout-value, cycler-value, cycler-again, timer-fits, timeout-fits, cycler-fits, value-int, period-int, timer-runs, timeout-runs, cycler-runs, clock-named, clock-telegram, stopped-fits}
 
 pub then-kept : (s : List ℕ) (r : Changed) (K : List ℤ → Changed) → ChangeKept s r → ((st : List ℤ) → OfSheet s st → ChangeKept s (K st)) → ChangeKept s (thenSlice r K)
 unfolding thenSlice
 then-kept s (on st) K h k = k st h
 then-kept s (off n) K h k = h
+then-kept s lost K h k = h
+
+-- a clock whose name is there fires
+pub fires-named : (s : List ℕ) (e at : ℕ) (ws st : List ℤ) → isBelow (wordOf st (at + 3)) (countOf s names) ≡ true → fires s e at ws st ≡ thenSlice (appended s st (clockTelegram e st at)) (λ st′. on (putWords st′ at ws))
+unfolding fires
+fires-named s e at ws st h = rw (fires, h) refl
+
+-- a variable that is declared
+pub sliced-variable : (s : List ℕ) (e d at : ℕ) (st : List ℤ) → d < countOf s declarations → slicedVariable s e d at st ≡ slicedCell s e (typeAt s d) at st
+unfolding slicedVariable
+sliced-variable s e d at st l = let r = declared-record s d l in rw (slicedVariable, r .1) (ap (λ (t : ℕ). slicedCell s e t at st) (r .2))
 
 -- a running clock in the cell of variable j of element e
 module _ (s : List ℕ) (st : List ℤ) (o : OfSheet s st) (e : ℕ) (c : Record) (p : chartOf s e ≡ Present c) (j : ℕ) (l : j < chartVariables c .count) where
@@ -49,8 +64,11 @@ module _ (s : List ℕ) (st : List ℤ) (o : OfSheet s st) (e : ℕ) (c : Record
       own = clockTelegram e st cell
 
       fires-kept : (ws : List ℤ) → (waiting st < places → OfSheet s (withTelegram s st own) → OfSheet s (putWords (withTelegram s st own) cell ws)) → ChangeKept s (fires s e cell ws st)
-      unfolding fires thenSlice
-      fires-kept ws h = appending s st own (λ r. ChangeKept s (thenSlice r (λ st′. on (putWords st′ cell ws)))) (λ room. h room (telegram-kept s st o own room (clock-telegram s e kind c st cell p (is-running s st o e c p j l clock runs) named))) (omega arith, omega arith)
+      unfolding thenSlice
+      fires-kept ws h =
+          let running = is-running s st o e c p j l clock runs in
+          rw (fires-named s e cell ws st (clock-named s e kind st cell running named))
+          (appending s st own (is-counted s st o) (λ r. ChangeKept s (thenSlice r (λ st′. on (putWords st′ cell ws)))) (λ room. h room (telegram-kept s st o own room (clock-telegram s e kind c st cell p running named))) (omega arith, omega arith))
 
       -- the telegram lies behind the cells
       cell-word : waiting st < places → (k : ℕ) → k < 8 → wordOf (withTelegram s st own) (cell + k) ≡ wordOf st (cell + k)
@@ -119,32 +137,32 @@ module _ (s : List ℕ) (st : List ℤ) (o : OfSheet s st) (e : ℕ) (c : Record
 
 -- ---- cells, elements, all
 
-module _ (s : List ℕ) where
-  cells-sliced : (e : ℕ) (c : Record) → chartOf s e ≡ Present c → (n j : ℕ) → j + n ≤ chartVariables c .count → (st : List ℤ) → OfSheet s st → ChangeKept s (slicedCells s e n (chartVariables c .first + j) (firstCell s e + j) st)
+module _ (s : List ℕ) (ok : checkOf s ≡ Passed) where
+  cells-sliced : (e : ℕ) (c : Record) → chartOf s e ≡ Present c → ((j : ℕ) → j < chartVariables c .count → chartVariables c .first + j < countOf s declarations) → (n j : ℕ) → j + n ≤ chartVariables c .count → (st : List ℤ) → OfSheet s st → ChangeKept s (slicedCells s e n (chartVariables c .first + j) (firstCell s e + j) st)
   unfolding slicedCells
-  cells-sliced e c p zero j l st o = o
-  cells-sliced e c p (suc n) j l st o =
-      then-kept s _ _ (cell-sliced s st o e c p j (omega arith)) (λ st′ o′.
-      let d : suc (chartVariables c .first + j) ≡ chartVariables c .first + suc j = omega arith in
+  cells-sliced e c p d zero j l st o = o
+  cells-sliced e c p d (suc n) j l st o =
+      then-kept s _ _ (rw (sliced-variable s e (chartVariables c .first + j) (cellAt (firstCell s e + j)) st (d j (omega arith))) (cell-sliced s st o e c p j (omega arith))) (λ st′ o′.
+      let f : suc (chartVariables c .first + j) ≡ chartVariables c .first + suc j = omega arith in
       let i : suc (firstCell s e + j) ≡ firstCell s e + suc j = omega arith in
-      rw (d, i) (cells-sliced e c p n (suc j) (omega arith) st′ o′))
+      rw (f, i) (cells-sliced e c p d n (suc j) (omega arith) st′ o′))
 
-  element-sliced : (e : ℕ) (st : List ℤ) → OfSheet s st → ChangeKept s (slicedElement s e st)
+  element-sliced : (i : ℕ) → i < elementsOf s → (st : List ℤ) → OfSheet s st → ChangeKept s (slicedElement s (externalsOf s + i) st)
   unfolding slicedElement
-  element-sliced e st o = go (chartOf s e) refl
-    where
-      go : (f : Found) → chartOf s e ≡ f → ChangeKept s (slicedElement s e st)
-      go (Present c) p =
-          let f : slicedElement s e st ≡ slicedCells s e (chartVariables c .count) (chartVariables c .first) (firstCell s e) st = rw (slicedElement, p) refl in
-          let d : chartVariables c .first + 0 ≡ chartVariables c .first = omega arith in
-          let i : firstCell s e + 0 ≡ firstCell s e = omega arith in
-          rw f (rw (d, i) at (cells-sliced e c p (chartVariables c .count) 0 (omega arith) st o))
-      go Absent p = let f : slicedElement s e st ≡ on st = rw (slicedElement, p) refl in rw f o
+  element-sliced i l st o =
+      let e : ℕ = externalsOf s + i in
+      let x = bound-element s ok e (number-bound s i l) in
+      let c = x .1 in
+      let p = element-chart s e (x .0) c (x .2) in
+      let f : slicedElement s e st ≡ slicedCells s e (chartVariables c .count) (chartVariables c .first) (firstCell s e) st = rw (slicedElement, p) refl in
+      let d : chartVariables c .first + 0 ≡ chartVariables c .first = omega arith in
+      let k : firstCell s e + 0 ≡ firstCell s e = omega arith in
+      rw f (rw (d, k) at (cells-sliced e c p (chart-variable-declared s ok (boundChart (x .0)) c (x .2 .chart)) (chartVariables c .count) 0 (omega arith) st o))
 
-  elements-sliced : (n e : ℕ) (st : List ℤ) → OfSheet s st → ChangeKept s (slicedFrom s n e st)
+  elements-sliced : (n i : ℕ) → i + n ≤ elementsOf s → (st : List ℤ) → OfSheet s st → ChangeKept s (slicedFrom s n (externalsOf s + i) st)
   unfolding slicedFrom
-  elements-sliced zero e st o = o
-  elements-sliced (suc n) e st o = then-kept s _ _ (element-sliced e st o) (elements-sliced n (suc e))
+  elements-sliced zero i l st o = o
+  elements-sliced (suc n) i l st o = then-kept s _ _ (element-sliced i (omega arith) st o) (λ st′ o′. let f : suc (externalsOf s + i) ≡ externalsOf s + suc i = omega arith in rw f (elements-sliced n (suc i) (omega arith) st′ o′))
 
-pub slice-kept : (s : List ℕ) (st : List ℤ) → OfSheet s st → ChangeKept s (slicedFrom s (countOf s bindings) (externalsOf s) st)
-slice-kept s st o = elements-sliced s (countOf s bindings) (externalsOf s) st o
+  pub slice-kept : (st : List ℤ) → OfSheet s st → ChangeKept s (slicedFrom s (elementsOf s) (externalsOf s) st)
+  slice-kept st o = let f : externalsOf s + 0 ≡ externalsOf s = omega arith in rw f at (elements-sliced (elementsOf s) 0 (omega arith) st o)
