@@ -38,7 +38,7 @@ use Rattle.sound.specs.Gives.{Gives, WordsOf, DataGive}
 module _ (s : List ℕ) (g : Range) where
   one-more : (v : Value) (n j : ℕ) (d : Values) → g .first + j < countOf s declarations → v .kind ≡ typeAt s (g .first + j) → inType s (typeAt s (g .first + j)) (v .word) ≡ true → DataGive s g n (suc j) d → DataGive s g (suc n) j (before v d)
   unfolding before areOf wordsIn
-  one-more v n j (given vs m) p e h k = (and-true _ _ (declared-so s (g .first + j) (eqb (v .kind)) p ∙ eq-eqb _ _ e) (let z : g .first + suc j ≡ suc (g .first + j) = omega arith in rw z at (k .0)), ap suc (k .1 .0), each)
+  one-more v n j (given vs m) p e h k = (and-true _ _ (declared-so s (g .first + j) (eqb (v .kind)) p ∙ eq-eqb _ _ e) (let z : g .first + suc j ≡ suc (g .first + j) = omega arith in rw z at (k .0)), (ap suc (k .1 .0), each))
     where
       each : (i : ℕ) → i < suc n → inType s (typeAt s (g .first + (j + i))) (datum (v .word ∷ wordsIn vs) i) ≡ true
       each zero l = let e : g .first + (j + 0) ≡ g .first + j = omega arith in rw e h
@@ -55,7 +55,7 @@ module _ (s : List ℕ) (g : Range) where
   -- data of which there are at most four, for declarations that are there
   pub data-gives : (f : ℕ → ℕ → Out) (r : Record) (n j l : ℕ) → j + n ≤ 4 → ((i : ℕ) → i < n → g .first + (j + i) < countOf s declarations) → ((i m : ℕ) → i < n → Gives s (typeAt s (g .first + (j + i))) (f (fieldOf r (4 + (j + i))) m)) → DataGive s g n j (valuesFrom f r n j l)
   unfolding valuesFrom areOf wordsIn
-  data-gives f r zero j l small there h = (refl, refl, λ i q. absurd (omega arith))
+  data-gives f r zero j l small there h = (refl, (refl, λ i q. absurd (omega arith)))
   data-gives f r (suc n) j l small there h =
       let z : j + 0 ≡ j = omega arith in
       subst (λ b. DataGive s g (suc n) j (elim b [ true ↦ nextValue (f (fieldOf r (4 + j)) l) (λ l. valuesFrom f r n (suc j) l) | false ↦ stuck ])) (sym (lt-ltb (4 + j) 8 (omega arith)))

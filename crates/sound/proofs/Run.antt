@@ -7,14 +7,14 @@ use native.Mathlib.Omega.{arith}
 use lib.Dec.{ltb, leb, eqb}
 use lib.IntN.{ℤ, pos}
 use lib.Signed.{leZ}
-use borrow.Author.Tests.{ltb-true, leb-true, eqb-true, lt-ltb, le-ltb, lt-leb, eq-eqb}
+use borrow.Author.Tests.{ltb-true, leb-true, eqb-true, lt-ltb, le-ltb, lt-leb, eq-eqb, ne-eqb}
 use Rattle.sheet.specs.declared.Record.{Record}
 use Rattle.sheet.specs.declared.Range.{Range}
 use Rattle.sheet.specs.declared.Found.{Found}
 use Rattle.sheet.specs.declared.Found.the-variants.{Present, Absent}
 use Rattle.sheet.specs.All.{_and_}
 use Rattle.sheet.specs.Names
-use Rattle.sheet.specs.Names.{declarations, names, bodies, dataOf, external, internal, chartVariables, chartBodies, root, bodyParameters, operator, Bool-type, Int-type, Component-type, Port-type, Timer-type, isClock}
+use Rattle.sheet.specs.Names.{declarations, names, bodies, dataOf, external, internal, chartVariables, chartBodies, root, bodyParameters, bodyLocals, operator, Bool-type, Int-type, Component-type, Port-type, Timer-type, isClock}
 use Rattle.sheet.specs.Sheet.{countOf, recordOf}
 use Rattle.sheet.proofs.All.{true-false, and-first, and-second, and-true, and-false, all-at}
 use Rattle.laris.specs.declared.Value.{Value}
@@ -146,15 +146,14 @@ module _ (s : List ℕ) (ok : checkOf s ≡ Passed) where
 
     -- a variable that the body has, of the type that its declaration says
     variable-there : (place n t : ℕ) → ltb n (variablesAt (x .chart) (x .body) place) ≡ true → t ≡ typeAt s (variableAt (x .chart) (x .body) place n) → hasVariable s x place n t ≡ true
-    unfolding hasVariable
+    unfolding hasVariable variablesAt
     variable-there place n t h e = and-true _ _ h (and-true _ _ (worded place h) (declared-so s _ (eqb t) (variable-declared s ok _ _ (placed .element .chart) (x .body) (placed .body) place n (ltb-true _ _ h)) ∙ eq-eqb _ _ e))
       where
         worded : (place : ℕ) → ltb n (variablesAt (x .chart) (x .body) place) ≡ true → _≡_ {A = Bool} (elim (eqb place Names.bodyVariable) [ true ↦ ltb n bodyWords | false ↦ true ]) true
-        unfolding variablesAt
         worded zero h = refl
         worded (suc zero) h = refl
-        worded (suc (suc zero)) h = lt-ltb n bodyWords (let l = ltb-true _ _ h in omega (arith, few s ok x placed))
-        worded (suc (suc (suc k))) h = refl
+        worded (suc (suc zero)) h = lt-ltb n bodyWords (let l : n < bodyParameters (x .body) .count + bodyLocals (x .body) .count = ltb-true _ _ h in omega (arith, few s ok x placed))
+        worded (suc (suc (suc k))) h = rw (ne-eqb (suc (suc (suc k))) 2 (λ q. absurd (omega arith))) refl
 
     clock-there : (n : ℕ) (p : ℕ → Bool) → ltb n (chartVariables (x .chart) .count) ≡ true → p (typeAt s (chartVariables (x .chart) .first + n)) ≡ true → isVariable s x n p ≡ true
     unfolding isVariable
@@ -191,7 +190,7 @@ module _ (s : List ℕ) (ok : checkOf s ≡ Passed) where
 
       data-end : (first c : ℕ) (g : Range) (l : ℕ) → Lower (operands first c (g .count)) → dataMatch s f g r ≡ true → g .count ≤ 4 → ((j : ℕ) → j < g .count → g .first + j < countOf s declarations) → DataGive s g (g .count) 0 (valuesFrom (evalOf s x st lo) r (g .count) 0 l)
       unfolding dataMatch
-      data-end first c g l lower d small declared = data-gives s g (evalOf s x st lo) r (g .count) 0 l small (λ i q. let z : 0 + i ≡ i = omega arith in rw z (declared i q)) (λ i m q.
+      data-end first c g l lower d small declared = data-gives s g (evalOf s x st lo) r (g .count) 0 l (omega arith) (λ i q. let z : 0 + i ≡ i = omega arith in rw z (declared i q)) (λ i m q.
           let z : 0 + i ≡ i = omega arith in
           let e = data-operand first c (g .count) i in
           rw z (operand-gives (fieldOf r (4 + i)) (subst (λ m. ltb m n and treeShape s (x .chart) (x .body) k m ≡ true) e (lower (c + i) (omega arith))) (typeAt s (g .first + i)) m (all-at (g .count) (λ j. isOf (f (fieldOf r (4 + j))) (typeAt s (g .first + j))) d i q)))
