@@ -317,8 +317,8 @@ module _ (s : List ℕ) (ok : checkOf s ≡ Passed) where
             (λ b. below-ends _ m st lo o locals (omega arith) (low 1 (omega arith)) (and-first _ _ (and-second _ _ t)))))
         act-ends loop l q g h low e =
             let t = stated _ e in
-            operand-ends s x _ Bool-type l st lo _ (operand-gives _ (low 0 (omega arith)) _ l (and-first _ _ t)) (eval-left s x st lo _ l) (λ v m k w p.
-            provided-ends s x _ st lo _ (eq-eqb _ _ k)
+            operand-ends s x _ Bool-type l st lo _ (operand-gives _ (low 0 (omega arith)) _ l (and-first _ _ t)) (eval-left s x st lo _ l) (λ v m y w p.
+            provided-ends s x _ st lo _ (eq-eqb _ _ y)
             (either-ends s x (isZero (v .word)) _ _
             (λ b. (o, locals))
             (λ b. run-ends s x m _ _ _ _ (below-ends _ m st lo o locals (omega arith) (low 1 (omega arith)) (and-second _ _ t)) (run-left s depth x _ m st lo) (λ m′ o′ k′ p′.
