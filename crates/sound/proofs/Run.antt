@@ -280,11 +280,12 @@ module _ (s : List ℕ) (ok : checkOf s ≡ Passed) where
             let i = and-second _ _ (and-second _ _ t) in
             let d = and-second _ _ i in
             let name = named l q shape d in
+            let kind : typeAt s (chartVariables (x .chart) .first + r .f1) ≡ clockOf (operator r) = eqb-true _ _ (and-first _ _ t) in
             operand-ends s x _ Int-type l st lo _ (operand-gives _ (low 0 (omega arith)) _ l (and-first _ _ (and-second _ _ t))) (eval-left s x st lo _ l) (λ period m k w p.
             record-ends s x _ (name .0) st lo _ (name .1)
             (name-ends l q shape d 2 1 m low (omega arith) _ (λ vs m′ are v p′.
-            provided-ends s x _ st lo _ (and-true _ _ (clock-there (r .f1) (eqb (clockOf (operator r))) (and-first _ _ h) (eq-eqb _ _ (sym (eqb-true _ _ (and-first _ _ t))))) (and-true _ _ (eq-eqb _ _ k) are))
-            (armed-ends (r .f1) (ltb-true _ _ (and-first _ _ h)) (operator r) g (eqb-true _ _ (and-first _ _ t)) (period .word) w (r .f3) (wordsIn vs) m′
+            provided-ends s x _ st lo _ (and-true _ _ (clock-there (r .f1) (eqb (clockOf (operator r))) (and-first _ _ h) (eq-eqb _ _ (sym kind))) (and-true _ _ (eq-eqb _ _ k) are))
+            (armed-ends (r .f1) (ltb-true _ _ (and-first _ _ h)) (operator r) g kind (period .word) w (r .f3) (wordsIn vs) m′
             (name-fits s ok (r .f3) internal (name .0) (name .1) (and-first _ _ (and-first _ _ i)) (wordsIn vs) v)
             (awaited s ok (r .f3) internal (name .0) (name .1) (and-first _ _ (and-first _ _ i)) (wordsIn vs) v (x .element) (x .binding) (x .chart) (placed .element) (and-second _ _ (and-first _ _ i)))))))
         act-ends clockAct l q g h low e =
