@@ -40,7 +40,7 @@ use Rattle.sound.specs.Gives.{Gives}
 use Rattle.sound.proofs.Locals.{few}
 use Rattle.sound.proofs.Leaves.{no-statement, not-wrong, one-type, asked, then, met, value-within, int-in, not-gives, binary-gives, literal-fine}
 
-on-present : (f : Found) (r : Record) (K : Record → Out) → f ≡ Present r → onRecord f K ≡ K r
+pub on-present : (f : Found) (r : Record) (K : Record → Out) → f ≡ Present r → onRecord f K ≡ K r
 unfolding onRecord
 on-present f r K e = rw e refl
 
@@ -55,7 +55,7 @@ module _ (s : List ℕ) (ok : checkOf s ≡ Passed) (x : Context) (placed : Plac
   unfolding isBound
   below-components = ltb-true _ _ (and-second _ _ (placed .element .bound))
 
-  few-parameters : chartParameters (x .chart) .count ≤ 7
+  pub few-parameters : chartParameters (x .chart) .count ≤ 7
   unfolding chartShape
   few-parameters = leb-true _ _ (and-first _ _ (and-second _ _ (chart-shape s ok _ _ (placed .element .chart))))
 

@@ -106,7 +106,7 @@ called-in s c r b e = go (ltb (r .f1) (chartBodies c .count)) refl e
         present Absent = false
 
 -- a body has at most four parameters
-few-parameters : (s : List ℕ) → checkOf s ≡ Passed → (b c : Record) → InChart s c b → bodyParameters b .count ≤ 4
+pub few-parameters : (s : List ℕ) → checkOf s ≡ Passed → (b c : Record) → InChart s c b → bodyParameters b .count ≤ 4
 unfolding bodyShape
 few-parameters s ok b c i = leb-true _ _ (and-first _ _ (and-second _ _ (and-second _ _ (and-second _ _ (body-shape s ok _ b (i .there))))))
 
@@ -145,7 +145,7 @@ module _ (s : List ℕ) (ok : checkOf s ≡ Passed) where
     cells j l = cell-of s st o (x .element) (x .chart) there j l
 
     -- a variable that the body has, of the type that its declaration says
-    variable-there : (place n t : ℕ) → ltb n (variablesAt (x .chart) (x .body) place) ≡ true → t ≡ typeAt s (variableAt (x .chart) (x .body) place n) → hasVariable s x place n t ≡ true
+    pub variable-there : (place n t : ℕ) → ltb n (variablesAt (x .chart) (x .body) place) ≡ true → t ≡ typeAt s (variableAt (x .chart) (x .body) place n) → hasVariable s x place n t ≡ true
     unfolding hasVariable variablesAt
     variable-there place n t h e = and-true _ _ h (and-true _ _ (worded place h) (declared-so s _ (eqb t) (variable-declared s ok _ _ (placed .element .chart) (x .body) (placed .body) place n (ltb-true _ _ h)) ∙ eq-eqb _ _ e))
       where
@@ -155,7 +155,7 @@ module _ (s : List ℕ) (ok : checkOf s ≡ Passed) where
         worded (suc (suc zero)) h = lt-ltb n bodyWords (let l : n < bodyParameters (x .body) .count + bodyLocals (x .body) .count = ltb-true _ _ h in omega (arith, few s ok x placed))
         worded (suc (suc (suc k))) h = rw (ne-eqb (suc (suc (suc k))) 2 (λ q. absurd (omega arith))) refl
 
-    clock-there : (n : ℕ) (p : ℕ → Bool) → ltb n (chartVariables (x .chart) .count) ≡ true → p (typeAt s (chartVariables (x .chart) .first + n)) ≡ true → isVariable s x n p ≡ true
+    pub clock-there : (n : ℕ) (p : ℕ → Bool) → ltb n (chartVariables (x .chart) .count) ≡ true → p (typeAt s (chartVariables (x .chart) .first + n)) ≡ true → isVariable s x n p ≡ true
     unfolding isVariable
     clock-there n p h e = and-true _ _ h (declared-so s _ p (chart-variable-declared s ok _ _ (placed .element .chart) n (ltb-true _ _ h)) ∙ e)
 
