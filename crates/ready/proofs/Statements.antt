@@ -33,8 +33,9 @@ use Rattle.laris.specs.Run as run
 use Rattle.laris.specs.Run.{World, world, thenRun, thenOperand, withRecord, provided, Values, nextValue, valuesFrom, thenValues, areOf, wordsIn, telegram, append, armed, clockSet, assigned, assignOf, nameValues, externalSendOf, internalSendOf, isVariable, armOf, clockActOf, entered, callOf, choiceOf, runIn, runOf}
 use Rattle.laris.proofs.Fields.{holds-present, number-present}
 use Rattle.laris.proofs.Types.{lower-type}
+use Rattle.equations.proofs.Left.{ValuesWithin, values-left}
 use Rattle.equations.proofs.Run.{run-none, run-visit}
-use Rattle.passed.specs.Places.{Placed}
+use Rattle.passed.specs.Places.{InChart, Placed}
 use Rattle.passed.proofs.Records.{held}
 use Rattle.passed.proofs.Declared.{name-declared, parameter-declared}
 use Rattle.sound.specs.Gives.{Gives, DataGive, Ends}
@@ -45,7 +46,7 @@ use Rattle.sound.proofs.Run.{is-statement, stated, called-in, few-parameters, p
 use Rattle.ints.specs.Work.{workOf}
 use Rattle.ready.specs.Ready.{contextAt, Ready, IsExpression, IsStatement, HasData}
 use Rattle.ready.proofs.Expressions.{cells}
-use Rattle.ready.specs.Words.{thenWord, Data, given, refused, stuck, before, thenDatum, dataFrom, thenData}
+use Rattle.ready.specs.Words.{thenWord, Data, given, refused, stuck, before, thenDatum, dataFrom, thenData, DataTold}
 
 -- a value of its type goes on as its word
 operand-word : (s : List ℕ) (o : Out) (t : ℕ) (st lo : List ℤ) (K : Value → ℕ → World) (L : ℤ → ℕ → World) → Gives s t o → ((v : Value) (m : ℕ) → v .kind ≡ t → K v m ≡ L (v .word) m) → thenOperand o st lo K ≡ thenWord (workOf o) st lo L
@@ -85,6 +86,13 @@ unfolding inWords thenValues thenData
 data-word s g n (run.given vs m) st lo K L d h = let z : g .first + 0 ≡ g .first = omega arith in h vs m (rw z at (d .0))
 data-word s g n (run.refused k m) st lo K L d h = refl
 data-word s g n run.stuck st lo K L d h = refl
+
+-- what data of their types are in words
+words-told : (s : List ℕ) (g : Range) (l : ℕ) (d : Values) → DataGive s g (g .count) 0 d → ValuesWithin l d → DataTold s g l (inWords d)
+unfolding inWords
+words-told s g l (run.given vs m) h w = (h .1, w)
+words-told s g l (run.refused k m) h w = tt
+words-told s g l run.stuck h w = tt
 
 record-is : (f : Found) (r : Record) (st lo : List ℤ) (K : Record → World) → f ≡ Present r → withRecord f st lo K ≡ K r
 unfolding withRecord
@@ -283,12 +291,18 @@ module _ (s w : List ℕ) (st lo : List ℤ) (ready : Ready s w st lo) where
       has-data = record { each = datum-is; gives = datum-gives }
 
     -- data that stand behind their declarations go on as words
-    gathered : (g : Range) → HasData s w st lo r g → g .count ≤ 4 → ((j : ℕ) → j < g .count → g .first + j < countOf s declarations) → (l : ℕ) (K : List Value → ℕ → World) (L : List ℤ → ℕ → World) → ((vs : List Value) (m : ℕ) → areOf s (g .first) vs ≡ true → K vs m ≡ L (wordsIn vs) m) → thenValues (valuesFrom (evalOf s x st lo) r (g .count) 0 l) st lo K ≡ thenData (dataFrom (evalOf s x st lo) r (g .count) 0 l) st lo L
-    gathered g has small declared l K L h =
-        data-word s g (g .count) _ st lo K L
-        (data-gives s g (evalOf s x st lo) r (g .count) 0 l (omega arith) (λ i q. let z : 0 + i ≡ i = omega arith in rw z (declared i q)) (λ i m q. let z : 0 + i ≡ i = omega arith in rw z (has .gives i m q)))
-        h
-        ∙ ap (λ d. thenData d st lo L) (from-words (evalOf s x st lo) r (g .count) 0 l (omega arith))
+    module _ (g : Range) (has : HasData s w st lo r g) (small : g .count ≤ 4) (declared : (j : ℕ) → j < g .count → g .first + j < countOf s declarations) (l : ℕ) where
+      typed-data : DataGive s g (g .count) 0 (valuesFrom (evalOf s x st lo) r (g .count) 0 l)
+      typed-data = data-gives s g (evalOf s x st lo) r (g .count) 0 l (omega arith) (λ i q. let z : 0 + i ≡ i = omega arith in rw z (declared i q)) (λ i m q. let z : 0 + i ≡ i = omega arith in rw z (has .gives i m q))
+
+      as-words : inWords (valuesFrom (evalOf s x st lo) r (g .count) 0 l) ≡ dataFrom (evalOf s x st lo) r (g .count) 0 l
+      as-words = from-words (evalOf s x st lo) r (g .count) 0 l (omega arith)
+
+      gathered : (K : List Value → ℕ → World) (L : List ℤ → ℕ → World) → ((vs : List Value) (m : ℕ) → areOf s (g .first) vs ≡ true → K vs m ≡ L (wordsIn vs) m) → thenValues (valuesFrom (evalOf s x st lo) r (g .count) 0 l) st lo K ≡ thenData (dataFrom (evalOf s x st lo) r (g .count) 0 l) st lo L
+      gathered K L h = data-word s g (g .count) _ st lo K L typed-data h ∙ ap (λ d. thenData d st lo L) as-words
+
+      data-told : DataTold s g l (dataFrom (evalOf s x st lo) r (g .count) 0 l)
+      data-told = subst (DataTold s g l) as-words (words-told s g l _ typed-data (values-left s x st lo r (g .count) 0 l))
 
     -- the name of a send or an arming
     module _ (shape : sendShape s r ≡ true) (d : dataMatch s f (nameRange s (r .f3)) r ≡ true) (first c : ℕ) (h : (j : ℕ) → j < c + nameData s r → Lower level (operandAt r (operands first c (nameData s r)) j)) where
@@ -491,12 +505,17 @@ module _ (s w : List ℕ) (st lo : List ℤ) (ready : Ready s w st lo) where
         pub call-data : HasData s w st lo r (bodyParameters b)
         call-data = has-data (bodyParameters b) call-lows (subst (λ g. dataMatch s f g r ≡ true) (parameters-of _ b e) (and-second _ _ call-types))
 
+        in-chart : InChart s (x .chart) b
+        in-chart = called-in s (x .chart) r b e
+
+        pub call-told : (l : ℕ) → DataTold s (bodyParameters b) l (dataFrom (evalOf s x st lo) r (bodyParameters b .count) 0 l)
+        call-told l = data-told (bodyParameters b) call-data (few-parameters s (ready .running .passed) b (x .chart) in-chart) (parameter-declared s (ready .running .passed) _ (x .chart) (placed .element .chart) b in-chart) l
+
         pub call-word : (depth l : ℕ) →
             runOf s depth x n (suc l) st lo ≡
             thenData (dataFrom (evalOf s x st lo) r (bodyParameters b .count) 0 l) st lo (λ zs l.
             entered s x (runOf s) depth b zs l st lo)
         unfolding runIn callOf
         call-word depth l =
-            let i = called-in s (x .chart) r b e in
             visited call q depth l ∙ record-is _ b st lo _ e
-            ∙ gathered (bodyParameters b) call-data (few-parameters s (ready .running .passed) b (x .chart) i) (parameter-declared s (ready .running .passed) _ (x .chart) (placed .element .chart) b i) l _ _ (λ vs m are. provided-is _ st lo _ are)
+            ∙ gathered (bodyParameters b) call-data (few-parameters s (ready .running .passed) b (x .chart) in-chart) (parameter-declared s (ready .running .passed) _ (x .chart) (placed .element .chart) b in-chart) l _ _ (λ vs m are. provided-is _ st lo _ are)

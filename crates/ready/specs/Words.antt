@@ -1,13 +1,15 @@
 -- How an engine goes on from words.
-use Prim.Native.Nat.{ℕ, zero, suc, _+_}
+use Prim.Native.Nat.{ℕ, zero, suc, _+_, _≤_}
 use mathlib.Core.List.{List, [], _∷_}
 use lib.IntN.{ℤ}
 use Rattle.sheet.specs.declared.Record.{Record}
+use Rattle.sheet.specs.declared.Range.{Range}
 use Rattle.laris.specs.declared.Out.{Out}
 use Rattle.laris.specs.declared.Ran.{Ran}
 use Rattle.laris.specs.declared.Ran.the-variants.{Done, Refused, Stuck}
 use Rattle.laris.specs.Fields.{fieldOf}
 use Rattle.laris.specs.Run.{World, world, datum}
+use Rattle.sound.specs.Gives.{WordsOf}
 use Rattle.ints.specs.declared.Work.{Work}
 use Rattle.ints.specs.declared.Work.the-variants as work
 use Rattle.ints.specs.Work.{workOf}
@@ -43,6 +45,12 @@ unfoldable pub thenData : Data → List ℤ → List ℤ → (List ℤ → ℕ �
 thenData (given zs l) st lo K = K zs l
 thenData (refused n l) st lo K = world (Refused n l) st lo
 thenData stuck st lo K = world Stuck st lo
+
+-- data for a range that are worked out with l steps left: words of its types
+abbrev pub DataTold : List ℕ → Range → ℕ → Data → Type 0
+DataTold s g l (given zs m) = WordsOf s g (g .count) 0 zs × (m ≤ l)
+DataTold s g l (refused n m) = Unit {0}
+DataTold s g l stuck = Unit {0}
 
 -- how working out data ends
 unfoldable pub ranData : Data → Ran
