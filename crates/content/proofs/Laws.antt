@@ -13,10 +13,10 @@ use Rattle.sheet.specs.declared.Record.{Record}
 use Rattle.sheet.specs.declared.Found.{Found}
 use Rattle.sheet.specs.declared.Found.the-variants.{Present, Absent}
 use Rattle.sheet.specs.All.{_and_, allBelow}
-use Rattle.sheet.specs.Sheet.{wordAt, offsetOf, countOf, recordAt, recordOf}
+use Rattle.sheet.specs.Sheet.{wordAt, offsetOf, recordAt, recordOf}
 use Rattle.sheet.proofs.All.{and-first}
-use Rattle.sheet.proofs.Sheet.{count-limit, record-present, present-below}
-use Rattle.laris.specs.Fields.{numberOr0, typeAt, sumBelow, externalsOf}
+use Rattle.sheet.proofs.Sheet.{record-present, present-below}
+use Rattle.laris.specs.Fields.{numberOr0, typeAt, sumBelow, componentsOf, externalsOf, elementsOf}
 use Rattle.laris.proofs.Fields.{number-present, holds-present, holds-absent, sum-more}
 use Rattle.laris.specs.Shape.{variablesBound, variablesOf}
 use Rattle.laris.specs.Values.{chartOf, firstCell}
@@ -40,16 +40,23 @@ sum-small zero f h = omega arith
 sum-small (suc n) f h = omega (arith, sum-small n f h, h n)
 
 module _ (s : List ℕ) (byte : (i : ℕ) → Fits w8 (getD s i 0)) where
+  word-small : (at : ℕ) → wordAt s at ≤ 65535
+  word-small at = omega (arith, byte at .fits, byte (at + 1) .fits)
+
+  number-of : (k n : ℕ) (r : Record) (g : Record → ℕ) → recordOf s k n ≡ Present r → g r ≡ g (recordAt s (offsetOf s k + 16 * n))
+  number-of k n r g e = sym (number-present (recordOf s k n) r g e) ∙ number-present (recordOf s k n) _ g (record-present s k n (present-below s k n r e))
+
   field-small : (k n : ℕ) (r : Record) → recordOf s k n ≡ Present r → r .f3 ≤ 65535
   unfolding recordAt
-  field-small k n r e =
-      let at = offsetOf s k + 16 * n in
-      let q : r .f3 ≡ wordAt s (at + 6) = sym (number-present (recordOf s k n) r (λ x. x .f3) e) ∙ number-present (recordOf s k n) (recordAt s at) (λ x. x .f3) (record-present s k n (present-below s k n r e)) in
-      omega (arith, q, byte (at + 6) .fits, byte (at + 6 + 1) .fits)
+  field-small k n r e = omega (arith, number-of k n r (λ x. x .f3) e, word-small (offsetOf s k + 16 * n + 6))
 
-  pub variables-small : variablesOf s ≤ 65535 * 4096
+  elements-small : elementsOf s ≤ 65535
+  unfolding elementsOf componentsOf recordAt
+  elements-small = omega (arith, number-small (recordOf s 0 0) (λ r. r .f0) 65535 (λ r e. omega (arith, number-of 0 0 r (λ x. x .f0) e, word-small (offsetOf s 0 + 16 * 0))))
+
+  pub variables-small : variablesOf s ≤ 65535 * 65535
   unfolding variablesOf variablesBound
-  variables-small = omega (arith, sum-small (countOf s 7) (variablesBound s) (λ i. number-small _ _ 65535 (λ b p. number-small _ _ 65535 (λ c q. field-small 4 (b .f0) c q))), count-limit s 7)
+  variables-small = omega (arith, sum-small (elementsOf s) (variablesBound s) (λ i. number-small _ _ 65535 (λ b p. number-small _ _ 65535 (λ c q. field-small 4 (b .f0) c q))), elements-small)
 
 -- ---- the cells of an element
 
@@ -79,7 +86,17 @@ module _ (s : List ℕ) (from i first : ℕ) (p : from ≡ externalsOf s) (q : f
   pub first-next : (c : Record) → chartOf s (from + i) ≡ Present c → first + c .f3 ≡ sumBelow (i + 1) (variablesBound s)
   first-next c h = let e : from + i - externalsOf s ≡ i = omega arith in let k : variablesBound s i ≡ c .f3 = rw e at (element-count s (from + i) c h) in sym (sum-more i (variablesBound s) ∙ omega (arith, k, q))
 
-pub cells-are : (s : List ℕ) (st : List ℤ) (from : ℕ) → from ≡ externalsOf s → allBelow (countOf s 7) (λ i. elementFits s st (from + i)) ≡ cellsFit s st
+-- element i is one of those from `from` to `to`
+pub element-of : (s : List ℕ) (from to i : ℕ) → from ≡ externalsOf s → to ≡ componentsOf s → from + i < to → i < elementsOf s
+unfolding elementsOf
+element-of s from to i p q l = omega arith
+
+-- and i is their count
+pub elements-end : (s : List ℕ) (from to i : ℕ) → from ≡ externalsOf s → to ≡ componentsOf s → i ≤ to - from → to ≤ from + i → i ≡ elementsOf s
+unfolding elementsOf
+elements-end s from to i p q l m = omega arith
+
+pub cells-are : (s : List ℕ) (st : List ℤ) (from : ℕ) → from ≡ externalsOf s → allBelow (elementsOf s) (λ i. elementFits s st (from + i)) ≡ cellsFit s st
 unfolding cellsFit
 cells-are s st from p = rw p refl
 

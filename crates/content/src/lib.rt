@@ -59,10 +59,10 @@ fn cells_fit(sheet: &[u8], directory: &[usize; 16], st: &[i32]) -> bool
     ensures { λ b. ⌜ b ≡ cellsFit (now (sheet .entry)) (now (st .entry)) ⌝ }
 {
     let from = values::externals(sheet, directory);
-    let count = reader::count_in(directory, 7);
+    let to = values::components(sheet, directory);
     let mut first: usize = 0;
     let mut i: usize = 0;
-    while i < count {
+    while from + i < to {
         let Found::Present(c) = values::chart_of(sheet, directory, from + i) else {
             return false;
         };

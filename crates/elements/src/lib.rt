@@ -21,10 +21,11 @@ pub fn variables(sheet: &[u8], directory: &[usize; 16]) -> usize
     requires { ⌜ now directory ≡ directoryOf (now sheet) ⌝ }
     ensures { λ n. ⌜ n ≡ variablesOf (now (sheet .entry)) ⌝ }
 {
-    let count = reader::count_in(directory, 7);
+    let components = fields::field_at(sheet, directory, 0, 0, 0);
+    let externals = fields::field_at(sheet, directory, 0, 0, 1);
     let mut sum: usize = 0;
     let mut i: usize = 0;
-    while i < count {
+    while externals + i < components {
         sum += variables_bound(sheet, directory, i);
         i += 1;
     }

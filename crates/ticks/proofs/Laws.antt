@@ -11,14 +11,17 @@ use lib.Signed.{mag, leZ}
 use mir.Syntax.{w32}
 use mir.Val.{ofZ, toZ}
 use borrow.Author.Tests.{ltb-true, lt-ltb, le-ltb, eq-eqb, ne-eqb}
+use Rattle.sheet.specs.Names.{names}
+use Rattle.sheet.specs.Sheet.{countOf}
 use Rattle.sheet.proofs.All.{true-false}
 use Rattle.laris.proofs.Appending.{appending}
-use Rattle.laris.specs.Values.{fits32, isZero}
-use Rattle.laris.specs.State.{placeAt, stateLength, wordOf, putWords, Changed, on, off, appended}
+use Rattle.laris.specs.Values.{fits32, isBelow, isZero}
+use Rattle.laris.specs.State.{placeAt, stateLength, wordOf, putWords, Changed, on, off, lost, appended}
 use Rattle.laris.specs.Eval.{sameWord}
-use Rattle.laris.specs.Play.{thenSlice, clockTelegram, fires, ticks}
+use Rattle.laris.specs.Play.{thenSlice, clockTelegram, ticks}
 use Rattle.states.proofs.Words.{with-length, with-before}
 use Rattle.states.proofs.Clocks.{timer-int}
+use Rattle.states.proofs.Ticks.{fires-named}
 use Rattle.queue.specs.Laid.{Laid}
 use Rattle.store.proofs.Laws.{given}
 use Rattle.queue.specs.Changed.{changedTo}
@@ -75,6 +78,7 @@ on-words a b e = ap words e
     words : Changed → List ℤ
     words (on st) = st
     words (off n) = a
+    words lost = a
 
 pub on-off : (a : List ℤ) (n : ℕ) → off n ≡ on a → ⊥
 on-off a n e = true-false {b = true} refl (ap refusal (sym e))
@@ -82,6 +86,7 @@ on-off a n e = true-false {b = true} refl (ap refusal (sym e))
     refusal : Changed → Bool
     refusal (on st) = true
     refusal (off n) = false
+    refusal lost = false
 
 -- ---- the telegram of a clock
 
@@ -95,7 +100,7 @@ module _ (s : List ℕ) (e at : ℕ) (st : List ℤ) where
   -- it lies behind the cells
   pub fired-word : length st ≡ stateLength s → Running st at → (st′ : List ℤ) → fired ≡ on st′ → (wordOf st′ at ≡ pos 1) × (length st′ ≡ length st)
   unfolding stateLength placeAt
-  fired-word whole r st′ = appending s st (clockTelegram e st at) (λ x. x ≡ on st′ → (wordOf st′ at ≡ pos 1) × (length st′ ≡ length st))
+  fired-word whole r st′ = appending s st (clockTelegram e st at) (r .head) (λ x. x ≡ on st′ → (wordOf st′ at ≡ pos 1) × (length st′ ≡ length st))
       (λ room f.
       rw (sym (on-words _ _ f)) (with-before s st (clockTelegram e st at) whole room at (let l = r .behind in omega arith) (let l = r .inside in omega arith) ∙ r .runs, with-length s st (clockTelegram e st at) whole room))
       (λ f. absurd (on-off st′ 8 f))
@@ -111,6 +116,10 @@ put-two st at z l e =
 -- ---- a tick
 
 module _ (s : List ℕ) (e at : ℕ) (st : List ℤ) where
+  -- the clock's name is one of the sheet
+  abbrev Named : Type 0
+  Named = isBelow (wordOf st (at + 3)) (countOf s names) ≡ true
+
   pub timer-last : sameWord (wordOf st (at + 1)) (pos 2147483647) ≡ true → ticks s e 4 at st ≡ off 6
   unfolding ticks
   timer-last q = rw (ticks, q) refl
@@ -123,14 +132,14 @@ module _ (s : List ℕ) (e at : ℕ) (st : List ℤ) where
   unfolding ticks
   timeout-goes q = rw (ticks, q) refl
 
-  pub timeout-fires : sameWord (wordOf st (at + 1)) (pos 1) ≡ true → ticks s e 5 at st ≡ thenSlice (appended s st (clockTelegram e st at)) (λ st′. on (putWords st′ at (replicate 8 (pos 0))))
-  unfolding ticks fires
-  timeout-fires q = rw (ticks, q) refl
+  pub timeout-fires : Named → sameWord (wordOf st (at + 1)) (pos 1) ≡ true → ticks s e 5 at st ≡ thenSlice (appended s st (clockTelegram e st at)) (λ st′. on (putWords st′ at (replicate 8 (pos 0))))
+  unfolding ticks
+  timeout-fires n q = rw (ticks, q) (fires-named s e at (replicate 8 (pos 0)) st n)
 
   pub cycler-goes : isZero (wordOf st (at + 1)) ≡ false → ticks s e 6 at st ≡ on (set st (at + 1) (wordOf st (at + 1) -ℤ pos 1))
   unfolding ticks
   cycler-goes q = rw (ticks, q) refl
 
-  pub cycler-fires : isZero (wordOf st (at + 1)) ≡ true → ticks s e 6 at st ≡ thenSlice (appended s st (clockTelegram e st at)) (λ st′. on (putWords st′ at (pos 1 ∷ (wordOf st (at + 2) -ℤ pos 1) ∷ [])))
-  unfolding ticks fires
-  cycler-fires q = rw (ticks, q) refl
+  pub cycler-fires : Named → isZero (wordOf st (at + 1)) ≡ true → ticks s e 6 at st ≡ thenSlice (appended s st (clockTelegram e st at)) (λ st′. on (putWords st′ at (pos 1 ∷ (wordOf st (at + 2) -ℤ pos 1) ∷ [])))
+  unfolding ticks
+  cycler-fires n q = rw (ticks, q) (fires-named s e at (pos 1 ∷ (wordOf st (at + 2) -ℤ pos 1) ∷ []) st n)

@@ -2,9 +2,13 @@
 use laris::Telegram;
 ghost use mathlib.Core.Path.{_≡_};
 ghost use mathlib.Core.List.{List};
+ghost use mathlib.Core.Bool.{true};
 ghost use Prim.Native.Nat.{ℕ, _+_, _<_};
 ghost use lib.ListN.{length};
-ghost use Rattle.laris.specs.State.{stateLength, appended};
+ghost use Rattle.sheet.specs.Names.{names};
+ghost use Rattle.sheet.specs.Sheet.{countOf};
+ghost use Rattle.laris.specs.Values.{isBelow};
+ghost use Rattle.laris.specs.State.{stateLength, wordOf, appended};
 ghost use Rattle.laris.specs.Play.{clockTelegram, ticks};
 ghost use Rattle.queue.specs.Changed.{changedTo};
 ghost use Rattle.ticks.specs.Running.{Running};
@@ -43,7 +47,7 @@ fn fire(st: &mut [i32], e: usize, at: usize) -> u8
 // "at 1 its telegram is appended and it stops, otherwise minus 1"
 pub fn tick_timeout(st: &mut [i32], e: usize, at: usize) -> u8
     requires { ⌜ Running (now st) at × (e < 64) ⌝ }
-    ensures { λ n. ⌜ ((s : List ℕ) → length (now (st .entry)) ≡ stateLength s → ticks s e 5 at (now (st .entry)) ≡ changedTo n (now (st .exit))) ⌝ }
+    ensures { λ n. ⌜ ((s : List ℕ) → length (now (st .entry)) ≡ stateLength s → isBelow (wordOf (now (st .entry)) (at + 3)) (countOf s names) ≡ true → ticks s e 5 at (now (st .entry)) ≡ changedTo n (now (st .exit))) ⌝ }
 {
     let value = st[at + 1];
     if value != 1 {
@@ -61,7 +65,7 @@ pub fn tick_timeout(st: &mut [i32], e: usize, at: usize) -> u8
 // "at 0 its telegram is appended and value becomes period − 1, otherwise minus 1"
 pub fn tick_cycler(st: &mut [i32], e: usize, at: usize) -> u8
     requires { ⌜ Running (now st) at × (e < 64) ⌝ }
-    ensures { λ n. ⌜ ((s : List ℕ) → length (now (st .entry)) ≡ stateLength s → ticks s e 6 at (now (st .entry)) ≡ changedTo n (now (st .exit))) ⌝ }
+    ensures { λ n. ⌜ ((s : List ℕ) → length (now (st .entry)) ≡ stateLength s → isBelow (wordOf (now (st .entry)) (at + 3)) (countOf s names) ≡ true → ticks s e 6 at (now (st .entry)) ≡ changedTo n (now (st .exit))) ⌝ }
 {
     let value = st[at + 1];
     if value != 0 {

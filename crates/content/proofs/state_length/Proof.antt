@@ -7,7 +7,7 @@ use Rattle.content.proofs.Laws.{variables-small}
 use Rattle.content.proofs.state_length.Statement.{statement}
 use Rattle.content.proofs.state_length.Tie as tie
 
-small : (c : tie.After-variables) → c .variables .result ≤ 65535 * 4096
+small : (c : tie.After-variables) → c .variables .result ≤ 65535 * 65535
 small c = omega (arith, c .variables .ensures, variables-small (c .before .before .args .sheet .now) (c .before .shared-slice-known .given))
 
 variables-requires : tie.Need-variables-requires

@@ -15,7 +15,7 @@ same-length c = search needs
 
 returns : tie.Need-returns
 unfolding changedTo
-returns c = (λ s e. sym (appended-full s _ _ (let q = c .before .waiting-count .ensures in let h = c .if1 .taken in omega arith)), λ n. refl)
+returns c = (λ s e. sym (appended-full s _ _ (c .before .before .before .pre .head) (let q = c .before .waiting-count .ensures in let h = c .if1 .taken in omega arith)), λ n. refl)
 
 put-last-requires : tie.Need-put-last-requires
 put-last-requires c κs = search needs
@@ -25,7 +25,7 @@ same-length-2 c = search needs
 
 returns-2 : tie.Need-returns-2
 unfolding changedTo
-returns-2 c = (λ s e. sym (ap on (c .before .put-last .ensures s e) ∙ appended-room s _ _ (let q = c .before .before .before .before .waiting-count .ensures in let h = c .before .before .before .if1 .left in omega arith)), λ n. absurd (n refl))
+returns-2 c = (λ s e. sym (ap on (c .before .put-last .ensures s e) ∙ appended-room s _ _ (c .before .before .before .before .before .before .pre .head) (let q = c .before .before .before .before .waiting-count .ensures in let h = c .before .before .before .if1 .left in omega arith)), λ n. absurd (n refl))
 
 pub append-spec : {M : Type 1} → statement M
 append-spec =

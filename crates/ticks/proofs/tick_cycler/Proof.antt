@@ -39,7 +39,7 @@ same-length c = search needs
 
 returns : tie.Need-returns
 unfolding changedTo wordOf
-returns c = λ s e. let w = getD (c .before .before .args .st .now) (c .before .before .args .at + 1) (pos 0) in cycler-goes s _ _ _ (bits-some w (c .before .value .given) (c .if1 .taken)) ∙ ap (λ (z : ℤ). on (set (c .before .before .args .st .now) (c .before .before .args .at + 1) z)) (sym (one-less w (c .before .value .given) (c .before .before .pre .0 .value)))
+returns c = λ s e n. let w = getD (c .before .before .args .st .now) (c .before .before .args .at + 1) (pos 0) in cycler-goes s _ _ _ (bits-some w (c .before .value .given) (c .if1 .taken)) ∙ ap (λ (z : ℤ). on (set (c .before .before .args .st .now) (c .before .before .args .at + 1) z)) (sym (one-less w (c .before .value .given) (c .before .before .pre .0 .value)))
 
 add-period : tie.Need-add-period
 add-period c = search needs
@@ -62,7 +62,7 @@ same-length-2 c = search needs
 
 returns-2 : tie.Need-returns-2
 unfolding wordOf
-returns-2 c = λ s e. cycler-fires s _ _ _ (bits-zero (getD (c .before .before .before .before .before .before .before .args .st .now) (c .before .before .before .before .before .before .before .args .at + 1) (pos 0)) (c .before .before .before .before .before .before .value .given) (c .before .before .before .before .before .if1 .left)) ∙ then-refused _ _ _ _ _ (c .before .before .fire .ensures s e) (c .if2 .taken)
+returns-2 c = λ s e n. cycler-fires s _ _ _ n (bits-zero (getD (c .before .before .before .before .before .before .before .args .st .now) (c .before .before .before .before .before .before .before .args .at + 1) (pos 0)) (c .before .before .before .before .before .before .value .given) (c .before .before .before .before .before .if1 .left)) ∙ then-refused _ _ _ _ _ (c .before .before .fire .ensures s e) (c .if2 .taken)
 
 add-set-word : tie.Need-add-set-word
 add-set-word c = search needs
@@ -75,10 +75,10 @@ same-length-3 c = search needs
 
 returns-3 : tie.Need-returns-3
 unfolding changedTo wordOf
-returns-3 c = λ s e.
+returns-3 c = λ s e n.
     let w = getD (c .before .before .before .before .before .before .before .before .before .before .args .st .now) (c .before .before .before .before .before .before .before .before .before .before .args .at + 2) (pos 0) in
     let f = fired-word s _ _ _ e (c .before .before .before .before .before .before .before .before .before .before .pre .0) _ (goes-on _ _ _ (c .before .before .before .before .before .fire .ensures s e) (c .before .before .before .if2 .left)) in
-    cycler-fires s _ _ _ (bits-zero (getD (c .before .before .before .before .before .before .before .before .before .before .args .st .now) (c .before .before .before .before .before .before .before .before .before .before .args .at + 1) (pos 0)) (c .before .before .before .before .before .before .before .before .before .value .given) (c .before .before .before .before .before .before .before .before .if1 .left))
+    cycler-fires s _ _ _ n (bits-zero (getD (c .before .before .before .before .before .before .before .before .before .before .args .st .now) (c .before .before .before .before .before .before .before .before .before .before .args .at + 1) (pos 0)) (c .before .before .before .before .before .before .before .before .before .value .given) (c .before .before .before .before .before .before .before .before .if1 .left))
     ∙ then-done _ _ _ _ (c .before .before .before .before .before .fire .ensures s e) (c .before .before .before .if2 .left)
     ∙ ap on (put-two _ _ (w -ℤ pos 1) (let l = c .before .before .before .before .before .before .before .before .before .before .pre .0 .inside in let m = f .1 in omega arith) (f .0))
     ∙ ap (λ (z : ℤ). on (set (c .before .before .before .before .before .fire .last .0) (c .before .before .before .before .before .before .before .before .before .before .args .at + 1) z)) (sym (one-less w (c .before .before .before .before .before .before .before .period .given) (c .before .before .before .before .before .before .before .before .before .before .pre .0 .period)))

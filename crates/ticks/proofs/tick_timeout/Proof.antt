@@ -39,7 +39,7 @@ same-length c = search needs
 
 returns : tie.Need-returns
 unfolding changedTo wordOf
-returns c = λ s e. let w = getD (c .before .before .args .st .now) (c .before .before .args .at + 1) (pos 0) in let q = bits-differ {z = w} {w = pos 1} (record { sfits = c .before .value .given }) (record { sfits = omega arith }) (c .if1 .taken) in timeout-goes s _ _ _ q ∙ ap (λ (z : ℤ). on (set (c .before .before .args .st .now) (c .before .before .args .at + 1) z)) (sym (one-less w (c .before .value .given) (c .before .before .pre .0 .value)))
+returns c = λ s e n. let w = getD (c .before .before .args .st .now) (c .before .before .args .at + 1) (pos 0) in let q = bits-differ {z = w} {w = pos 1} (record { sfits = c .before .value .given }) (record { sfits = omega arith }) (c .if1 .taken) in timeout-goes s _ _ _ q ∙ ap (λ (z : ℤ). on (set (c .before .before .args .st .now) (c .before .before .args .at + 1) z)) (sym (one-less w (c .before .value .given) (c .before .before .pre .0 .value)))
 
 fire-requires : tie.Need-fire-requires
 fire-requires c κs = search needs
@@ -49,7 +49,7 @@ same-length-2 c = search needs
 
 returns-2 : tie.Need-returns-2
 unfolding wordOf
-returns-2 c = λ s e. timeout-fires s _ _ _ (bits-same {z = getD (c .before .before .before .before .before .before .args .st .now) (c .before .before .before .before .before .before .args .at + 1) (pos 0)} {w = pos 1} (record { sfits = c .before .before .before .before .before .value .given }) (record { sfits = omega arith }) (c .before .before .before .before .if1 .left)) ∙ then-refused _ _ _ _ _ (c .before .before .fire .ensures s e) (c .if2 .taken)
+returns-2 c = λ s e n. timeout-fires s _ _ _ n (bits-same {z = getD (c .before .before .before .before .before .before .args .st .now) (c .before .before .before .before .before .before .args .at + 1) (pos 0)} {w = pos 1} (record { sfits = c .before .before .before .before .before .value .given }) (record { sfits = omega arith }) (c .before .before .before .before .if1 .left)) ∙ then-refused _ _ _ _ _ (c .before .before .fire .ensures s e) (c .if2 .taken)
 
 set-clock-requires : tie.Need-set-clock-requires
 set-clock-requires c κs = search needs
@@ -59,7 +59,7 @@ same-length-3 c = search needs
 
 returns-3 : tie.Need-returns-3
 unfolding changedTo wordOf
-returns-3 c = λ s e. timeout-fires s _ _ _ (bits-same {z = getD (c .before .before .before .before .before .before .before .before .before .args .st .now) (c .before .before .before .before .before .before .before .before .before .args .at + 1) (pos 0)} {w = pos 1} (record { sfits = c .before .before .before .before .before .before .before .before .value .given }) (record { sfits = omega arith }) (c .before .before .before .before .before .before .before .if1 .left)) ∙ then-done _ _ _ _ (c .before .before .before .before .before .fire .ensures s e) (c .before .before .before .if2 .left) ∙ ap on (sym (c .before .set-clock .ensures))
+returns-3 c = λ s e n. timeout-fires s _ _ _ n (bits-same {z = getD (c .before .before .before .before .before .before .before .before .before .args .st .now) (c .before .before .before .before .before .before .before .before .before .args .at + 1) (pos 0)} {w = pos 1} (record { sfits = c .before .before .before .before .before .before .before .before .value .given }) (record { sfits = omega arith }) (c .before .before .before .before .before .before .before .if1 .left)) ∙ then-done _ _ _ _ (c .before .before .before .before .before .fire .ensures s e) (c .before .before .before .if2 .left) ∙ ap on (sym (c .before .set-clock .ensures))
 
 pub tick-timeout-spec : {M : Type 1} → statement M
 tick-timeout-spec =
