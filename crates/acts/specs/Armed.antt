@@ -9,7 +9,8 @@ use Rattle.sheet.specs.declared.Record.{Record}
 use Rattle.sheet.specs.Names.{dataOf, operator, Timeout-type}
 use Rattle.laris.specs.Types.{clockOf}
 use Rattle.laris.specs.State.{cellAt}
-use Rattle.laris.specs.Run.{World, thenData, armed}
+use Rattle.laris.specs.Run.{World, armed}
+use Rattle.ready.specs.Words.{thenData}
 use Rattle.sending.specs.Sent.{dataAt}
 
 -- "Arming a Timeout sets its value to the period, a Cycler's to 0", as the machine says it

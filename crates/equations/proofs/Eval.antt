@@ -1,49 +1,74 @@
 -- The recursion equation of `evalOf`: enough fuel is enough.
-use Prim.Native.Nat.{ℕ, zero, suc, _<_}
-use mathlib.Core.Path.{_≡_, refl, ap, fun-ext}
+use Prim.Native.Nat.{ℕ, zero, suc, _≤_, _<_}
+use mathlib.Core.Path.{_≡_, refl, ap, _∙_}
 use mathlib.Core.List.{List}
-use mathlib.Core.Bool.{Bool, true, false}
 use native.Mathlib.Omega.{arith}
-use lib.Dec.{ltb}
 use lib.IntN.{ℤ}
-use borrow.Author.Tests.{ltb-true, lt-ltb}
+use Rattle.sheet.specs.declared.Record.{Record}
+use Rattle.sheet.specs.declared.Found.{Found}
+use Rattle.sheet.specs.declared.Found.the-variants.{Present, Absent}
 use Rattle.sheet.specs.Names.{nodes, operator}
 use Rattle.sheet.specs.Sheet.{recordOf}
+use Rattle.laris.specs.declared.Value.{Value}
 use Rattle.laris.specs.declared.Out.{Out}
-use Rattle.laris.specs.declared.Out.the-variants.{Refused, Stuck}
-use Rattle.laris.specs.Forms.{formOf}
-use Rattle.laris.specs.Eval.{Context, onRecord, evalIn, evalStep, lowerEval, evalF, evalOf}
+use Rattle.laris.specs.declared.Out.the-variants.{Val, Refused, Stuck}
+use Rattle.laris.specs.Forms.{Form, literal, read, unary, binary, clock, skip, assign, externalSend, internalSend, arm, clockAct, call, choice, loop, sequence, unknown, formOf}
+use Rattle.laris.specs.Eval.{Context, andThen, onRecord, notVal, binaryVal, evalIn, evalStep, evalF, evalOf}
+use Rattle.equations.proofs.Left.{Within, evalF-in}
 
--- what works out the operands matters at lower nodes only
-lower-same : (n : ℕ) (f g : ℕ → ℕ → Out) → ((m : ℕ) → m < n → (l : ℕ) → f m l ≡ g m l) → lowerEval n f ≡ lowerEval n g
-unfolding lowerEval
-lower-same n f g h = fun-ext (λ m. fun-ext (λ l. go m l (ltb m n) (ltb-true m n)))
-  where
-    go : (m l : ℕ) (t : Bool) → (t ≡ true → m < n) → _≡_ {A = Out} (elim t [ true ↦ f m l | false ↦ Stuck ]) (elim t [ true ↦ g m l | false ↦ Stuck ])
-    go m l true q = h m (q refl) l
-    go m l false q = refl
+-- what follows a value matters with fewer steps left only
+same-then : (o : Out) (K L : Value → ℕ → Out) (l : ℕ) → Within l o → ((v : Value) (m : ℕ) → m < l → K v m ≡ L v m) → andThen o K ≡ andThen o L
+unfolding andThen
+same-then (Val v m) K L l p h = h v m p
+same-then (Refused k m) K L l p h = refl
+same-then Stuck K L l p h = refl
 
-pub lower-eval : (n m : ℕ) (f : ℕ → ℕ → Out) (l : ℕ) → m < n → lowerEval n f m l ≡ f m l
-unfolding lowerEval
-lower-eval n m f l h = rw (lowerEval, lt-ltb m n h) refl
+same-record : (f : Found) (K L : Record → Out) → ((r : Record) → K r ≡ L r) → onRecord f K ≡ onRecord f L
+unfolding onRecord
+same-record (Present r) K L h = h r
+same-record Absent K L h = refl
 
 module _ (s : List ℕ) (x : Context) (st lo : List ℤ) where
-  enough : (k k′ n : ℕ) → n < k → n < k′ → (l : ℕ) → evalF s x st lo k n l ≡ evalF s x st lo k′ n l
-  unfolding evalF
-  enough zero k′ n h h′ l = absurd (omega arith)
-  enough (suc k) zero n h h′ l = absurd (omega arith)
-  enough (suc k) (suc k′) n h h′ l = ap (λ f. evalStep s x st lo f n l) (lower-same n (evalF s x st lo k) (evalF s x st lo k′) (λ m q l. enough k k′ m (omega arith) (omega arith) l))
+  -- what works out the operands of a node visited with l + 1 steps left matters with at most l
+  module _ (f g : ℕ → ℕ → Out) (l : ℕ) (bound : (n m : ℕ) → Within m (f n m)) (h : (n m : ℕ) → m ≤ l → f n m ≡ g n m) where
+    same-act : (r : Record) (form : Form) → evalIn s x st lo f r l form ≡ evalIn s x st lo g r l form
+    unfolding evalIn
+    same-act r literal = refl
+    same-act r read = refl
+    same-act r unary = ap (λ o. andThen o notVal) (h (r .f1) l (omega arith))
+    same-act r binary =
+        same-then (f (r .f1) l) _ _ l (bound (r .f1) l) (λ a m q. ap (λ o. andThen o (λ b l. binaryVal (operator r) a b l)) (h (r .f2) m (omega arith)))
+        ∙ ap (λ o. andThen o (λ a l. andThen (g (r .f2) l) (λ b l. binaryVal (operator r) a b l))) (h (r .f1) l (omega arith))
+    same-act r clock = refl
+    same-act r skip = refl
+    same-act r assign = refl
+    same-act r externalSend = refl
+    same-act r internalSend = refl
+    same-act r arm = refl
+    same-act r clockAct = refl
+    same-act r call = refl
+    same-act r choice = refl
+    same-act r loop = refl
+    same-act r sequence = refl
+    same-act r unknown = refl
 
-  eval-step : (n l : ℕ) → evalOf s x st lo n l ≡ evalStep s x st lo (lowerEval n (evalOf s x st lo)) n l
-  unfolding evalF evalOf
-  eval-step n l = ap (λ f. evalStep s x st lo f n l) (lower-same n (evalF s x st lo n) (evalOf s x st lo) (λ m q l. enough n (suc m) m q (omega arith) l))
+    same-visit : (n : ℕ) → evalStep s x st lo f n (suc l) ≡ evalStep s x st lo g n (suc l)
+    unfolding evalStep
+    same-visit n = same-record (recordOf s nodes n) _ _ (λ r. same-act r (formOf (operator r)))
+
+  enough : (k k′ n l : ℕ) → l < k → l < k′ → evalF s x st lo k n l ≡ evalF s x st lo k′ n l
+  unfolding evalF evalStep
+  enough zero k′ n l h h′ = absurd (omega arith)
+  enough (suc k) zero n l h h′ = absurd (omega arith)
+  enough (suc k) (suc k′) n zero h h′ = refl
+  enough (suc k) (suc k′) n (suc l) h h′ = same-visit (evalF s x st lo k) (evalF s x st lo k′) l (evalF-in s x st lo k) (λ n m q. enough k k′ n m (omega arith) (omega arith)) n
 
   -- "a visit that would pass [the limit] is refused"
   pub eval-none : (n : ℕ) → evalOf s x st lo n 0 ≡ Refused 10 0
-  unfolding evalStep
-  eval-none n = eval-step n 0
+  unfolding evalOf evalF evalStep
+  eval-none n = refl
 
   -- "Visiting a node adds one step, then its operands go in field order, then its own act."
-  pub eval-visit : (n l : ℕ) → evalOf s x st lo n (suc l) ≡ onRecord (recordOf s nodes n) (λ r. evalIn s x st lo (lowerEval n (evalOf s x st lo)) r l (formOf (operator r)))
-  unfolding evalStep
-  eval-visit n l = eval-step n (suc l)
+  pub eval-visit : (n l : ℕ) → evalOf s x st lo n (suc l) ≡ onRecord (recordOf s nodes n) (λ r. evalIn s x st lo (evalOf s x st lo) r l (formOf (operator r)))
+  unfolding evalOf evalF evalStep
+  eval-visit n l = same-visit (evalF s x st lo (suc l)) (evalOf s x st lo) l (evalF-in s x st lo (suc l)) (λ n m q. enough (suc l) (suc m) n m (omega arith) (omega arith)) n

@@ -8,11 +8,10 @@ use lib.Dec.{ltb, eqb}
 use lib.IntN.{ℤ, pos, negsuc, _+ℤ_, _-ℤ_, _*ℤ_}
 use lib.Signed.{leZ}
 use Rattle.sheet.specs.declared.Record.{Record}
-use Rattle.sheet.specs.declared.Range.{Range}
 use Rattle.sheet.specs.declared.Found.{Found}
 use Rattle.sheet.specs.declared.Found.the-variants.{Present, Absent}
 use Rattle.sheet.specs.All.{_and_}
-use Rattle.sheet.specs.Names.{names, nodes, dataOf, chartVariables, bodyParameters, root, operator, Bool-type, Int-type, Timer-type, isClock, isLiteral, chartParameter, chartVariable, bodyVariable}
+use Rattle.sheet.specs.Names.{declarations, names, nodes, dataOf, chartVariables, bodyParameters, root, operator, Bool-type, Int-type, Component-type, Port-type, Timer-type, isClock, isLiteral, chartParameter, chartVariable, bodyVariable}
 use Rattle.sheet.specs.Sheet.{recordOf}
 use Rattle.laris.specs.declared.Value.{Value}
 use Rattle.laris.specs.declared.Out.{Out}
@@ -20,14 +19,14 @@ use Rattle.laris.specs.declared.Out.the-variants.{Val, Refused, Stuck}
 use Rattle.laris.specs.declared.Ran.{Ran}
 use Rattle.laris.specs.declared.Ran.the-variants as ran
 use Rattle.laris.specs.declared.Telegram.{Telegram}
-use Rattle.laris.specs.Fields.{fieldOf, typeAt}
+use Rattle.laris.specs.Fields.{isField, fieldOf, declaredSo}
 use Rattle.laris.specs.Forms.{Form, literal, read, unary, binary, clock, skip, assign, externalSend, internalSend, arm, clockAct, call, choice, loop, sequence, unknown, formOf, calledBody}
 use Rattle.laris.specs.Shape.{variablesAt, constantOf}
-use Rattle.laris.specs.Types.{clockOf}
+use Rattle.laris.specs.Types.{variableAt, clockOf}
 use Rattle.laris.specs.Values.{fits32, isZero, inType}
-use Rattle.laris.specs.State.{Changed, on, off, appended}
-use Rattle.laris.specs.Eval.{Context, andThen, needs, onRecord, intOut, quotient, remainder, dividing, notVal, intVal, binaryVal, literalValue, within, ofType, parameterVal, readAs, readVal, clockVal, evalIn, evalStep, lowerEval, evalF, evalOf}
-use Rattle.laris.specs.Run.{World, goOn, thenValue, withRecord, provided, Data, given, refused, stuck, before, nextDatum, dataFrom, thenData, telegram, localsOf, append, armed, clockSet, Runs, fewer, inBody, assigned, assignOf, nameDataOf, externalSendOf, internalSendOf, cellType, isVariable, armOf, clockActOf, entered, callOf, choiceOf, runIn, runStep, runF, runOf, world, openCalls}
+use Rattle.laris.specs.State.{Changed, on, off, lost, appended}
+use Rattle.laris.specs.Eval.{Context, andThen, needs, onRecord, intOut, quotient, remainder, dividing, notVal, intVal, binaryVal, literalValue, within, ofType, bodyWords, parameterVal, readAs, readVal, clockVal, evalIn, evalStep, evalF, evalOf}
+use Rattle.laris.specs.Run.{World, goOn, thenOperand, withRecord, provided, Values, given, refused, stuck, before, nextValue, valuesFrom, thenValues, areOf, wordsIn, localsOf, localsThere, append, armed, clockSet, Runs, fewer, inBody, assigned, hasVariable, assignOf, nameValues, externalSendOf, internalSendOf, isVariable, armOf, clockActOf, entered, callOf, choiceOf, runIn, runStep, runF, runOf, world, openCalls}
 
 -- ---- expressions
 
@@ -101,21 +100,23 @@ within-in s v l = needs-in (inType s (v .kind) (v .word)) _ (suc l) (le-refl (su
 parameter-in : (s : List ℕ) (x : Context) (n t l : ℕ) → Within (suc l) (parameterVal s x n t l)
 unfolding parameterVal ofType
 parameter-in s x n t l =
-    record-in (recordOf s nodes (constantOf (x .binding) n)) _ (suc l) (λ r.
-    needs-in (isLiteral (operator r)) _ (suc l) (needs-in (eqb (literalValue (x .element) r .kind) t) _ (suc l) (within-in s (literalValue (x .element) r) l)))
+    needs-in (isField (1 + n)) _ (suc l)
+    (record-in (recordOf s nodes (constantOf (x .binding) n)) _ (suc l) (λ r.
+    needs-in (isLiteral (operator r)) _ (suc l) (needs-in (eqb (literalValue (x .element) r .kind) t) _ (suc l) (within-in s (literalValue (x .element) r) l))))
 
 module _ (s : List ℕ) (x : Context) (st lo : List ℤ) where
   read-in : (place n l : ℕ) → Within (suc l) (readVal s x st lo place n l)
   unfolding readVal readAs
   read-in place n l =
       needs-in (ltb n (variablesAt (x .chart) (x .body) place)) _ (suc l)
-      (either (eqb place chartParameter) _ _ (suc l) (parameter-in s x n _ l)
-      (either (eqb place chartVariable) _ _ (suc l) (within-in s _ l) (within-in s _ l)))
+      (record-in (recordOf s declarations (variableAt (x .chart) (x .body) place n)) _ (suc l) (λ r.
+      either (eqb place chartParameter) _ _ (suc l) (parameter-in s x n _ l)
+      (either (eqb place chartVariable) _ _ (suc l) (within-in s _ l) (needs-in (ltb n bodyWords) _ (suc l) (within-in s _ l)))))
 
   clock-in : (op n l : ℕ) → Within (suc l) (clockVal s x st lo op n l)
   unfolding clockVal
   clock-in op n l =
-      needs-in (ltb n (chartVariables (x .chart) .count) and isClock (typeAt s (chartVariables (x .chart) .first + n))) _ (suc l)
+      needs-in (ltb n (chartVariables (x .chart) .count) and declaredSo s (chartVariables (x .chart) .first + n) isClock) _ (suc l)
       (either (eqb op 17) _ _ (suc l) (within-in s _ l) (within-in s _ l))
 
   module _ (f : ℕ → ℕ → Out) (h : (n l : ℕ) → Within l (f n l)) where
@@ -145,49 +146,45 @@ module _ (s : List ℕ) (x : Context) (st lo : List ℤ) where
     evalStep-in n zero = le-refl 0
     evalStep-in n (suc l) = record-in (recordOf s nodes n) _ (suc l) (λ r. evalIn-in r l (formOf (operator r)))
 
-  lower-in : (n : ℕ) (f : ℕ → ℕ → Out) → ((m l : ℕ) → Within l (f m l)) → (m l : ℕ) → Within l (lowerEval n f m l)
-  unfolding lowerEval
-  lower-in n f h m l = either (ltb m n) _ _ l (h m l) tt
-
-  evalF-in : (k n l : ℕ) → Within l (evalF s x st lo k n l)
+  pub evalF-in : (k n l : ℕ) → Within l (evalF s x st lo k n l)
   unfolding evalF
   evalF-in zero n l = tt
-  evalF-in (suc k) n l = evalStep-in (lowerEval n (evalF s x st lo k)) (lower-in n (evalF s x st lo k) (evalF-in k)) n l
+  evalF-in (suc k) n l = evalStep-in (evalF s x st lo k) (evalF-in k) n l
 
   pub eval-left : (n l : ℕ) → Within l (evalOf s x st lo n l)
   unfolding evalOf
-  eval-left n l = evalF-in (suc n) n l
+  eval-left n l = evalF-in (suc l) n l
 
 -- ---- data
 
-abbrev pub DataWithin : ℕ → Data → Type 0
-DataWithin l (given zs m) = m ≤ l
-DataWithin l (refused k m) = m ≤ l
-DataWithin l stuck = Unit {0}
+abbrev pub ValuesWithin : ℕ → Values → Type 0
+ValuesWithin l (given vs m) = m ≤ l
+ValuesWithin l (refused k m) = m ≤ l
+ValuesWithin l stuck = Unit {0}
 
-eitherData : (b : Bool) (d d′ : Data) (l : ℕ) → DataWithin l d → DataWithin l d′ → DataWithin l (elim b [ true ↦ d | false ↦ d′ ])
-eitherData true d d′ l p q = p
-eitherData false d d′ l p q = q
+eitherValues : (b : Bool) (d d′ : Values) (l : ℕ) → ValuesWithin l d → ValuesWithin l d′ → ValuesWithin l (elim b [ true ↦ d | false ↦ d′ ])
+eitherValues true d d′ l p q = p
+eitherValues false d d′ l p q = q
 
-before-in : (z : ℤ) (d : Data) {m l : ℕ} → DataWithin m d → m ≤ l → DataWithin l (before z d)
+before-in : (v : Value) (d : Values) {m l : ℕ} → ValuesWithin m d → m ≤ l → ValuesWithin l (before v d)
 unfolding before
-before-in z (given zs m′) p h = le-trans p h
-before-in z (refused k m′) p h = le-trans p h
-before-in z stuck p h = tt
+before-in v (given vs m′) p h = le-trans p h
+before-in v (refused k m′) p h = le-trans p h
+before-in v stuck p h = tt
 
-nextDatum-in : (o : Out) (t : ℕ) (K : ℕ → Data) (l : ℕ) → Within l o → ((m : ℕ) → DataWithin m (K m)) → DataWithin l (nextDatum o t K)
-unfolding nextDatum
-nextDatum-in (Val v m) t K l p q = eitherData (eqb (v .kind) t) _ _ l (before-in (v .word) (K m) (q m) (omega arith)) tt
-nextDatum-in (Refused k m) t K l p q = p
-nextDatum-in Stuck t K l p q = tt
+nextValue-in : (o : Out) (K : ℕ → Values) (l : ℕ) → Within l o → ((m : ℕ) → ValuesWithin m (K m)) → ValuesWithin l (nextValue o K)
+unfolding nextValue
+nextValue-in (Val v m) K l p q = before-in v (K m) (q m) (omega arith)
+nextValue-in (Refused k m) K l p q = p
+nextValue-in Stuck K l p q = tt
 
-dataFrom-in : (s : List ℕ) (f : ℕ → ℕ → Out) → ((n l : ℕ) → Within l (f n l)) → (g : Range) (r : Record) (n j l : ℕ) → DataWithin l (dataFrom s f g r n j l)
-unfolding dataFrom
-dataFrom-in s f h g r zero j l = le-refl l
-dataFrom-in s f h g r (suc n) j l = nextDatum-in (f (fieldOf r (4 + j)) l) _ _ l (h (fieldOf r (4 + j)) l) (λ m. dataFrom-in s f h g r n (suc j) m)
+valuesFrom-in : (f : ℕ → ℕ → Out) → ((n l : ℕ) → Within l (f n l)) → (r : Record) (n j l : ℕ) → ValuesWithin l (valuesFrom f r n j l)
+unfolding valuesFrom
+valuesFrom-in f h r zero j l = le-refl l
+valuesFrom-in f h r (suc n) j l = eitherValues (isField (4 + j)) _ _ l (nextValue-in (f (fieldOf r (4 + j)) l) _ l (h (fieldOf r (4 + j)) l) (λ m. valuesFrom-in f h r n (suc j) m)) tt
 
-pub data-left : (s : List ℕ) (x : Context) (st lo : List ℤ) (g : Range) (r : Record) (n j l : ℕ) → DataWithin l (dataFrom s (evalOf s x st lo) g r n j l)
-data-left s x st lo g r n j l = dataFrom-in s (evalOf s x st lo) (eval-left s x st lo) g r n j l
+pub values-left : (s : List ℕ) (x : Context) (st lo : List ℤ) (r : Record) (n j l : ℕ) → ValuesWithin l (valuesFrom (evalOf s x st lo) r n j l)
+values-left s x st lo r n j l = valuesFrom-in (evalOf s x st lo) (eval-left s x st lo) r n j l
 
 -- ---- statements
 
@@ -213,17 +210,17 @@ goOn-in (ran.Refused k m) st lo K l p q = p
 goOn-in ran.Stuck st lo K l p q = tt
 
 -- what follows a value is visited with m steps left at most l
-value-in : (o : Out) (t : ℕ) (st lo : List ℤ) (K : ℤ → ℕ → World) (l : ℕ) → Within l o → ((z : ℤ) (m : ℕ) → m < l → RanWithin l (K z m .ran)) → RanWithin l (thenValue o t st lo K .ran)
-unfolding thenValue
-value-in (Val v m) t st lo K l p q = eitherRan (eqb (v .kind) t) _ _ l (q (v .word) m p) tt
-value-in (Refused k m) t st lo K l p q = p
-value-in Stuck t st lo K l p q = tt
+operand-in : (o : Out) (st lo : List ℤ) (K : Value → ℕ → World) (l : ℕ) → Within l o → ((v : Value) (m : ℕ) → m < l → RanWithin l (K v m .ran)) → RanWithin l (thenOperand o st lo K .ran)
+unfolding thenOperand
+operand-in (Val v m) st lo K l p q = q v m p
+operand-in (Refused k m) st lo K l p q = p
+operand-in Stuck st lo K l p q = tt
 
-thenData-in : (d : Data) (st lo : List ℤ) (K : List ℤ → ℕ → World) (l : ℕ) {l′ : ℕ} → DataWithin l d → l ≤ l′ → ((zs : List ℤ) (m : ℕ) → m ≤ l → RanWithin l′ (K zs m .ran)) → RanWithin l′ (thenData d st lo K .ran)
-unfolding thenData
-thenData-in (given zs m) st lo K l p h q = q zs m p
-thenData-in (refused k m) st lo K l p h q = le-trans p h
-thenData-in stuck st lo K l p h q = tt
+thenValues-in : (d : Values) (st lo : List ℤ) (K : List Value → ℕ → World) (l : ℕ) {l′ : ℕ} → ValuesWithin l d → l ≤ l′ → ((vs : List Value) (m : ℕ) → m ≤ l → RanWithin l′ (K vs m .ran)) → RanWithin l′ (thenValues d st lo K .ran)
+unfolding thenValues
+thenValues-in (given vs m) st lo K l p h q = q vs m p
+thenValues-in (refused k m) st lo K l p h q = le-trans p h
+thenValues-in stuck st lo K l p h q = tt
 
 withRecord-in : (f : Found) (st lo : List ℤ) (K : Record → World) (l : ℕ) → ((r : Record) → RanWithin l (K r .ran)) → RanWithin l (withRecord f st lo K .ran)
 unfolding withRecord
@@ -239,9 +236,10 @@ append-in : (s : List ℕ) (t : Telegram) (l : ℕ) (st lo : List ℤ) → RanWi
 unfolding append
 append-in s t l st lo = go (appended s st t)
   where
-    go : (r : Changed) → RanWithin (suc l) (elim r as (λ r. World) [ on st′ ↦ world (ran.Done l) st′ lo | off n ↦ world (ran.Refused n l) st lo ] .ran)
+    go : (r : Changed) → RanWithin (suc l) (elim r as (λ r. World) [ on st′ ↦ world (ran.Done l) st′ lo | off n ↦ world (ran.Refused n l) st lo | lost ↦ world ran.Stuck st lo ] .ran)
     go (on st′) = le-refl (suc l)
     go (off n) = next l
+    go lost = tt
 
 armed-in : (cell t : ℕ) (period : ℤ) (name : ℕ) (zs : List ℤ) (l : ℕ) (st lo : List ℤ) → RanWithin (suc l) (armed cell t period name zs l st lo .ran)
 unfolding armed
@@ -257,54 +255,57 @@ module _ (s : List ℕ) (x : Context) where
   assigned-in place n z l st lo = eitherRan (eqb place chartVariable) _ _ (suc l) (le-refl (suc l)) (eitherRan (eqb place bodyVariable) _ _ (suc l) (le-refl (suc l)) tt)
 
   -- a value worked out with m steps left, at most l
-  from-value : (n m l t : ℕ) (st lo st′ lo′ : List ℤ) (K : ℤ → ℕ → World) → m ≤ l → ((z : ℤ) (m′ : ℕ) → m′ < l → RanWithin l (K z m′ .ran)) → RanWithin l (thenValue (evalOf s x st lo n m) t st′ lo′ K .ran)
-  from-value n m l t st lo st′ lo′ K h q = value-in (evalOf s x st lo n m) t st′ lo′ K l (wider (evalOf s x st lo n m) (eval-left s x st lo n m) h) q
+  from-operand : (n m l : ℕ) (st lo st′ lo′ : List ℤ) (K : Value → ℕ → World) → m ≤ l → ((v : Value) (m′ : ℕ) → m′ < l → RanWithin l (K v m′ .ran)) → RanWithin l (thenOperand (evalOf s x st lo n m) st′ lo′ K .ran)
+  from-operand n m l st lo st′ lo′ K h q = operand-in (evalOf s x st lo n m) st′ lo′ K l (wider (evalOf s x st lo n m) (eval-left s x st lo n m) h) q
 
-  from-data : (n r : Record) (m l : ℕ) (st lo : List ℤ) (K : List ℤ → ℕ → World) → m ≤ l → ((zs : List ℤ) (m′ : ℕ) → m′ ≤ m → RanWithin l (K zs m′ .ran)) → RanWithin l (thenData (nameDataOf s x n r m st lo) st lo K .ran)
-  unfolding nameDataOf
-  from-data n r m l st lo K h q = thenData-in (dataFrom s (evalOf s x st lo) (dataOf n) r (dataOf n .count) 0 m) st lo K m (data-left s x st lo (dataOf n) r (dataOf n .count) 0 m) h q
+  from-values : (n r : Record) (m l : ℕ) (st lo : List ℤ) (K : List Value → ℕ → World) → m ≤ l → ((vs : List Value) (m′ : ℕ) → m′ ≤ m → RanWithin l (K vs m′ .ran)) → RanWithin l (thenValues (nameValues s x n r m st lo) st lo K .ran)
+  unfolding nameValues
+  from-values n r m l st lo K h q = thenValues-in (valuesFrom (evalOf s x st lo) r (dataOf n .count) 0 m) st lo K m (values-left s x st lo r (dataOf n .count) 0 m) h q
 
   assign-in : (r : Record) (l : ℕ) (st lo : List ℤ) → RanWithin (suc l) (assignOf s x r l st lo .ran)
   unfolding assignOf
   assign-in r l st lo =
-      provided-in (ltb (r .f2) (variablesAt (x .chart) (x .body) (r .f1))) st lo _ (suc l)
-      (from-value (r .f3) l (suc l) _ st lo st lo _ (next l) (λ z m q. ran-wider (assigned s x (r .f1) (r .f2) z m st lo .ran) (assigned-in (r .f1) (r .f2) z m st lo) q))
+      from-operand (r .f3) l (suc l) st lo st lo _ (next l) (λ v m q.
+      provided-in (hasVariable s x (r .f1) (r .f2) (v .kind)) st lo _ (suc l)
+      (ran-wider (assigned s x (r .f1) (r .f2) (v .word) m st lo .ran) (assigned-in (r .f1) (r .f2) (v .word) m st lo) q))
 
   externalSend-in : (r : Record) (l : ℕ) (st lo : List ℤ) → RanWithin (suc l) (externalSendOf s x r l st lo .ran)
   unfolding externalSendOf
   externalSend-in r l st lo =
+      from-operand (r .f1) l (suc l) st lo st lo _ (next l) (λ receiver m q.
+      from-operand (r .f2) m (suc l) st lo st lo _ (omega arith) (λ port m′ q′.
       withRecord-in (recordOf s names (r .f3)) st lo _ (suc l) (λ n.
-      from-value (r .f1) l (suc l) _ st lo st lo _ (next l) (λ receiver m q.
-      from-value (r .f2) m (suc l) _ st lo st lo _ (omega arith) (λ port m′ q′.
-      from-data n r m′ (suc l) st lo _ (omega arith) (λ zs m″ q″.
-      ran-wider (append s (telegram (pos (x .element)) receiver port (r .f3) zs) m″ st lo .ran) (append-in s (telegram (pos (x .element)) receiver port (r .f3) zs) m″ st lo) (omega arith)))))
+      from-values n r m′ (suc l) st lo _ (omega arith) (λ vs m″ q″.
+      provided-in (eqb (receiver .kind) Component-type and eqb (port .kind) Port-type and areOf s (dataOf n .first) vs) st lo _ (suc l)
+      (ran-wider (append s _ m″ st lo .ran) (append-in s _ m″ st lo) (omega arith))))))
 
   internalSend-in : (r : Record) (l : ℕ) (st lo : List ℤ) → RanWithin (suc l) (internalSendOf s x r l st lo .ran)
   unfolding internalSendOf
   internalSend-in r l st lo =
       withRecord-in (recordOf s names (r .f3)) st lo _ (suc l) (λ n.
-      from-data n r l (suc l) st lo _ (next l) (λ zs m q.
-      ran-wider (append s (telegram (pos (x .element)) (pos (x .element)) (negsuc 0) (r .f3) zs) m st lo .ran) (append-in s (telegram (pos (x .element)) (pos (x .element)) (negsuc 0) (r .f3) zs) m st lo) (omega arith)))
+      from-values n r l (suc l) st lo _ (next l) (λ vs m q.
+      provided-in (areOf s (dataOf n .first) vs) st lo _ (suc l)
+      (ran-wider (append s _ m st lo .ran) (append-in s _ m st lo) (omega arith))))
 
   arm-in : (r : Record) (l : ℕ) (st lo : List ℤ) → RanWithin (suc l) (armOf s x r l st lo .ran)
   unfolding armOf
   arm-in r l st lo =
-      provided-in (isVariable s x (r .f1) and eqb (cellType s x (r .f1)) (clockOf (operator r))) st lo _ (suc l)
-      (withRecord-in (recordOf s names (r .f3)) st lo _ (suc l) (λ n.
-      from-value (r .f2) l (suc l) _ st lo st lo _ (next l) (λ period m q.
-      from-data n r m (suc l) st lo _ (omega arith) (λ zs m′ q′.
-      ran-wider (armed _ (cellType s x (r .f1)) period (r .f3) zs m′ st lo .ran) (armed-in _ (cellType s x (r .f1)) period (r .f3) zs m′ st lo) (omega arith)))))
+      from-operand (r .f2) l (suc l) st lo st lo _ (next l) (λ period m q.
+      withRecord-in (recordOf s names (r .f3)) st lo _ (suc l) (λ n.
+      from-values n r m (suc l) st lo _ (omega arith) (λ vs m′ q′.
+      provided-in (isVariable s x (r .f1) (eqb (clockOf (operator r))) and eqb (period .kind) Int-type and areOf s (dataOf n .first) vs) st lo _ (suc l)
+      (ran-wider (armed _ (clockOf (operator r)) (period .word) (r .f3) (wordsIn vs) m′ st lo .ran) (armed-in _ (clockOf (operator r)) (period .word) (r .f3) (wordsIn vs) m′ st lo) (omega arith)))))
 
   clockAct-in : (r : Record) (l : ℕ) (st lo : List ℤ) → RanWithin (suc l) (clockActOf s x r l st lo .ran)
   unfolding clockActOf
   clockAct-in r l st lo =
       eitherRan (eqb (operator r) 38) _ _ (suc l)
-      (provided-in (isVariable s x (r .f1) and eqb (cellType s x (r .f1)) Timer-type) st lo _ (suc l) (clockSet-in _ (pos 1) l st lo))
-      (provided-in (isVariable s x (r .f1) and isClock (cellType s x (r .f1))) st lo _ (suc l) (clockSet-in _ (pos 0) l st lo))
+      (provided-in (isVariable s x (r .f1) (eqb Timer-type)) st lo _ (suc l) (clockSet-in _ (pos 1) l st lo))
+      (provided-in (isVariable s x (r .f1) isClock) st lo _ (suc l) (clockSet-in _ (pos 0) l st lo))
 
   choice-in : (n l : ℕ) (st lo : List ℤ) (K L : ℕ → World) → ((m : ℕ) → m ≤ l → RanWithin (suc l) (K m .ran)) → ((m : ℕ) → m ≤ l → RanWithin (suc l) (L m .ran)) → RanWithin (suc l) (choiceOf s x n l st lo K L .ran)
   unfolding choiceOf
-  choice-in n l st lo K L p q = from-value n l (suc l) Bool-type st lo st lo _ (next l) (λ z m h. eitherRan (isZero z) _ _ (suc l) (q m (omega arith)) (p m (omega arith)))
+  choice-in n l st lo K L p q = from-operand n l (suc l) st lo st lo _ (next l) (λ v m h. provided-in (eqb (v .kind) Bool-type) st lo _ (suc l) (eitherRan (isZero (v .word)) _ _ (suc l) (q m (omega arith)) (p m (omega arith))))
 
   module _ (f : Runs) (h : (depth : ℕ) (x : Context) (n l : ℕ) (st lo : List ℤ) → RanWithin l (f depth x n l st lo .ran)) where
     again : (depth : ℕ) (x : Context) (n m l : ℕ) (st lo : List ℤ) → m ≤ l → RanWithin l (f depth x n m st lo .ran)
@@ -312,14 +313,15 @@ module _ (s : List ℕ) (x : Context) where
 
     entered-in : (depth : ℕ) (b : Record) (zs : List ℤ) (l : ℕ) (st lo : List ℤ) → RanWithin (suc l) (entered s x f depth b zs l st lo .ran)
     unfolding entered
-    entered-in depth b zs l st lo = eitherRan (ltb depth openCalls) _ _ (suc l) (again (depth + 1) (inBody x b) (root b) l (suc l) st (localsOf s b zs) (next l)) (next l)
+    entered-in depth b zs l st lo = eitherRan (ltb depth openCalls) _ _ (suc l) (provided-in (localsThere s b) st lo _ (suc l) (again (depth + 1) (inBody x b) (root b) l (suc l) st (localsOf s b zs) (next l))) (next l)
 
     call-in : (depth : ℕ) (r : Record) (l : ℕ) (st lo : List ℤ) → RanWithin (suc l) (callOf s x f depth r l st lo .ran)
     unfolding callOf
     call-in depth r l st lo =
         withRecord-in (calledBody s (x .chart) r) st lo _ (suc l) (λ b.
-        thenData-in (dataFrom s (evalOf s x st lo) (bodyParameters b) r (bodyParameters b .count) 0 l) st lo _ l (data-left s x st lo (bodyParameters b) r (bodyParameters b .count) 0 l) (next l) (λ zs m q.
-        ran-wider (entered s x f depth b zs m st lo .ran) (entered-in depth b zs m st lo) (omega arith)))
+        thenValues-in (valuesFrom (evalOf s x st lo) r (bodyParameters b .count) 0 l) st lo _ l (values-left s x st lo r (bodyParameters b .count) 0 l) (next l) (λ vs m q.
+        provided-in (areOf s (bodyParameters b .first) vs) st lo _ (suc l)
+        (ran-wider (entered s x f depth b (wordsIn vs) m st lo .ran) (entered-in depth b (wordsIn vs) m st lo) (omega arith))))
 
     runIn-in : (depth n : ℕ) (r : Record) (l : ℕ) (st lo : List ℤ) (form : Form) → RanWithin (suc l) (runIn s x f depth n r l st lo form .ran)
     unfolding runIn

@@ -1,3 +1,3 @@
-pub mod Eval
 pub mod Left
+pub mod Eval
 pub mod Run

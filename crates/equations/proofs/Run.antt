@@ -12,6 +12,7 @@ use Rattle.sheet.specs.declared.Found.{Found}
 use Rattle.sheet.specs.declared.Found.the-variants.{Present, Absent}
 use Rattle.sheet.specs.Names.{nodes, bodyParameters, root, operator, Bool-type}
 use Rattle.sheet.specs.Sheet.{recordOf}
+use Rattle.laris.specs.declared.Value.{Value}
 use Rattle.laris.specs.declared.Out.{Out}
 use Rattle.laris.specs.declared.Out.the-variants as out
 use Rattle.laris.specs.declared.Ran.{Ran}
@@ -19,8 +20,8 @@ use Rattle.laris.specs.declared.Ran.the-variants.{Done, Refused, Stuck}
 use Rattle.laris.specs.Forms.{Form, literal, read, unary, binary, clock, skip, assign, externalSend, internalSend, arm, clockAct, call, choice, loop, sequence, unknown, formOf, calledBody}
 use Rattle.laris.specs.Values.{isZero}
 use Rattle.laris.specs.Eval.{Context, evalOf}
-use Rattle.laris.specs.Run.{World, world, goOn, thenRun, thenValue, withRecord, Data, given, refused, stuck, dataFrom, thenData, localsOf, Runs, fewer, inBody, entered, callOf, choiceOf, runIn, runStep, runF, runOf, openCalls}
-use Rattle.equations.proofs.Left.{Within, DataWithin, RanWithin, eval-left, data-left, run-left}
+use Rattle.laris.specs.Run.{World, world, goOn, thenRun, thenOperand, withRecord, provided, Values, given, refused, stuck, valuesFrom, thenValues, areOf, wordsIn, localsOf, localsThere, Runs, fewer, inBody, entered, callOf, choiceOf, runIn, runStep, runF, runOf, openCalls}
+use Rattle.equations.proofs.Left.{Within, ValuesWithin, RanWithin, eval-left, values-left, run-left}
 
 -- what runs the parts matters with fewer steps left only
 fewer-same : (left : ℕ) (f g : Runs) → ((depth : ℕ) (x : Context) (n l : ℕ) (st lo : List ℤ) → l < left → f depth x n l st lo ≡ g depth x n l st lo) → fewer left f ≡ fewer left g
@@ -47,17 +48,17 @@ same-goOn (Done m) st lo K L l p q = q m st lo p
 same-goOn (Refused k m) st lo K L l p q = refl
 same-goOn Stuck st lo K L l p q = refl
 
-same-value : (o : Out) (t : ℕ) (st lo : List ℤ) (K L : ℤ → ℕ → World) (l : ℕ) → Within l o → ((z : ℤ) (m : ℕ) → m < l → K z m ≡ L z m) → thenValue o t st lo K ≡ thenValue o t st lo L
-unfolding thenValue
-same-value (out.Val v m) t st lo K L l p q = same-choice (eqb (v .kind) t) _ _ _ _ (q (v .word) m p) refl
-same-value (out.Refused k m) t st lo K L l p q = refl
-same-value out.Stuck t st lo K L l p q = refl
+same-operand : (o : Out) (st lo : List ℤ) (K L : Value → ℕ → World) (l : ℕ) → Within l o → ((v : Value) (m : ℕ) → m < l → K v m ≡ L v m) → thenOperand o st lo K ≡ thenOperand o st lo L
+unfolding thenOperand
+same-operand (out.Val v m) st lo K L l p q = q v m p
+same-operand (out.Refused k m) st lo K L l p q = refl
+same-operand out.Stuck st lo K L l p q = refl
 
-same-data : (d : Data) (st lo : List ℤ) (K L : List ℤ → ℕ → World) (l : ℕ) → DataWithin l d → ((zs : List ℤ) (m : ℕ) → m ≤ l → K zs m ≡ L zs m) → thenData d st lo K ≡ thenData d st lo L
-unfolding thenData
-same-data (given zs m) st lo K L l p q = q zs m p
-same-data (refused k m) st lo K L l p q = refl
-same-data stuck st lo K L l p q = refl
+same-values : (d : Values) (st lo : List ℤ) (K L : List Value → ℕ → World) (l : ℕ) → ValuesWithin l d → ((vs : List Value) (m : ℕ) → m ≤ l → K vs m ≡ L vs m) → thenValues d st lo K ≡ thenValues d st lo L
+unfolding thenValues
+same-values (given vs m) st lo K L l p q = q vs m p
+same-values (refused k m) st lo K L l p q = refl
+same-values stuck st lo K L l p q = refl
 
 same-record : (f : Found) (st lo : List ℤ) (K L : Record → World) → ((r : Record) → K r ≡ L r) → withRecord f st lo K ≡ withRecord f st lo L
 unfolding withRecord
@@ -77,18 +78,18 @@ module _ (s : List ℕ) (x : Context) (depth l : ℕ) where
 
   free-entered : (b : Record) (zs : List ℤ) (m : ℕ) (st lo : List ℤ) → m ≤ l → entered s x guarded depth b zs m st lo ≡ entered s x (runOf s) depth b zs m st lo
   unfolding entered
-  free-entered b zs m st lo h = same-choice (ltb depth openCalls) _ _ _ _ (ap (λ w. world (w .ran) (w .st) lo) (free (depth + 1) (inBody x b) (root b) m st (localsOf s b zs) h)) refl
+  free-entered b zs m st lo h = same-choice (ltb depth openCalls) _ _ _ _ (ap (λ w. provided (localsThere s b) st lo (world (w .ran) (w .st) lo)) (free (depth + 1) (inBody x b) (root b) m st (localsOf s b zs) h)) refl
 
   free-call : (r : Record) (st lo : List ℤ) → callOf s x guarded depth r l st lo ≡ callOf s x (runOf s) depth r l st lo
   unfolding callOf
   free-call r st lo =
       same-record (calledBody s (x .chart) r) st lo _ _ (λ b.
-      same-data (dataFrom s (evalOf s x st lo) (bodyParameters b) r (bodyParameters b .count) 0 l) st lo _ _ l (data-left s x st lo (bodyParameters b) r (bodyParameters b .count) 0 l) (λ zs m h.
-      free-entered b zs m st lo h))
+      same-values (valuesFrom (evalOf s x st lo) r (bodyParameters b .count) 0 l) st lo _ _ l (values-left s x st lo r (bodyParameters b .count) 0 l) (λ vs m h.
+      ap (provided (areOf s (bodyParameters b .first) vs) st lo) (free-entered b (wordsIn vs) m st lo h)))
 
   free-choice : (n : ℕ) (st lo : List ℤ) (K K′ L L′ : ℕ → World) → ((m : ℕ) → m ≤ l → K m ≡ K′ m) → ((m : ℕ) → m ≤ l → L m ≡ L′ m) → choiceOf s x n l st lo K L ≡ choiceOf s x n l st lo K′ L′
   unfolding choiceOf
-  free-choice n st lo K K′ L L′ p q = same-value (evalOf s x st lo n l) Bool-type st lo _ _ l (eval-left s x st lo n l) (λ z m h. same-choice (isZero z) _ _ _ _ (q m (omega arith)) (p m (omega arith)))
+  free-choice n st lo K K′ L L′ p q = same-operand (evalOf s x st lo n l) st lo _ _ l (eval-left s x st lo n l) (λ v m h. ap (provided (eqb (v .kind) Bool-type) st lo) (same-choice (isZero (v .word)) _ _ _ _ (q m (omega arith)) (p m (omega arith))))
 
   -- one part, then another on what the first left
   free-then : (n n′ m : ℕ) (st lo : List ℤ) → m ≤ l → thenRun (guarded depth x n m st lo) (λ l st lo. guarded depth x n′ l st lo) ≡ thenRun (runOf s depth x n m st lo) (λ l st lo. runOf s depth x n′ l st lo)

@@ -12,25 +12,27 @@ use borrow.Author.Tests.{ltb-true, ltb-false, leb-true, eqb-true, lt-ltb, le-leb
 use Rattle.sheet.specs.declared.Found.{Found}
 use Rattle.sheet.specs.declared.Found.the-variants.{Present, Absent}
 use Rattle.sheet.specs.All.{_and_}
-use Rattle.sheet.specs.Names.{external, role, externalReaction, internalReaction}
+use Rattle.sheet.specs.Names.{names, external, role, externalReaction, internalReaction}
+use Rattle.sheet.specs.Sheet.{countOf}
 use Rattle.sheet.proofs.All.{true-false, and-first, and-second, and-true, and-false}
 use Rattle.laris.specs.declared.Checked.the-variants.{Passed}
 use Rattle.laris.specs.declared.Telegram.{Telegram}
 use Rattle.laris.specs.declared.Handed.the-variants.{Nothing, Outside}
-use Rattle.laris.specs.Fields.{holds, componentsOf, externalsOf, portsOf}
+use Rattle.laris.specs.Fields.{holds, componentsOf, externalsOf, portsOf, elementsOf}
 use Rattle.laris.specs.Shape.{isReaction}
-use Rattle.laris.specs.Types.{nameRange, hasReaction}
+use Rattle.laris.specs.Types.{nameRange, hasClass, hasReaction}
 use Rattle.laris.specs.Values.{isBelow, isZero, isBound, chartOf}
-use Rattle.laris.specs.State.{stateLength, wordOf, waiting, telegramOf, withoutTelegram, Changed, on, off}
+use Rattle.laris.specs.State.{stateLength, wordOf, waiting, telegramOf, withoutTelegram, Changed, on, off, lost}
 use Rattle.laris.specs.Valid.{dataFit, nameFits, reactionAwaits, datumOf, isInternal, internalFits, externalFits, telegramFits, contentFits, OfSheet}
 use Rattle.laris.specs.Eval.{sameWord}
-use Rattle.laris.specs.Play.{Outcome, ended, answer, reactsOn, elementBody, oldestFrom, oldest, goesFrom, innerOf, taking, reacting, panicking, outside, delivered, deliver, corrupt, inner, slice, restZero, boundWord, wellFormed, isEvent, telegramOfEvent, happens, turnedDown, ifPassed, eventCall, changeEnd}
+use Rattle.laris.specs.Play.{Outcome, ended, stuck, withNumber, bodiesThere, received, answer, reactsOn, elementBody, oldestFrom, oldest, goesFrom, innerOf, taking, reacting, panicking, outside, delivered, deliver, corrupt, inner, slicedFrom, slice, restZero, boundWord, wellFormed, isEvent, telegramOfEvent, happens, turnedDown, ifPassed, eventCall, changeEnd}
 use Rattle.laris.specs.Check.{checkOf}
 use Rattle.laris.proofs.Fields.{holds-present}
 use Rattle.passed.proofs.Records.{externals-components}
 use Rattle.passed.proofs.Charts.{bound-element, element-chart, where-found, reaction-there}
+use Rattle.passed.proofs.Declared.{bodies-there, has-head}
 use Rattle.states.proofs.Frame.{name-same}
-use Rattle.states.proofs.Parts.{of-content, telegram-of}
+use Rattle.states.proofs.Parts.{is-counted, of-content, telegram-of}
 use Rattle.states.proofs.Kept.{removed-kept, ChangeKept, appended-kept}
 use Rattle.states.proofs.Telegrams.{external-fits}
 use Rattle.states.proofs.Ticks.{slice-kept}
@@ -51,6 +53,12 @@ unfolding isBound isBelow
 bound-word s (pos k) h n = and-true _ _ (le-leb (externalsOf s) k (ltb-false k (externalsOf s) n)) h
 bound-word s (negsuc k) h n = absurd (true-false h refl)
 
+-- a word that is a number
+pub number-is : (z : ℤ) (n : ℕ) (K : ℕ → Outcome) → isBelow z n ≡ true → withNumber z K ≡ K (natAbs z)
+unfolding withNumber isBelow
+number-is (pos k) n K h = refl
+number-is (negsuc k) n K h = absurd (true-false h refl)
+
 -- ---- the oldest telegram
 
 module _ (s : List ℕ) (st : List ℤ) (p : Telegram → Bool) where
@@ -70,9 +78,12 @@ module _ (s : List ℕ) (st : List ℤ) (p : Telegram → Bool) where
 -- "no such telegram waits": 5
 pub taking-kept : (s : List ℕ) (st : List ℤ) → OfSheet s st → (p : Telegram → Bool) (K : Telegram → List ℤ → Outcome) → ((t : Telegram) (st′ : List ℤ) → telegramFits s t ≡ true → p t ≡ true → OfSheet s st′ → EventKept s st (K t st′)) → EventKept s st (taking s st p K)
 unfolding taking
-taking-kept s st o p K h = go (ltb (oldest s st p) (waiting st)) refl
+taking-kept s st o p K h = subst (λ b. EventKept s st (elim b [ true ↦ taken (ltb (oldest s st p) (waiting st)) | false ↦ stuck ])) (sym (is-counted s st o)) (go (ltb (oldest s st p) (waiting st)) refl)
   where
-    go : (b : Bool) → ltb (oldest s st p) (waiting st) ≡ b → EventKept s st (elim b [ true ↦ K (telegramOf s st (oldest s st p)) (withoutTelegram s st (oldest s st p)) | false ↦ ended (answer 5 0 Nothing) st ])
+    taken : Bool → Outcome
+    taken b = elim b [ true ↦ K (telegramOf s st (oldest s st p)) (withoutTelegram s st (oldest s st p)) | false ↦ ended (answer 5 0 Nothing) st ]
+
+    go : (b : Bool) → ltb (oldest s st p) (waiting st) ≡ b → EventKept s st (taken b)
     go true q = let l = ltb-true _ _ q in h _ _ (telegram-of s st o _ l) (oldest-meets s st p l) (removed-kept s st o _ l)
     go false q = (inr (omega arith, omega arith), λ z. absurd (omega arith), λ n. refl)
 
@@ -97,6 +108,7 @@ module _ (s : List ℕ) (ok : checkOf s ≡ Passed) where
   unfolding changeEnd
   change-end old (on st) h = (inl refl, λ z. h, λ n. absurd (n refl))
   change-end old (off n) h = (inr (omega arith, omega arith), λ z. absurd (omega (arith, h .0)), λ k. refl)
+  change-end old lost h = h
 
   -- ---- 1 Outside
 
@@ -107,25 +119,31 @@ module _ (s : List ℕ) (ok : checkOf s ≡ Passed) where
   -- ---- 2 Deliver
 
   -- the reaction for its port and name, or without one the panic body
-  delivered-bound : (old st : List ℤ) → OfSheet s st → (t : Telegram) → dataFit s (nameRange s (natAbs (t .name))) (datumOf t) ≡ true → (e : ℕ) → isBound s e ≡ true → (f : Found) → elementBody s e (reactsOn (natAbs (t .port)) (natAbs (t .name))) ≡ f → EventKept s old (elim f [ Present b ↦ reacting s old e (Present b) t st | Absent ↦ panicking s old e st ])
-  unfolding isReaction
-  delivered-bound old st o t h e bound (Present d) q =
-      let x = bound-element s ok e bound in
-      let f = where-found s _ (x .1) d (sym (body-of s ok e (x .0) (x .1) (x .2) _) ∙ q) in
-      let two : role d ≡ externalReaction = eqb-true _ _ (and-first _ _ (f .1)) in
-      reacting-kept s ok e (x .0) (x .1) (x .2) d (f .0) t (eqb-true _ _ (and-second _ _ (and-second _ _ (f .1)))) h (rw two (and-true _ _ refl refl)) old st o
-  delivered-bound old st o t h e bound Absent q = let x = bound-element s ok e bound in panicking-kept s ok e (x .0) (x .1) (x .2) old st o
+  received-kept : (old st : List ℤ) → OfSheet s st → (t : Telegram) → isBelow (t .name) (countOf s names) ≡ true → dataFit s (nameRange s (natAbs (t .name))) (datumOf t) ≡ true → (e p : ℕ) → isBound s e ≡ true → EventKept s old (received s old t st e p (natAbs (t .name)))
+  unfolding received isReaction
+  received-kept old st o t below h e p bound = go (elementBody s e (reactsOn p (natAbs (t .name)))) refl
+    where
+      go : (f : Found) → elementBody s e (reactsOn p (natAbs (t .name))) ≡ f → EventKept s old (elim f [ Present b ↦ reacting s old e (Present b) t st | Absent ↦ elim (bodiesThere s e) [ true ↦ panicking s old e st | false ↦ stuck ] ])
+      go (Present d) q =
+          let x = bound-element s ok e bound in
+          let f = where-found s _ (x .1) d (sym (body-of s ok e (x .0) (x .1) (x .2) _) ∙ q) in
+          let two : role d ≡ externalReaction = eqb-true _ _ (and-first _ _ (f .1)) in
+          reacting-kept s ok e (x .0) (x .1) (x .2) d (f .0) t (eqb-true _ _ (and-second _ _ (and-second _ _ (f .1)))) below h (rw two (and-true _ _ refl refl)) old st o
+      go Absent q = let x = bound-element s ok e bound in subst (λ b. EventKept s old (elim b [ true ↦ panicking s old e st | false ↦ stuck ])) (sym (bodies-there s ok e bound)) (panicking-kept s ok e (x .0) (x .1) (x .2) old st o)
 
   delivered-kept : (old : List ℤ) (t : Telegram) (st : List ℤ) → telegramFits s t ≡ true → isInternal t ≡ false → OfSheet s st → EventKept s old (delivered s old t st)
   unfolding delivered externalFits nameFits
   delivered-kept old t st h n o = go (isBelow (t .receiver) (externalsOf s)) refl
     where
-      fits : dataFit s (nameRange s (natAbs (t .name))) (datumOf t) ≡ true
-      fits = and-second _ _ (and-second _ _ (and-second _ _ (and-second _ _ (external-part t h n))))
+      named : isBelow (t .name) (countOf s names) and hasClass s (natAbs (t .name)) external and dataFit s (nameRange s (natAbs (t .name))) (datumOf t) ≡ true
+      named = and-second _ _ (and-second _ _ (external-part t h n))
 
-      go : (b : Bool) → isBelow (t .receiver) (externalsOf s) ≡ b → EventKept s old (elim b [ true ↦ ended (answer 0 0 (Outside t)) st | false ↦ elim (elementBody s (natAbs (t .receiver)) (reactsOn (natAbs (t .port)) (natAbs (t .name)))) [ Present b ↦ reacting s old (natAbs (t .receiver)) (Present b) t st | Absent ↦ panicking s old (natAbs (t .receiver)) st ] ])
+      go : (b : Bool) → isBelow (t .receiver) (externalsOf s) ≡ b → EventKept s old (elim b [ true ↦ ended (answer 0 0 (Outside t)) st | false ↦ withNumber (t .receiver) (λ e. withNumber (t .port) (λ p. withNumber (t .name) (λ n. received s old t st e p n))) ])
       go true q = (inl refl, λ z. o, λ k. absurd (k refl))
-      go false q = delivered-bound old st o t fits (natAbs (t .receiver)) (bound-word s (t .receiver) (receiver-below t h) q) _ refl
+      go false q =
+          subst (EventKept s old)
+          (sym (number-is (t .receiver) _ _ (receiver-below t h) ∙ number-is (t .port) _ _ (and-first _ _ (and-second _ _ (external-part t h n))) ∙ number-is (t .name) _ _ (and-first _ _ named)))
+          (received-kept old st o t (and-first _ _ named) (and-second _ _ (and-second _ _ named)) (natAbs (t .receiver)) (natAbs (t .port)) (bound-word s (t .receiver) (receiver-below t h) q))
 
   pub outer : (a r : ℤ) (t : Telegram) → goesFrom a r t ≡ true → isInternal t ≡ false
   outer a r t h = not-true _ (and-first _ _ h)
@@ -136,9 +154,9 @@ module _ (s : List ℕ) (ok : checkOf s ≡ Passed) where
 
   -- ---- 3 Corrupt
 
-  corrupt-kept : (st : List ℤ) → OfSheet s st → (a r : ℤ) → isBound s (natAbs r) ≡ true → EventKept s st (corrupt s st a r)
+  corrupt-kept : (st : List ℤ) → OfSheet s st → (a r : ℤ) → isBelow r (componentsOf s) ≡ true → isBound s (natAbs r) ≡ true → EventKept s st (corrupt s st a r)
   unfolding corrupt
-  corrupt-kept st o a r bound = let x = bound-element s ok (natAbs r) bound in taking-kept s st o (goesFrom a r) _ (λ t st′ h p o′. panicking-kept s ok (natAbs r) (x .0) (x .1) (x .2) st st′ o′)
+  corrupt-kept st o a r below bound = let x = bound-element s ok (natAbs r) bound in taking-kept s st o (goesFrom a r) _ (λ t st′ h p o′. subst (EventKept s st) (sym (number-is r _ _ below)) (panicking-kept s ok (natAbs r) (x .0) (x .1) (x .2) st st′ o′))
 
   -- ---- 4 Inner
 
@@ -156,14 +174,15 @@ module _ (s : List ℕ) (ok : checkOf s ≡ Passed) where
       let d = reaction-there s (x .1) (natAbs (t .name)) (sym (holds-present _ (x .1) _ c) ∙ awaits) in
       let f = where-found s _ (x .1) (d .0) (d .1) in
       let three : role (d .0) ≡ internalReaction = eqb-true _ _ (and-first _ _ (f .1)) in
-      subst (λ g. EventKept s st (reacting s st (natAbs r) g t st′)) (sym (body-of s ok (natAbs r) (x .0) (x .1) (x .2) _ ∙ d .1))
-      (reacting-kept s ok (natAbs r) (x .0) (x .1) (x .2) (d .0) (f .0) t (eqb-true _ _ (and-second _ _ (f .1))) fits (rw three (and-true _ _ refl refl)) st st′ o′))
+      let below = and-first _ _ (and-first _ _ named) in
+      subst (EventKept s st) (sym (number-is r _ _ (subst (λ z. isBelow z (componentsOf s) ≡ true) same (receiver-below t h)) ∙ number-is (t .name) _ _ below ∙ ap (λ g. reacting s st (natAbs r) g t st′) (body-of s ok (natAbs r) (x .0) (x .1) (x .2) _ ∙ d .1)))
+      (reacting-kept s ok (natAbs r) (x .0) (x .1) (x .2) (d .0) (f .0) t (eqb-true _ _ (and-second _ _ (f .1))) below fits (rw three (and-true _ _ refl refl)) st st′ o′))
 
   -- ---- 5 Slice
 
   slice-ends : (st : List ℤ) → OfSheet s st → EventKept s st (slice s st)
   unfolding slice
-  slice-ends st o = change-end st _ (slice-kept s st o)
+  slice-ends st o = subst (λ b. EventKept s st (changeEnd st (elim b [ true ↦ slicedFrom s (elementsOf s) (externalsOf s) st | false ↦ lost ]))) (sym (has-head s ok)) (change-end st _ (slice-kept s ok st o))
 
   -- ---- a well formed event
 
@@ -215,7 +234,7 @@ module _ (s : List ℕ) (ok : checkOf s ≡ Passed) where
             ])
         go true b c d f h = outside-kept st o (telegramOfEvent ev) (sent-outside h)
         go false true c d f h = deliver-kept st o (wordOf ev 1) (wordOf ev 2)
-        go false false true d f h = let r = and-first _ _ (and-second _ _ h) in corrupt-kept st o (wordOf ev 1) (wordOf ev 2) (bound-word s (wordOf ev 2) (and-first _ _ r) (not-true _ (and-second _ _ r)))
+        go false false true d f h = let r = and-first _ _ (and-second _ _ h) in corrupt-kept st o (wordOf ev 1) (wordOf ev 2) (and-first _ _ r) (bound-word s (wordOf ev 2) (and-first _ _ r) (not-true _ (and-second _ _ r)))
         go false false false true f h = inner-kept st o (wordOf ev 2)
         go false false false false f h = slice-ends st o
 

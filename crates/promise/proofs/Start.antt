@@ -10,25 +10,25 @@ use lib.Dec.{eqb}
 use lib.IntN.{ℤ}
 use borrow.Author.Tests.{eqb-true, lt-ltb, le-leb, eq-eqb}
 use Rattle.sheet.specs.All.{_and_}
-use Rattle.sheet.specs.Names.{bindings, role, initial}
-use Rattle.sheet.specs.Sheet.{countOf}
+use Rattle.sheet.specs.Names.{role, initial}
 use Rattle.sheet.proofs.All.{and-true}
 use Rattle.laris.specs.declared.Ran.{Ran}
 use Rattle.laris.specs.declared.Ran.the-variants.{Done, Refused, Stuck}
 use Rattle.laris.specs.declared.Checked.the-variants.{Passed}
-use Rattle.laris.specs.Fields.{componentsOf, externalsOf}
+use Rattle.laris.specs.Fields.{componentsOf, externalsOf, elementsOf}
 use Rattle.laris.specs.Values.{isBound}
 use Rattle.laris.specs.State.{stateLength}
 use Rattle.laris.specs.Valid.{OfSheet}
 use Rattle.laris.specs.Eval.{Context}
-use Rattle.laris.specs.Play.{Outcome, isInitial, ranBody, defaultState, startNext, startFrom, started, turnedDown, ifPassed, startCall}
+use Rattle.laris.specs.Play.{Outcome, stuck, isInitial, ranBody, alone, defaultState, startNext, startFrom, started, turnedDown, ifPassed, startCall}
 use Rattle.laris.specs.Check.{checkOf}
-use Rattle.passed.proofs.Records.{elements-bound}
+use Rattle.passed.proofs.Records.{elements-bound, elements-are}
 use Rattle.passed.proofs.Charts.{bound-element, where-found, initial-there}
+use Rattle.passed.proofs.Declared.{elements-there}
 use Rattle.states.proofs.Default.{default-of-sheet}
 use Rattle.sound.specs.Gives.{Ends}
 use Rattle.promise.specs.Promise.{StartKept}
-use Rattle.promise.proofs.Bodies.{body-of, ran-ends, no-parameters}
+use Rattle.promise.proofs.Bodies.{body-of, ran-ends, no-parameters, runs-alone}
 
 module _ (s : List ℕ) (ok : checkOf s ≡ Passed) where
   next-kept : (x : Context) (k : ℕ) (r : Ran) (st lo : List ℤ) (K : ℕ → List ℤ → Outcome) → Ends s x r st lo → ((k : ℕ) → OfSheet s st → StartKept s (K k st)) → StartKept s (startNext s k r st K)
@@ -46,7 +46,7 @@ module _ (s : List ℕ) (ok : checkOf s ≡ Passed) where
       let i = initial-there s ok _ (x .1) (x .2 .chart) in
       let f = where-found s isInitial (x .1) (i .0) (i .1) in
       let none : role (i .0) ≡ initial = eqb-true _ _ (f .1) in
-      subst (λ g. StartKept s (startNext s k (ranBody s e g [] st .ran) (ranBody s e g [] st .st) (λ k st. startFrom s n (suc e) k st))) (sym (body-of s ok e (x .0) (x .1) (x .2) isInitial ∙ i .1))
+      subst (λ g. StartKept s (startNext s k (ranBody s e g [] st .ran) (ranBody s e g [] st .st) (λ k st. startFrom s n (suc e) k st))) (sym (ap alone (body-of s ok e (x .0) (x .1) (x .2) isInitial ∙ i .1) ∙ runs-alone s ok e (x .0) (x .1) (x .2) (i .0) (f .0) (omega arith)))
       (next-kept _ k _ _ _ _ (ran-ends s ok e (x .0) (x .1) (x .2) (i .0) (f .0) [] st o (no-parameters s ok e (x .0) (x .1) (x .2) (i .0) (f .0) (omega arith) [])) (λ k o′. from-kept n (suc e) k _ (omega arith) (omega arith) o′))
 
   called : (lent : List ℤ) → length lent ≡ stateLength s → startCall s lent ≡ started s
@@ -57,4 +57,6 @@ module _ (s : List ℕ) (ok : checkOf s ≡ Passed) where
 
   pub start-kept : (lent : List ℤ) → length lent ≡ stateLength s → StartKept s (startCall s lent)
   unfolding started
-  start-kept lent h = subst (StartKept s) (sym (called lent h)) (from-kept (countOf s bindings) (externalsOf s) 0 (defaultState s) (omega arith) (omega (arith, elements-bound s ok)) (default-of-sheet s ok))
+  start-kept lent h =
+      subst (StartKept s) (sym (called lent h ∙ ap (λ b. elim b as (λ b. Outcome) [ true ↦ startFrom s (elementsOf s) (externalsOf s) 0 (defaultState s) | false ↦ stuck ]) (elements-there s ok)))
+      (from-kept (elementsOf s) (externalsOf s) 0 (defaultState s) (omega arith) (omega (arith, elements-bound s ok, elements-are s ok)) (default-of-sheet s ok))

@@ -13,7 +13,7 @@ use Rattle.sheet.specs.declared.Record.{Record}
 use Rattle.sheet.specs.declared.Found.the-variants.{Present, Absent}
 use Rattle.sheet.specs.All.{_and_}
 use Rattle.sheet.specs.Names
-use Rattle.sheet.specs.Names.{nodes, chartVariables, bodyParameters, bodyLocals, operator, isLiteral, Bool-type, Int-type}
+use Rattle.sheet.specs.Names.{nodes, chartParameters, chartVariables, bodyParameters, bodyLocals, operator, isLiteral, Bool-type, Int-type}
 use Rattle.sheet.specs.Sheet.{recordOf}
 use Rattle.sheet.proofs.All.{true-false, and-first, and-second, all-at}
 use Rattle.laris.specs.declared.Value.{Value}
@@ -27,19 +27,20 @@ use Rattle.laris.specs.Shape.{variablesAt, fieldsShape, treeShape, constantOf}
 use Rattle.laris.specs.Types.{variableAt, lowerType, typeIn, typeOf}
 use Rattle.laris.specs.Values.{isZero, inType, firstCell}
 use Rattle.laris.specs.State.{cellAt, wordOf}
-use Rattle.laris.specs.Eval.{andThen, needs, onRecord, val, boolWord, isOne, sameWord, notVal, intVal, binaryVal, literalValue, within, ofType, Context, parameterVal, variableAtCell, readAs, readVal, clockVal, lowerEval, evalIn, evalOf}
+use Rattle.laris.specs.Eval.{andThen, needs, onRecord, val, boolWord, isOne, sameWord, notVal, intVal, binaryVal, literalValue, within, ofType, Context, parameterVal, variableAtCell, readAs, readVal, clockVal, evalIn, evalOf}
 use Rattle.laris.proofs.Fields.{holds-present}
 use Rattle.laris.proofs.Forms.{isExpressionForm}
 use Rattle.laris.proofs.Types.{lower-type}
-use Rattle.equations.proofs.Eval.{lower-eval, eval-none, eval-visit}
+use Rattle.equations.proofs.Eval.{eval-none, eval-visit}
 use Rattle.passed.specs.Places.{Placed, Cells}
 use Rattle.passed.proofs.Charts.{element-chart}
+use Rattle.passed.proofs.Declared.{declared-record, variable-declared}
 use Rattle.states.proofs.Parts.{cell-of}
 use Rattle.states.proofs.Kept.{cell-in-state}
 use Rattle.sound.proofs.Locals.{few}
 use Rattle.sound.specs.Gives.{Gives}
 use Rattle.sound.proofs.Leaves.{Both, not-gives, binary-gives}
-use Rattle.sound.proofs.Eval.{type-at, eval-gives}
+use Rattle.sound.proofs.Eval.{on-present, few-parameters, type-at, eval-gives}
 use Rattle.ints.specs.declared.Work.{Work}
 use Rattle.ints.specs.declared.Work.the-variants.{Word, Refused, Stuck}
 use Rattle.ints.specs.Work.{workOf, thenWork, notWork, binaryWork}
@@ -58,6 +59,10 @@ needs-three true true true o n = refl
 needs-three true true false o n = absurd (n refl)
 needs-three true false c o n = absurd (n refl)
 needs-three false b c o n = absurd (n refl)
+
+needs-met : (b : Bool) (o : Out) → b ≡ true → needs b o ≡ o
+unfolding needs
+needs-met b o e = rw e refl
 
 needs-through : (b : Bool) (o : Out) → b ≡ true → workOf (needs b o) ≡ workOf o
 unfolding needs
@@ -140,18 +145,15 @@ module _ (s w : List ℕ) (st lo : List ℤ) (ready : Ready s w st lo) where
       typed : typeIn s (x .chart) (x .body) f r F ≡ Expression (e .kind)
       typed = subst (λ F. typeIn s (x .chart) (x .body) f r F ≡ Expression (e .kind)) q type-in
 
-      visited : (l : ℕ) → evalOf s x st lo n (suc l) ≡ evalIn s x st lo (lowerEval n (evalOf s x st lo)) r l F
+      visited : (l : ℕ) → evalOf s x st lo n (suc l) ≡ evalIn s x st lo (evalOf s x st lo) r l F
       unfolding onRecord
-      visited l = eval-visit s x st lo n l ∙ ap (λ f. onRecord f (λ r. evalIn s x st lo (lowerEval n (evalOf s x st lo)) r l (formOf (operator r)))) there ∙ ap (evalIn s x st lo (lowerEval n (evalOf s x st lo)) r l) q
+      visited l = eval-visit s x st lo n l ∙ ap (λ f. onRecord f (λ r. evalIn s x st lo (evalOf s x st lo) r l (formOf (operator r)))) there ∙ ap (evalIn s x st lo (evalOf s x st lo) r l) q
 
-      goes : (l : ℕ) → workOf (evalIn s x st lo (lowerEval n (evalOf s x st lo)) r l F) ≡ Stuck → ⊥
+      goes : (l : ℕ) → workOf (evalIn s x st lo (evalOf s x st lo) r l F) ≡ Stuck → ⊥
       goes l z = not-stuck s (e .kind) (evalOf s x st lo n (suc l)) (eval-gives s (ready .running .passed) x placed st lo cells (ready .locals) (e .levels) n (e .kind) (suc l) (e .tree) (e .typed)) (ap workOf (visited l) ∙ z)
 
     -- an operand that is an expression
     module _ (m k : ℕ) (low : Lower k m) where
-      low-operand : (l : ℕ) → lowerEval n (evalOf s x st lo) m l ≡ evalOf s x st lo m l
-      low-operand l = lower-eval n m (evalOf s x st lo) l (ltb-true _ _ (and-first _ _ low))
-
       typed-of : (t : ℕ) → f m ≡ Expression t → typeOf s (x .chart) (x .body) m ≡ Expression t
       typed-of t z = sym (lower-type n m (typeOf s (x .chart) (x .body)) (ltb-true _ _ (and-first _ _ low))) ∙ z
 
@@ -163,7 +165,7 @@ module _ (s w : List ℕ) (st lo : List ℤ) (ready : Ready s w st lo) where
 
     -- ---- leaves
 
-    within-word : (F : Form) (q : formOf (operator r) ≡ F) (l : ℕ) (v : Value) → evalIn s x st lo (lowerEval n (evalOf s x st lo)) r l F ≡ within s v l → workOf (evalOf s x st lo n (suc l)) ≡ Word (v .word) l
+    within-word : (F : Form) (q : formOf (operator r) ≡ F) (l : ℕ) (v : Value) → evalIn s x st lo (evalOf s x st lo) r l F ≡ within s v l → workOf (evalOf s x st lo n (suc l)) ≡ Word (v .word) l
     unfolding within workOf
     within-word F q l v h = ap workOf (visited F q l) ∙ ap workOf h ∙ needs-word _ _ _ (λ b. refl) (λ z. goes F q l (ap workOf h ∙ z))
 
@@ -191,9 +193,11 @@ module _ (s w : List ℕ) (st lo : List ℤ) (ready : Ready s w st lo) where
       abbrev declared : ℕ
       declared = typeAt s (variableAt (x .chart) (x .body) (r .f1) (r .f2))
 
-      read-as : (l : ℕ) → evalIn s x st lo (lowerEval n (evalOf s x st lo)) r l read ≡ readAs s x st lo (r .f1) (r .f2) declared l
-      unfolding evalIn readVal needs
-      read-as l = ap (λ b. needs b (readAs s x st lo (r .f1) (r .f2) declared l)) (lt-ltb _ _ read-inside)
+      read-as : (l : ℕ) → evalIn s x st lo (evalOf s x st lo) r l read ≡ readAs s x st lo (r .f1) (r .f2) declared l
+      unfolding evalIn readVal
+      read-as l =
+          let d = declared-record s _ (variable-declared s (ready .running .passed) _ _ (placed .element .chart) (x .body) (placed .body) (r .f1) (r .f2) read-inside) in
+          needs-met _ _ (lt-ltb _ _ read-inside) ∙ on-present _ (d .0) _ (d .1) ∙ ap (λ t. readAs s x st lo (r .f1) (r .f2) t l) (d .2)
 
       pub variable-word : r .f1 ≡ 1 → (l : ℕ) → workOf (evalOf s x st lo n (suc l)) ≡ Word (wordOf st (cellAt (firstCell s (x .element) + r .f2))) l
       unfolding readAs variableAtCell
@@ -201,23 +205,25 @@ module _ (s w : List ℕ) (st lo : List ℤ) (ready : Ready s w st lo) where
 
       pub local-word : r .f1 ≡ 2 → (l : ℕ) → workOf (evalOf s x st lo n (suc l)) ≡ Word (wordOf lo (r .f2)) l
       unfolding readAs
-      local-word two l = within-word read q l (val declared (wordOf lo (r .f2))) (read-as l ∙ ap (λ p. readAs s x st lo p (r .f2) declared l) two)
+      local-word two l = within-word read q l (val declared (wordOf lo (r .f2))) (read-as l ∙ ap (λ p. readAs s x st lo p (r .f2) declared l) two ∙ needs-met _ _ (lt-ltb _ _ (local-inside two)))
 
       -- a chart parameter: the constant in the element's binding
       module _ (none : r .f1 ≡ 0) where
-        parameter-as : (l : ℕ) → evalIn s x st lo (lowerEval n (evalOf s x st lo)) r l read ≡ parameterVal s x (r .f2) declared l
-        unfolding readAs
-        parameter-as l = read-as l ∙ ap (λ p. readAs s x st lo p (r .f2) declared l) none
+        parameter-as : (l : ℕ) → evalIn s x st lo (evalOf s x st lo) r l read ≡ onRecord (recordOf s nodes (constantOf (x .binding) (r .f2))) (λ r. needs (isLiteral (operator r)) (ofType declared (literalValue (x .element) r) (within s (literalValue (x .element) r) l)))
+        unfolding readAs parameterVal variablesAt
+        parameter-as l =
+            let h : r .f2 < chartParameters (x .chart) .count = subst (λ p. r .f2 < variablesAt (x .chart) (x .body) p) none read-inside in
+            read-as l ∙ ap (λ p. readAs s x st lo p (r .f2) declared l) none ∙ needs-met _ _ (lt-ltb (1 + r .f2) 8 (omega (arith, few-parameters s (ready .running .passed) x placed st lo cells (ready .locals))))
 
         pub parameter-word : (c : Record) → recordOf s nodes (constantOf (x .binding) (r .f2)) ≡ Present c → (l : ℕ) → workOf (evalOf s x st lo n (suc l)) ≡ Word (literalValue (x .element) c .word) l
-        unfolding parameterVal onRecord ofType within workOf
+        unfolding onRecord ofType within workOf
         parameter-word c h l =
             let p = parameter-as l ∙ ap (λ f. onRecord f (λ r. needs (isLiteral (operator r)) (ofType declared (literalValue (x .element) r) (within s (literalValue (x .element) r) l)))) h in
             ap workOf (visited read q l ∙ p) ∙ needs-three _ _ _ _ (λ z. goes read q l (ap workOf p ∙ z))
 
         -- no such constant
         pub parameter-stuck : recordOf s nodes (constantOf (x .binding) (r .f2)) ≡ Absent → (l : ℕ) → workOf (evalOf s x st lo n (suc l)) ≡ Stuck
-        unfolding parameterVal onRecord workOf
+        unfolding onRecord workOf
         parameter-stuck h l = ap workOf (visited read q l ∙ parameter-as l ∙ ap (λ f. onRecord f (λ r. needs (isLiteral (operator r)) (ofType declared (literalValue (x .element) r) (within s (literalValue (x .element) r) l)))) h)
 
     -- ---- clocks
@@ -263,7 +269,7 @@ module _ (s w : List ℕ) (st lo : List ℤ) (ready : Ready s w st lo) where
       pub not-word : (l : ℕ) → workOf (evalOf s x st lo n (suc l)) ≡ thenWork (workOf (evalOf s x st lo (r .f1) l)) notWork
       unfolding evalIn notVal notWork workOf needs
       not-word l =
-          ap workOf (visited unary q l ∙ ap (λ o. andThen o notVal) (low-operand (r .f1) _ low₁ l))
+          ap workOf (visited unary q l)
           ∙ then-word s Bool-type (evalOf s x st lo (r .f1) l) notVal notWork (operand-gives (r .f1) _ low₁ Bool-type l (not-type .0)) (λ v m k i. ap workOf (ap (λ b. needs b (out.Val (val Bool-type (boolWord (isZero (v .word)))) m)) (eq-eqb _ _ k)))
 
     module _ (q : formOf (operator r) ≡ binary) where
@@ -294,10 +300,9 @@ module _ (s w : List ℕ) (st lo : List ℤ) (ready : Ready s w st lo) where
       pub two-words : (l : ℕ) → workOf (evalOf s x st lo n (suc l)) ≡ thenWork (workOf (evalOf s x st lo (r .f1) l)) (λ a l. thenWork (workOf (evalOf s x st lo (r .f2) l)) (λ b l. binaryWork (operator r) a b l))
       unfolding evalIn
       two-words l =
-          ap workOf (visited binary q l ∙ ap (λ o. andThen o (λ a l. andThen (lowerEval n (evalOf s x st lo) (r .f2) l) (λ b l. binaryVal (operator r) a b l))) (low-operand (r .f1) _ low-first l))
+          ap workOf (visited binary q l)
           ∙ then-word s (two-types .0) (evalOf s x st lo (r .f1) l) _ _ (operand-gives (r .f1) _ low-first (two-types .0) l (two-types .2)) (λ a m k i.
-          ap workOf (ap (λ o. andThen o (λ b l. binaryVal (operator r) a b l)) (low-operand (r .f2) _ low-second m))
-          ∙ then-word s (two-types .1) (evalOf s x st lo (r .f2) m) _ _ (operand-gives (r .f2) _ low-second (two-types .1) m (two-types .3)) (λ b m′ k′ i′.
+          then-word s (two-types .1) (evalOf s x st lo (r .f2) m) _ _ (operand-gives (r .f2) _ low-second (two-types .1) m (two-types .3)) (λ b m′ k′ i′.
           binary-word (operator r) a b m′ (not-stuck s (e .kind) (binaryVal (operator r) a b m′) (two-types .4 a b m′ k k′))))
 
     -- no other operator is an expression
@@ -331,4 +336,4 @@ module _ (s w : List ℕ) (st lo : List ℤ) (ready : Ready s w st lo) where
   -- a node that is not there
   pub absent-stuck : (n l : ℕ) → recordOf s nodes n ≡ Absent → workOf (evalOf s x st lo n (suc l)) ≡ Stuck
   unfolding onRecord workOf
-  absent-stuck n l h = ap workOf (eval-visit s x st lo n l ∙ ap (λ f. onRecord f (λ r. evalIn s x st lo (lowerEval n (evalOf s x st lo)) r l (formOf (operator r)))) h)
+  absent-stuck n l h = ap workOf (eval-visit s x st lo n l ∙ ap (λ f. onRecord f (λ r. evalIn s x st lo (evalOf s x st lo) r l (formOf (operator r)))) h)

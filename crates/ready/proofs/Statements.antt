@@ -1,6 +1,6 @@
 -- What a statement of a passed sheet does in words, form by form.
-use Prim.Native.Nat.{ℕ, zero, suc, _+_, _-_, _<_}
-use mathlib.Core.Path.{_≡_, refl, sym, ap, subst, _∙_, fun-ext}
+use Prim.Native.Nat.{ℕ, zero, suc, _+_, _-_, _<_, _≤_}
+use mathlib.Core.Path.{_≡_, refl, sym, ap, subst, _∙_}
 use mathlib.Core.List.{List}
 use mathlib.Core.Bool.{Bool, true, false, not}
 use native.Mathlib.Omega.{arith}
@@ -13,9 +13,10 @@ use Rattle.sheet.specs.declared.Found.{Found}
 use Rattle.sheet.specs.declared.Found.the-variants.{Present, Absent}
 use Rattle.sheet.specs.All.{_and_}
 use Rattle.sheet.specs.Names
-use Rattle.sheet.specs.Names.{names, nodes, dataOf, external, role, procedure, chartVariables, bodyParameters, operator, Bool-type, Int-type, Component-type, Port-type, Timer-type, isClock}
-use Rattle.sheet.specs.Sheet.{recordOf}
+use Rattle.sheet.specs.Names.{declarations, names, nodes, dataOf, external, role, procedure, chartVariables, bodyParameters, operator, Bool-type, Int-type, Component-type, Port-type, Timer-type, isClock}
+use Rattle.sheet.specs.Sheet.{countOf, recordOf}
 use Rattle.sheet.proofs.All.{true-false, and-first, and-second, and-true, all-at}
+use Rattle.laris.specs.declared.Value.{Value}
 use Rattle.laris.specs.declared.Out.{Out}
 use Rattle.laris.specs.declared.Out.the-variants as out
 use Rattle.laris.specs.declared.Ran.the-variants.{Done, Refused, Stuck}
@@ -28,28 +29,70 @@ use Rattle.laris.specs.Types.{isOf, isStatement, variableAt, hasClass, internal
 use Rattle.laris.specs.Values.{isZero, firstCell}
 use Rattle.laris.specs.State.{cellAt}
 use Rattle.laris.specs.Eval.{Context, variableAtCell, evalOf}
-use Rattle.laris.specs.Run.{World, world, thenRun, thenValue, withRecord, provided, thenData, telegram, append, armed, clockSet, assigned, assignOf, nameDataOf, externalSendOf, internalSendOf, cellType, isVariable, armOf, clockActOf, entered, callOf, choiceOf, dataFrom, runIn, runOf}
+use Rattle.laris.specs.Run as run
+use Rattle.laris.specs.Run.{World, world, thenRun, thenOperand, withRecord, provided, Values, nextValue, valuesFrom, thenValues, areOf, wordsIn, telegram, append, armed, clockSet, assigned, assignOf, nameValues, externalSendOf, internalSendOf, isVariable, armOf, clockActOf, entered, callOf, choiceOf, runIn, runOf}
 use Rattle.laris.proofs.Fields.{holds-present, number-present}
 use Rattle.laris.proofs.Types.{lower-type}
+use Rattle.equations.proofs.Left.{ValuesWithin, values-left}
 use Rattle.equations.proofs.Run.{run-none, run-visit}
-use Rattle.passed.specs.Places.{Placed}
+use Rattle.passed.specs.Places.{InChart, Placed}
 use Rattle.passed.proofs.Records.{held}
-use Rattle.sound.specs.Gives.{Gives, Ends}
+use Rattle.passed.proofs.Declared.{name-declared, parameter-declared}
+use Rattle.sound.specs.Gives.{Gives, DataGive, Ends}
 use Rattle.sound.proofs.Leaves.{is-type}
 use Rattle.sound.proofs.Eval.{type-at, eval-gives}
-use Rattle.sound.proofs.Data.{range-of}
-use Rattle.sound.proofs.Run.{is-statement, stated, parameters-of, statement-ends}
+use Rattle.sound.proofs.Data.{data-gives, range-of, few-data}
+use Rattle.sound.proofs.Run.{is-statement, stated, called-in, few-parameters, parameters-of, variable-there, clock-there, statement-ends}
 use Rattle.ints.specs.Work.{workOf}
 use Rattle.ready.specs.Ready.{contextAt, Ready, IsExpression, IsStatement, HasData}
 use Rattle.ready.proofs.Expressions.{cells}
-use Rattle.ready.specs.Words.{thenWord}
+use Rattle.ready.specs.Words.{thenWord, Data, given, refused, stuck, before, thenDatum, dataFrom, thenData, DataTold}
 
--- a value of the type that is asked goes on as its word
-value-word : (s : List ℕ) (o : Out) (t : ℕ) (st lo : List ℤ) (K : ℤ → ℕ → World) → Gives s t o → thenValue o t st lo K ≡ thenWord (workOf o) st lo K
-unfolding thenValue thenWord workOf
-value-word s (out.Val v m) t st lo K g = ap (λ b. elim b as (λ b. World) [ true ↦ K (v .word) m | false ↦ world Stuck st lo ]) (eq-eqb _ _ (g .0))
-value-word s (out.Refused k m) t st lo K g = refl
-value-word s out.Stuck t st lo K g = refl
+-- a value of its type goes on as its word
+operand-word : (s : List ℕ) (o : Out) (t : ℕ) (st lo : List ℤ) (K : Value → ℕ → World) (L : ℤ → ℕ → World) → Gives s t o → ((v : Value) (m : ℕ) → v .kind ≡ t → K v m ≡ L (v .word) m) → thenOperand o st lo K ≡ thenWord (workOf o) st lo L
+unfolding thenOperand thenWord workOf
+operand-word s (out.Val v m) t st lo K L g h = h v m (g .0)
+operand-word s (out.Refused k m) t st lo K L g h = refl
+operand-word s out.Stuck t st lo K L g h = refl
+
+-- data in words
+inWords : Values → Data
+inWords (run.given vs l) = given (wordsIn vs) l
+inWords (run.refused n l) = refused n l
+inWords run.stuck = stuck
+
+before-words : (v : Value) (d : Values) → inWords (run.before v d) ≡ before (v .word) (inWords d)
+unfolding inWords run.before before wordsIn
+before-words v (run.given vs l) = refl
+before-words v (run.refused n l) = refl
+before-words v run.stuck = refl
+
+next-words : (o : Out) (K : ℕ → Values) (L : ℕ → Data) → ((l : ℕ) → inWords (K l) ≡ L l) → inWords (nextValue o K) ≡ thenDatum (workOf o) L
+unfolding inWords nextValue thenDatum workOf
+next-words (out.Val v m) K L h = before-words v (K m) ∙ ap (before (v .word)) (h m)
+next-words (out.Refused k m) K L h = refl
+next-words out.Stuck K L h = refl
+
+from-words : (f : ℕ → ℕ → Out) (r : Record) (n j l : ℕ) → j + n ≤ 4 → inWords (valuesFrom f r n j l) ≡ dataFrom f r n j l
+unfolding inWords valuesFrom dataFrom wordsIn
+from-words f r zero j l h = refl
+from-words f r (suc n) j l h =
+    ap (λ b. inWords (elim b [ true ↦ nextValue (f (fieldOf r (4 + j)) l) (λ l. valuesFrom f r n (suc j) l) | false ↦ run.stuck ])) (lt-ltb (4 + j) 8 (omega arith))
+    ∙ next-words (f (fieldOf r (4 + j)) l) _ _ (λ l. from-words f r n (suc j) l (omega arith))
+
+-- data of their types go on as words
+data-word : (s : List ℕ) (g : Range) (n : ℕ) (d : Values) (st lo : List ℤ) (K : List Value → ℕ → World) (L : List ℤ → ℕ → World) → DataGive s g n 0 d → ((vs : List Value) (m : ℕ) → areOf s (g .first) vs ≡ true → K vs m ≡ L (wordsIn vs) m) → thenValues d st lo K ≡ thenData (inWords d) st lo L
+unfolding inWords thenValues thenData
+data-word s g n (run.given vs m) st lo K L d h = let z : g .first + 0 ≡ g .first = omega arith in h vs m (rw z at (d .0))
+data-word s g n (run.refused k m) st lo K L d h = refl
+data-word s g n run.stuck st lo K L d h = refl
+
+-- what data of their types are in words
+words-told : (s : List ℕ) (g : Range) (l : ℕ) (d : Values) → DataGive s g (g .count) 0 d → ValuesWithin l d → DataTold s g l (inWords d)
+unfolding inWords
+words-told s g l (run.given vs m) h w = (h .1, w)
+words-told s g l (run.refused k m) h w = tt
+words-told s g l run.stuck h w = tt
 
 record-is : (f : Found) (r : Record) (st lo : List ℤ) (K : Record → World) → f ≡ Present r → withRecord f st lo K ≡ K r
 unfolding withRecord
@@ -152,7 +195,7 @@ module _ (s w : List ℕ) (st lo : List ℤ) (ready : Ready s w st lo) where
 
       pub assign-word : (depth l : ℕ) → runOf s depth x n (suc l) st lo ≡ thenWord (workOf (evalOf s x st lo (r .f3) l)) st lo (λ z m. assigned s x (r .f1) (r .f2) z m st lo)
       unfolding runIn assignOf
-      assign-word depth l = visited assign q depth l ∙ provided-is _ st lo _ (lt-ltb _ _ assign-inside) ∙ value-word s _ _ st lo _ (gives (r .f3) assign-low _ l (and-second _ _ assign-types))
+      assign-word depth l = visited assign q depth l ∙ operand-word s _ _ st lo _ _ (gives (r .f3) assign-low _ l (and-second _ _ assign-types)) (λ v m k. provided-is _ st lo _ (variable-there s (ready .running .passed) x placed st lo (ready .state) (ready .locals) (r .f1) (r .f2) (v .kind) (lt-ltb _ _ assign-inside) k))
 
     -- ---- a choice, a loop, a sequence
 
@@ -179,7 +222,7 @@ module _ (s w : List ℕ) (st lo : List ℤ) (ready : Ready s w st lo) where
 
       pub choice-word : (depth l : ℕ) → runOf s depth x n (suc l) st lo ≡ thenWord (workOf (evalOf s x st lo (r .f1) l)) st lo (λ z m. elim (isZero z) [ true ↦ runOf s depth x (r .f3) m st lo | false ↦ runOf s depth x (r .f2) m st lo ])
       unfolding runIn choiceOf fieldOf
-      choice-word depth l = visited choice q depth l ∙ value-word s _ Bool-type st lo _ (gives (r .f1) (choice-low 0 (omega arith)) Bool-type l (and-first _ _ choice-types))
+      choice-word depth l = visited choice q depth l ∙ operand-word s _ Bool-type st lo _ _ (gives (r .f1) (choice-low 0 (omega arith)) Bool-type l (and-first _ _ choice-types)) (λ v m k. provided-is _ st lo _ (eq-eqb _ _ k))
 
     module _ (q : formOf (operator r) ≡ loop) where
       loop-low : (j : ℕ) → j < 2 → Lower level (fieldOf r (1 + j))
@@ -200,7 +243,7 @@ module _ (s w : List ℕ) (st lo : List ℤ) (ready : Ready s w st lo) where
 
       pub loop-word : (depth l : ℕ) → runOf s depth x n (suc l) st lo ≡ thenWord (workOf (evalOf s x st lo (r .f1) l)) st lo (λ z m. elim (isZero z) [ true ↦ world (Done m) st lo | false ↦ thenRun (runOf s depth x (r .f2) m st lo) (λ m st lo. runOf s depth x n m st lo) ])
       unfolding runIn choiceOf fieldOf
-      loop-word depth l = visited loop q depth l ∙ value-word s _ Bool-type st lo _ (gives (r .f1) (loop-low 0 (omega arith)) Bool-type l (and-first _ _ loop-types))
+      loop-word depth l = visited loop q depth l ∙ operand-word s _ Bool-type st lo _ _ (gives (r .f1) (loop-low 0 (omega arith)) Bool-type l (and-first _ _ loop-types)) (λ v m k. provided-is _ st lo _ (eq-eqb _ _ k))
 
     module _ (q : formOf (operator r) ≡ sequence) where
       sequence-low : (j : ℕ) → j < 2 → Lower level (fieldOf r (1 + j))
@@ -246,6 +289,20 @@ module _ (s w : List ℕ) (st lo : List ℤ) (ready : Ready s w st lo) where
 
       has-data : HasData s w st lo r g
       has-data = record { each = datum-is; gives = datum-gives }
+
+    -- data that stand behind their declarations go on as words
+    module _ (g : Range) (has : HasData s w st lo r g) (small : g .count ≤ 4) (declared : (j : ℕ) → j < g .count → g .first + j < countOf s declarations) (l : ℕ) where
+      typed-data : DataGive s g (g .count) 0 (valuesFrom (evalOf s x st lo) r (g .count) 0 l)
+      typed-data = data-gives s g (evalOf s x st lo) r (g .count) 0 l (omega arith) (λ i q. let z : 0 + i ≡ i = omega arith in rw z (declared i q)) (λ i m q. let z : 0 + i ≡ i = omega arith in rw z (has .gives i m q))
+
+      as-words : inWords (valuesFrom (evalOf s x st lo) r (g .count) 0 l) ≡ dataFrom (evalOf s x st lo) r (g .count) 0 l
+      as-words = from-words (evalOf s x st lo) r (g .count) 0 l (omega arith)
+
+      gathered : (K : List Value → ℕ → World) (L : List ℤ → ℕ → World) → ((vs : List Value) (m : ℕ) → areOf s (g .first) vs ≡ true → K vs m ≡ L (wordsIn vs) m) → thenValues (valuesFrom (evalOf s x st lo) r (g .count) 0 l) st lo K ≡ thenData (dataFrom (evalOf s x st lo) r (g .count) 0 l) st lo L
+      gathered K L h = data-word s g (g .count) _ st lo K L typed-data h ∙ ap (λ d. thenData d st lo L) as-words
+
+      data-told : DataTold s g l (dataFrom (evalOf s x st lo) r (g .count) 0 l)
+      data-told = subst (DataTold s g l) as-words (words-told s g l _ typed-data (values-left s x st lo r (g .count) 0 l))
 
     -- the name of a send or an arming
     module _ (shape : sendShape s r ≡ true) (d : dataMatch s f (nameRange s (r .f3)) r ≡ true) (first c : ℕ) (h : (j : ℕ) → j < c + nameData s r → Lower level (operandAt r (operands first c (nameData s r)) j)) where
@@ -301,13 +358,16 @@ module _ (s w : List ℕ) (st lo : List ℤ) (ready : Ready s w st lo) where
             runOf s depth x n (suc l) st lo ≡
             thenWord (workOf (evalOf s x st lo (r .f1) l)) st lo (λ receiver l.
             thenWord (workOf (evalOf s x st lo (r .f2) l)) st lo (λ port l.
-            thenData (dataFrom s (evalOf s x st lo) (dataOf a) r (dataOf a .count) 0 l) st lo (λ zs l.
+            thenData (dataFrom (evalOf s x st lo) r (dataOf a .count) 0 l) st lo (λ zs l.
             append s (telegram (pos (x .element)) receiver port (r .f3) zs) l st lo)))
-        unfolding runIn externalSendOf nameDataOf
+        unfolding runIn externalSendOf nameValues
         external-word depth l =
-            visited externalSend q depth l ∙ record-is _ a st lo _ e
-            ∙ value-word s _ Component-type st lo _ (gives (r .f1) receiver-low Component-type l (and-first _ _ external-types))
-            ∙ ap (thenWord (workOf (evalOf s x st lo (r .f1) l)) st lo) (fun-ext (λ receiver. fun-ext (λ m. value-word s _ Port-type st lo _ (gives (r .f2) port-low Port-type m (and-first _ _ (and-second _ _ external-types))))))
+            visited externalSend q depth l
+            ∙ operand-word s _ Component-type st lo _ _ (gives (r .f1) receiver-low Component-type l (and-first _ _ external-types)) (λ receiver m k.
+            operand-word s _ Port-type st lo _ _ (gives (r .f2) port-low Port-type m (and-first _ _ (and-second _ _ external-types))) (λ port m′ k′.
+            record-is _ a st lo _ e
+            ∙ gathered (dataOf a) external-data (few-data s (ready .running .passed) (r .f3) a e) (name-declared s (ready .running .passed) (r .f3) a e) m′ _ _ (λ vs m″ are.
+            provided-is _ st lo _ (and-true _ _ (eq-eqb _ _ k) (and-true _ _ (eq-eqb _ _ k′) are)))))
 
     -- ---- an internal send
 
@@ -333,10 +393,16 @@ module _ (s w : List ℕ) (st lo : List ℤ) (ready : Ready s w st lo) where
 
         pub internal-word : (depth l : ℕ) →
             runOf s depth x n (suc l) st lo ≡
-            thenData (dataFrom s (evalOf s x st lo) (dataOf a) r (dataOf a .count) 0 l) st lo (λ zs l.
+            thenData (dataFrom (evalOf s x st lo) r (dataOf a .count) 0 l) st lo (λ zs l.
             append s (telegram (pos (x .element)) (pos (x .element)) (negsuc 0) (r .f3) zs) l st lo)
-        unfolding runIn internalSendOf nameDataOf
-        internal-word depth l = visited internalSend q depth l ∙ record-is _ a st lo _ e
+        unfolding runIn internalSendOf nameValues
+        internal-word depth l =
+            visited internalSend q depth l ∙ record-is _ a st lo _ e
+            ∙ gathered (dataOf a) internal-data (few-data s (ready .running .passed) (r .f3) a e) (name-declared s (ready .running .passed) (r .f3) a e) l _ _ (λ vs m are. provided-is _ st lo _ are)
+
+    -- a chart variable whose type meets a test
+    has-clock : (j : ℕ) (p : ℕ → Bool) → j < chartVariables (x .chart) .count → p (typeAt s (chartVariables (x .chart) .first + j)) ≡ true → isVariable s x j p ≡ true
+    has-clock j p h e = clock-there s (ready .running .passed) x placed st lo (ready .state) (ready .locals) j p (lt-ltb _ _ h) e
 
     -- ---- arming
 
@@ -376,13 +442,15 @@ module _ (s w : List ℕ) (st lo : List ℤ) (ready : Ready s w st lo) where
         pub arm-word : (depth l : ℕ) →
             runOf s depth x n (suc l) st lo ≡
             thenWord (workOf (evalOf s x st lo (r .f2) l)) st lo (λ period l.
-            thenData (dataFrom s (evalOf s x st lo) (dataOf a) r (dataOf a .count) 0 l) st lo (λ zs l.
+            thenData (dataFrom (evalOf s x st lo) r (dataOf a .count) 0 l) st lo (λ zs l.
             armed (cellAt (firstCell s (x .element) + r .f1)) (clockOf (operator r)) period (r .f3) zs l st lo))
-        unfolding runIn armOf nameDataOf variableAtCell
+        unfolding runIn armOf nameValues variableAtCell
         arm-word depth l =
-            visited arm q depth l ∙ provided-is _ st lo _ (and-true _ _ (lt-ltb _ _ arm-inside) (and-first _ _ arm-types)) ∙ record-is _ a st lo _ e
-            ∙ value-word s _ Int-type st lo _ (gives (r .f2) period-low Int-type l (and-first _ _ (and-second _ _ arm-types)))
-            ∙ ap (λ t. thenWord (workOf (evalOf s x st lo (r .f2) l)) st lo (λ period l. thenData (dataFrom s (evalOf s x st lo) (dataOf a) r (dataOf a .count) 0 l) st lo (λ zs l. armed (cellAt (firstCell s (x .element) + r .f1)) t period (r .f3) zs l st lo))) arm-type
+            visited arm q depth l
+            ∙ operand-word s _ Int-type st lo _ _ (gives (r .f2) period-low Int-type l (and-first _ _ (and-second _ _ arm-types))) (λ period m k.
+            record-is _ a st lo _ e
+            ∙ gathered (dataOf a) arm-data (few-data s (ready .running .passed) (r .f3) a e) (name-declared s (ready .running .passed) (r .f3) a e) m _ _ (λ vs m′ are.
+            provided-is _ st lo _ (and-true _ _ (has-clock (r .f1) (eqb (clockOf (operator r))) arm-inside (eq-eqb _ _ (sym arm-type))) (and-true _ _ (eq-eqb _ _ k) are))))
 
     -- ---- 38 start Timer, 39 stop any clock
 
@@ -398,21 +466,22 @@ module _ (s w : List ℕ) (st lo : List ℤ) (ready : Ready s w st lo) where
       abbrev acts : ℕ → Bool → World
       acts l b =
           elim b [
-            | true ↦ provided (isVariable s x (r .f1) and eqb (cellType s x (r .f1)) Timer-type) st lo (clockSet (variableAtCell s x st lo (r .f1)) (pos 1) l st lo)
-            | false ↦ provided (isVariable s x (r .f1) and isClock (cellType s x (r .f1))) st lo (clockSet (variableAtCell s x st lo (r .f1)) (pos 0) l st lo)
+            | true ↦ provided (isVariable s x (r .f1) (eqb Timer-type)) st lo (clockSet (variableAtCell s x st lo (r .f1)) (pos 1) l st lo)
+            | false ↦ provided (isVariable s x (r .f1) isClock) st lo (clockSet (variableAtCell s x st lo (r .f1)) (pos 0) l st lo)
           ]
 
       pub started-word : operator r ≡ 38 → (depth l : ℕ) → runOf s depth x n (suc l) st lo ≡ clockSet (cellAt (firstCell s (x .element) + r .f1)) (pos 1) l st lo
       unfolding runIn clockActOf variableAtCell
       started-word h depth l =
           let b = eq-eqb (operator r) 38 h in
-          visited clockAct q depth l ∙ ap (acts l) b ∙ provided-is _ st lo _ (and-true _ _ (lt-ltb _ _ act-inside) (subst (λ b. elim b [ true ↦ eqb (chartVariableType s (x .chart) (r .f1)) Timer-type | false ↦ isClock (chartVariableType s (x .chart) (r .f1)) ] ≡ true) b act-types))
+          let k : chartVariableType s (x .chart) (r .f1) ≡ Timer-type = eqb-true _ _ (subst (λ b. elim b [ true ↦ eqb (chartVariableType s (x .chart) (r .f1)) Timer-type | false ↦ isClock (chartVariableType s (x .chart) (r .f1)) ] ≡ true) b act-types) in
+          visited clockAct q depth l ∙ ap (acts l) b ∙ provided-is _ st lo _ (has-clock (r .f1) (eqb Timer-type) act-inside (eq-eqb _ _ (sym k)))
 
       pub stopped-word : (operator r ≡ 38 → ⊥) → (depth l : ℕ) → runOf s depth x n (suc l) st lo ≡ clockSet (cellAt (firstCell s (x .element) + r .f1)) (pos 0) l st lo
       unfolding runIn clockActOf variableAtCell
       stopped-word h depth l =
           let b = ne-eqb (operator r) 38 h in
-          visited clockAct q depth l ∙ ap (acts l) b ∙ provided-is _ st lo _ (and-true _ _ (lt-ltb _ _ act-inside) (subst (λ b. elim b [ true ↦ eqb (chartVariableType s (x .chart) (r .f1)) Timer-type | false ↦ isClock (chartVariableType s (x .chart) (r .f1)) ] ≡ true) b act-types))
+          visited clockAct q depth l ∙ ap (acts l) b ∙ provided-is _ st lo _ (has-clock (r .f1) isClock act-inside (subst (λ b. elim b [ true ↦ eqb (chartVariableType s (x .chart) (r .f1)) Timer-type | false ↦ isClock (chartVariableType s (x .chart) (r .f1)) ] ≡ true) b act-types))
 
     -- ---- a call
 
@@ -436,9 +505,17 @@ module _ (s w : List ℕ) (st lo : List ℤ) (ready : Ready s w st lo) where
         pub call-data : HasData s w st lo r (bodyParameters b)
         call-data = has-data (bodyParameters b) call-lows (subst (λ g. dataMatch s f g r ≡ true) (parameters-of _ b e) (and-second _ _ call-types))
 
+        in-chart : InChart s (x .chart) b
+        in-chart = called-in s (x .chart) r b e
+
+        pub call-told : (l : ℕ) → DataTold s (bodyParameters b) l (dataFrom (evalOf s x st lo) r (bodyParameters b .count) 0 l)
+        call-told l = data-told (bodyParameters b) call-data (few-parameters s (ready .running .passed) b (x .chart) in-chart) (parameter-declared s (ready .running .passed) _ (x .chart) (placed .element .chart) b in-chart) l
+
         pub call-word : (depth l : ℕ) →
             runOf s depth x n (suc l) st lo ≡
-            thenData (dataFrom s (evalOf s x st lo) (bodyParameters b) r (bodyParameters b .count) 0 l) st lo (λ zs l.
+            thenData (dataFrom (evalOf s x st lo) r (bodyParameters b .count) 0 l) st lo (λ zs l.
             entered s x (runOf s) depth b zs l st lo)
         unfolding runIn callOf
-        call-word depth l = visited call q depth l ∙ record-is _ b st lo _ e
+        call-word depth l =
+            visited call q depth l ∙ record-is _ b st lo _ e
+            ∙ gathered (bodyParameters b) call-data (few-parameters s (ready .running .passed) b (x .chart) in-chart) (parameter-declared s (ready .running .passed) _ (x .chart) (placed .element .chart) b in-chart) l _ _ (λ vs m are. provided-is _ st lo _ are)

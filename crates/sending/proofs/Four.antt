@@ -2,26 +2,19 @@
 use Prim.Native.Nat.{ℕ, suc, _+_, _-_, _<_, _≤_}
 use mathlib.Core.Path.{_≡_, refl, sym, ap, _∙_}
 use mathlib.Core.List.{List, [], _∷_, _++_}
-use mathlib.Core.Bool.{true, false}
 use native.Mathlib.Omega.{arith}
 use lib.ListN.{length, set, length-append}
 use lib.IntN.{ℤ}
-use borrow.Author.Tests.{eq-eqb}
 use Rattle.sheet.specs.declared.Record.{Record}
 use Rattle.sheet.specs.declared.Range.{Range}
-use Rattle.laris.specs.declared.Out.{Out}
-use Rattle.laris.specs.declared.Out.the-variants as out
 use Rattle.laris.specs.declared.Ran.{Ran}
 use Rattle.laris.specs.declared.Ran.the-variants.{Done, Refused, Stuck}
 use Rattle.laris.specs.Fields.{fieldOf}
 use Rattle.laris.specs.Eval.{evalOf}
-use Rattle.laris.specs.Run.{Data, given, refused, stuck, before, nextDatum, dataFrom}
 use Rattle.ints.specs.declared.Work.{Work}
 use Rattle.ints.specs.declared.Work.the-variants as work
-use Rattle.ints.specs.Work.{workOf}
-use Rattle.sound.specs.Gives.{Gives}
-use Rattle.ready.specs.Ready.{contextAt, HasData}
-use Rattle.ready.specs.Words.{ranData, fourWords}
+use Rattle.ready.specs.Ready.{contextAt}
+use Rattle.ready.specs.Words.{Data, given, refused, stuck, before, thenDatum, dataFrom, ranData, fourWords}
 use Rattle.sending.specs.Sent.{dataAt, wordAt}
 
 -- ---- words in front of what is to come
@@ -49,18 +42,6 @@ befores-stuck : (zs : List ℤ) → befores zs stuck ≡ stuck
 unfolding befores before
 befores-stuck [] = refl
 befores-stuck (y ∷ zs) = ap (before y) (befores-stuck zs)
-
-unfoldable thenDatum : Work → (ℕ → Data) → Data
-thenDatum (work.Word z l) K = before z (K l)
-thenDatum (work.Refused k l) K = refused k l
-thenDatum work.Stuck K = stuck
-
--- a value of the type that is asked goes on as its word
-datum-word : (s : List ℕ) (t : ℕ) (o : Out) (K : ℕ → Data) → Gives s t o → nextDatum o t K ≡ thenDatum (workOf o) K
-unfolding nextDatum thenDatum workOf
-datum-word s t (out.Val v m) K g = ap (λ b. elim b as (λ b. Data) [ true ↦ before (v .word) (K m) | false ↦ stuck ]) (eq-eqb _ _ (g .0))
-datum-word s t (out.Refused k m) K g = refl
-datum-word s t out.Stuck K g = refl
 
 -- ---- four words
 
@@ -95,7 +76,7 @@ module _ (s w : List ℕ) (st lo : List ℤ) (r : Record) (g : Range) where
     pub number : length got ≡ j
     pub inside : j ≤ g .count
     pub words : into ≡ fourWords got
-    pub rest : dataAt s w st lo r g left ≡ befores got (dataFrom s (evalOf s (contextAt s w) st lo) g r (g .count - j) j l)
+    pub rest : dataAt s w st lo r g left ≡ befores got (dataFrom (evalOf s (contextAt s w) st lo) r (g .count - j) j l)
 
   pub data-start : (left : ℕ) (into : List ℤ) → into ≡ fourWords [] → SoFar left 0 left into
   unfolding befores
@@ -113,15 +94,15 @@ module _ (s w : List ℕ) (st lo : List ℤ) (r : Record) (g : Range) where
         let d : dataAt s w st lo r g left ≡ given (c .got) l = (rw z at (c .rest)) ∙ befores-given (c .got) l in
         (ap length (c .words), ap ranData (sym d), λ zs m e. c .words ∙ ap (λ d. fourWords (words d)) (sym d ∙ e))
 
-    module _ (has : HasData s w st lo r g) (h : j < g .count) where
-      next : dataAt s w st lo r g left ≡ befores (c .got) (thenDatum (wordAt s w st lo (fieldOf r (4 + j)) l) (λ m. dataFrom s (evalOf s (contextAt s w) st lo) g r (g .count - suc j) (suc j) m))
+    module _ (h : j < g .count) where
+      next : dataAt s w st lo r g left ≡ befores (c .got) (thenDatum (wordAt s w st lo (fieldOf r (4 + j)) l) (λ m. dataFrom (evalOf s (contextAt s w) st lo) r (g .count - suc j) (suc j) m))
       unfolding dataFrom
       next =
           let z : g .count - j ≡ suc (g .count - suc j) = omega arith in
-          (rw z at (c .rest)) ∙ ap (befores (c .got)) (datum-word s _ _ _ (has .gives j l h))
+          rw z at (c .rest)
 
-      nextWith : (x : Work) → x ≡ wordAt s w st lo (fieldOf r (4 + j)) l → dataAt s w st lo r g left ≡ befores (c .got) (thenDatum x (λ m. dataFrom s (evalOf s (contextAt s w) st lo) g r (g .count - suc j) (suc j) m))
-      nextWith x e = next ∙ ap (λ x. befores (c .got) (thenDatum x (λ m. dataFrom s (evalOf s (contextAt s w) st lo) g r (g .count - suc j) (suc j) m))) (sym e)
+      nextWith : (x : Work) → x ≡ wordAt s w st lo (fieldOf r (4 + j)) l → dataAt s w st lo r g left ≡ befores (c .got) (thenDatum x (λ m. dataFrom (evalOf s (contextAt s w) st lo) r (g .count - suc j) (suc j) m))
+      nextWith x e = next ∙ ap (λ x. befores (c .got) (thenDatum x (λ m. dataFrom (evalOf s (contextAt s w) st lo) r (g .count - suc j) (suc j) m))) (sym e)
 
       pub data-again : g .count ≤ 4 → (z : ℤ) (m : ℕ) → work.Word z m ≡ wordAt s w st lo (fieldOf r (4 + j)) l → SoFar left (j + 1) m (set into j z)
       unfolding thenDatum

@@ -22,14 +22,14 @@ use Rattle.laris.specs.declared.Telegram.{Telegram}
 use Rattle.laris.specs.Fields.{componentsOf}
 use Rattle.laris.specs.Shape.{nameShape}
 use Rattle.laris.specs.Values.{isBound}
-use Rattle.laris.specs.State.{on, off, appended}
-use Rattle.laris.specs.Run.{World, world, Data, given, refused, stuck, thenData, telegram, append}
+use Rattle.laris.specs.State.{on, off, lost, appended}
+use Rattle.laris.specs.Run.{World, world, telegram, append}
 use Rattle.passed.proofs.Records.{components-limit, name-shape}
 use Rattle.ints.proofs.Range.{back}
 use Rattle.ints.specs.declared.Work.{Work}
 use Rattle.ints.specs.declared.Work.the-variants as work
 use Rattle.ready.specs.Ready.{contextAt, Running}
-use Rattle.ready.specs.Words.{thenWord, ranData, fourWords}
+use Rattle.ready.specs.Words.{thenWord, Data, given, refused, stuck, thenData, ranData, fourWords}
 
 -- ---- going on from a word
 
@@ -103,12 +103,12 @@ four-data s w run n a e = leb-true _ _ (and-first _ _ (and-second _ _ (name-shap
 module _ (s : List ℕ) (t : Telegram) (l : ℕ) (st lo : List ℤ) where
   pub append-done : (n : ℕ) (st′ : List ℤ) → appended s st t ≡ changedTo n st′ → n ≡ 0 → world (Done l) st′ lo ≡ append s t l st lo
   unfolding append changedTo
-  append-done n st′ e h = sym (ap (λ r. elim r as (λ r. World) [ on st′ ↦ world (Done l) st′ lo | off n ↦ world (Refused n l) st lo ]) (e ∙ ap (λ n. changedTo n st′) h))
+  append-done n st′ e h = sym (ap (λ r. elim r as (λ r. World) [ on st′ ↦ world (Done l) st′ lo | off n ↦ world (Refused n l) st lo | lost ↦ world Stuck st lo ]) (e ∙ ap (λ n. changedTo n st′) h))
 
   pub append-refused : (n : ℕ) (st′ : List ℤ) → appended s st t ≡ changedTo n st′ → (n ≡ 0 → ⊥) → st′ ≡ st → world (Refused n l) st′ lo ≡ append s t l st lo
   unfolding append changedTo
   append-refused zero st′ e h q = absurd (h refl)
-  append-refused (suc n) st′ e h q = ap (λ st. world (Refused (suc n) l) st lo) q ∙ sym (ap (λ r. elim r as (λ r. World) [ on st′ ↦ world (Done l) st′ lo | off n ↦ world (Refused n l) st lo ]) e)
+  append-refused (suc n) st′ e h q = ap (λ st. world (Refused (suc n) l) st lo) q ∙ sym (ap (λ r. elim r as (λ r. World) [ on st′ ↦ world (Done l) st′ lo | off n ↦ world (Refused n l) st lo | lost ↦ world Stuck st lo ]) e)
 
 -- ---- a record that is there
 

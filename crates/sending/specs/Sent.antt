@@ -7,11 +7,11 @@ use Rattle.sheet.specs.declared.Record.{Record}
 use Rattle.sheet.specs.declared.Range.{Range}
 use Rattle.sheet.specs.Names.{dataOf}
 use Rattle.laris.specs.Eval.{evalOf}
-use Rattle.laris.specs.Run.{World, Data, dataFrom, thenData, telegram, append}
+use Rattle.laris.specs.Run.{World, telegram, append}
 use Rattle.ints.specs.declared.Work.{Work}
 use Rattle.ints.specs.Work.{workOf}
 use Rattle.ready.specs.Ready.{contextAt}
-use Rattle.ready.specs.Words.{thenWord}
+use Rattle.ready.specs.Words.{thenWord, Data, dataFrom, thenData}
 
 module _ (s w : List ℕ) (st lo : List ℤ) where
   -- the word of node n
@@ -20,7 +20,7 @@ module _ (s w : List ℕ) (st lo : List ℤ) where
 
   -- the data of a node's record r, for the declarations of a range
   abbrev pub dataAt : Record → Range → ℕ → Data
-  dataAt r g l = dataFrom s (evalOf s (contextAt s w) st lo) g r (g .count) 0 l
+  dataAt r g l = dataFrom (evalOf s (contextAt s w) st lo) r (g .count) 0 l
 
   -- a telegram of the element with name record a
   abbrev pub sent : Record → Record → ℤ → ℤ → ℕ → World

@@ -15,10 +15,10 @@ ghost use Rattle.sheet.specs.Names.{dataOf};
 ghost use Rattle.sheet.specs.Sheet.{directoryOf, recordOf};
 ghost use Rattle.laris.specs.Forms.{externalSend, internalSend};
 ghost use Rattle.laris.specs.State.{stateLength};
-ghost use Rattle.laris.specs.Run.{world, given, append as appendOf, runOf};
+ghost use Rattle.laris.specs.Run.{world, append as appendOf, runOf};
 ghost use Rattle.queue.specs.Laid.{Laid};
 ghost use Rattle.ready.specs.Ready.{contextAt, Ready, HasData};
-ghost use Rattle.ready.specs.Words.{ranData, fourWords};
+ghost use Rattle.ready.specs.Words.{given, ranData, fourWords};
 ghost use Rattle.sending.specs.Visit.{Visit};
 ghost use Rattle.sending.specs.Sent.{dataAt, sent, sentTo};
 

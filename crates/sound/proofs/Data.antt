@@ -5,6 +5,7 @@ use mathlib.Core.List.{List, _∷_}
 use mathlib.Core.Bool.{true, false}
 use native.Mathlib.Omega.{arith}
 use native.Mathlib.Decide.{decLt}
+use lib.Dec.{eqb}
 use lib.ListN.{getD, List·getD-eq-default}
 use lib.IntN.{ℤ, pos}
 use borrow.Author.Tests.{leb-true, lt-ltb, le-ltb, eq-eqb}
@@ -12,9 +13,10 @@ use Rattle.sheet.specs.declared.Record.{Record}
 use Rattle.sheet.specs.declared.Range.{Range}
 use Rattle.sheet.specs.declared.Found.the-variants.{Present}
 use Rattle.sheet.specs.All.{_and_}
-use Rattle.sheet.specs.Names.{names, dataOf}
-use Rattle.sheet.specs.Sheet.{recordOf}
+use Rattle.sheet.specs.Names.{declarations, names, dataOf}
+use Rattle.sheet.specs.Sheet.{countOf, recordOf}
 use Rattle.sheet.proofs.All.{and-first, and-second, and-true}
+use Rattle.laris.specs.declared.Value.{Value}
 use Rattle.laris.specs.declared.Out.{Out}
 use Rattle.laris.specs.declared.Out.the-variants as out
 use Rattle.laris.specs.declared.Checked.the-variants.{Passed}
@@ -23,44 +25,49 @@ use Rattle.laris.specs.Types.{hasClass, hasReaction, nameRange}
 use Rattle.laris.specs.Shape.{nameShape}
 use Rattle.laris.specs.Values.{isBelow, isZero, inType, chartOf}
 use Rattle.laris.specs.Valid.{dataFit, nameFits, reactionAwaits}
-use Rattle.laris.specs.Run.{Data, given, refused, stuck, before, nextDatum, dataFrom, datum}
+use Rattle.laris.specs.Run.{Values, given, refused, stuck, before, nextValue, valuesFrom, areOf, wordsIn, datum}
 use Rattle.laris.specs.Check.{checkOf}
 use Rattle.laris.proofs.Fields.{holds-present}
 use Rattle.passed.specs.Places.{Element}
 use Rattle.passed.proofs.Records.{present-below, name-shape}
 use Rattle.passed.proofs.Charts.{element-chart}
+use Rattle.passed.proofs.Declared.{declared-so}
 use Rattle.states.proofs.Frame.{all-true}
-use Rattle.sound.specs.Gives.{Gives, DataGive}
+use Rattle.sound.specs.Gives.{Gives, WordsOf, DataGive}
 
 module _ (s : List ℕ) (g : Range) where
-  one-more : (z : ℤ) (n j : ℕ) (d : Data) → inType s (typeAt s (g .first + j)) z ≡ true → DataGive s g n (suc j) d → DataGive s g (suc n) j (before z d)
-  unfolding before
-  one-more z n j (given zs m) h k = (ap suc (k .0), each)
+  one-more : (v : Value) (n j : ℕ) (d : Values) → g .first + j < countOf s declarations → v .kind ≡ typeAt s (g .first + j) → inType s (typeAt s (g .first + j)) (v .word) ≡ true → DataGive s g n (suc j) d → DataGive s g (suc n) j (before v d)
+  unfolding before areOf wordsIn
+  one-more v n j (given vs m) p e h k = (and-true _ _ (declared-so s (g .first + j) (eqb (v .kind)) p ∙ eq-eqb _ _ e) (let z : g .first + suc j ≡ suc (g .first + j) = omega arith in rw z at (k .0)), (ap suc (k .1 .0), each))
     where
-      each : (i : ℕ) → i < suc n → inType s (typeAt s (g .first + (j + i))) (datum (z ∷ zs) i) ≡ true
+      each : (i : ℕ) → i < suc n → inType s (typeAt s (g .first + (j + i))) (datum (v .word ∷ wordsIn vs) i) ≡ true
       each zero l = let e : g .first + (j + 0) ≡ g .first + j = omega arith in rw e h
-      each (suc i) l = let e : g .first + (j + suc i) ≡ g .first + (suc j + i) = omega arith in rw e (k .1 i (omega arith))
-  one-more z n j (refused q m) h k = k
-  one-more z n j stuck h k = k
+      each (suc i) l = let e : g .first + (j + suc i) ≡ g .first + (suc j + i) = omega arith in rw e (k .1 .1 i (omega arith))
+  one-more v n j (refused q m) p e h k = k
+  one-more v n j stuck p e h k = k
 
-  next-gives : (o : Out) (n j : ℕ) (K : ℕ → Data) → Gives s (typeAt s (g .first + j)) o → ((m : ℕ) → DataGive s g n (suc j) (K m)) → DataGive s g (suc n) j (nextDatum o (typeAt s (g .first + j)) K)
-  unfolding nextDatum
-  next-gives (out.Val v m) n j K h k = subst (λ b. DataGive s g (suc n) j (elim b [ true ↦ before (v .word) (K m) | false ↦ stuck ])) (sym (eq-eqb _ _ (h .0))) (one-more (v .word) n j (K m) (h .1) (k m))
-  next-gives (out.Refused q m) n j K h k = h
-  next-gives out.Stuck n j K h k = h
+  next-gives : (o : Out) (n j : ℕ) (K : ℕ → Values) → g .first + j < countOf s declarations → Gives s (typeAt s (g .first + j)) o → ((m : ℕ) → DataGive s g n (suc j) (K m)) → DataGive s g (suc n) j (nextValue o K)
+  unfolding nextValue
+  next-gives (out.Val v m) n j K p h k = one-more v n j (K m) p (h .0) (h .1) (k m)
+  next-gives (out.Refused q m) n j K p h k = h
+  next-gives out.Stuck n j K p h k = h
 
-  pub data-gives : (f : ℕ → ℕ → Out) (r : Record) (n j l : ℕ) → ((i m : ℕ) → i < n → Gives s (typeAt s (g .first + (j + i))) (f (fieldOf r (4 + (j + i))) m)) → DataGive s g n j (dataFrom s f g r n j l)
-  unfolding dataFrom
-  data-gives f r zero j l h = (refl, λ i q. absurd (omega arith))
-  data-gives f r (suc n) j l h =
+  -- data of which there are at most four, for declarations that are there
+  pub data-gives : (f : ℕ → ℕ → Out) (r : Record) (n j l : ℕ) → j + n ≤ 4 → ((i : ℕ) → i < n → g .first + (j + i) < countOf s declarations) → ((i m : ℕ) → i < n → Gives s (typeAt s (g .first + (j + i))) (f (fieldOf r (4 + (j + i))) m)) → DataGive s g n j (valuesFrom f r n j l)
+  unfolding valuesFrom areOf wordsIn
+  data-gives f r zero j l small there h = (refl, (refl, λ i q. absurd (omega arith)))
+  data-gives f r (suc n) j l small there h =
       let z : j + 0 ≡ j = omega arith in
-      next-gives (f (fieldOf r (4 + j)) l) n j (λ m. dataFrom s f g r n (suc j) m) (rw z at (h 0 l (omega arith)))
-      (λ m. data-gives f r n (suc j) m (λ i k q. let e : j + suc i ≡ suc j + i = omega arith in rw e at (h (suc i) k (omega arith))))
+      subst (λ b. DataGive s g (suc n) j (elim b [ true ↦ nextValue (f (fieldOf r (4 + j)) l) (λ l. valuesFrom f r n (suc j) l) | false ↦ stuck ])) (sym (lt-ltb (4 + j) 8 (omega arith)))
+      (next-gives (f (fieldOf r (4 + j)) l) n j (λ m. valuesFrom f r n (suc j) m) (rw z at (there 0 (omega arith))) (rw z at (h 0 l (omega arith)))
+      (λ m. data-gives f r n (suc j) m (omega arith)
+      (λ i q. let e : j + suc i ≡ suc j + i = omega arith in rw e at (there (suc i) (omega arith)))
+      (λ i k q. let e : j + suc i ≡ suc j + i = omega arith in rw e at (h (suc i) k (omega arith)))))
 
   -- all of a name's or a body's data: "Surplus data are zero"
-  pub data-fit : (zs : List ℤ) (l : ℕ) → g .count ≤ 4 → DataGive s g (g .count) 0 (given zs l) → dataFit s g (datum zs) ≡ true
+  pub data-fit : (zs : List ℤ) → g .count ≤ 4 → WordsOf s g (g .count) 0 zs → dataFit s g (datum zs) ≡ true
   unfolding dataFit isZero
-  data-fit zs l small h = all-true 4 _ (λ j q. elim (decLt j (g .count)) [
+  data-fit zs small h = all-true 4 _ (λ j q. elim (decLt j (g .count)) [
     | yes k ↦ rw (lt-ltb j (g .count) k) (let z : 0 + j ≡ j = omega arith in rw z at (h .1 j k))
     | no k ↦ rw (le-ltb j (g .count) (omega arith)) (let e : getD zs j (pos 0) ≡ pos 0 = List·getD-eq-default zs (pos 0) (omega (arith, h .0)) in rw e refl)
   ])
@@ -75,15 +82,15 @@ unfolding nameRange
 range-of s n r e = rw (nameRange, e) refl
 
 module _ (s : List ℕ) (ok : checkOf s ≡ Passed) where
-  -- a name of a class, with data of its types
-  module _ (n k : ℕ) (r : Record) (there : recordOf s names n ≡ Present r) (classed : hasClass s n k ≡ true) (zs : List ℤ) (l : ℕ) (typed : DataGive s (dataOf r) (dataOf r .count) 0 (given zs l)) where
-    few : dataOf r .count ≤ 4
-    unfolding nameShape
-    few = leb-true _ _ (and-first _ _ (and-second _ _ (name-shape s ok n r there)))
+  pub few-data : (n : ℕ) (r : Record) → recordOf s names n ≡ Present r → dataOf r .count ≤ 4
+  unfolding nameShape
+  few-data n r there = leb-true _ _ (and-first _ _ (and-second _ _ (name-shape s ok n r there)))
 
+  -- a name of a class, with data of its types
+  module _ (n k : ℕ) (r : Record) (there : recordOf s names n ≡ Present r) (classed : hasClass s n k ≡ true) (zs : List ℤ) (typed : WordsOf s (dataOf r) (dataOf r .count) 0 zs) where
     pub name-fits : nameFits s k (pos n) (datum zs) ≡ true
     unfolding nameFits
-    name-fits = and-true _ _ (below-in n _ (present-below s names n r there)) (and-true _ _ classed (rw (range-of s n r there) (data-fit s (dataOf r) zs l few typed)))
+    name-fits = and-true _ _ (below-in n _ (present-below s names n r there)) (and-true _ _ classed (rw (range-of s n r there) (data-fit s (dataOf r) zs (few-data n r there) typed)))
 
     -- it waits or is armed in an element of a chart that reacts to it
     pub awaited : (e : ℕ) (b c : Record) → Element s e b c → hasReaction s c n ≡ true → reactionAwaits s e (pos n) ≡ true

@@ -1,12 +1,12 @@
 -- An expression that has a type gives a value of it.
-use Prim.Native.Nat.{ℕ, zero, suc, _+_, _-_, _<_}
+use Prim.Native.Nat.{ℕ, zero, suc, _+_, _-_, _<_, _≤_}
 use mathlib.Core.Path.{_≡_, refl, sym, ap, subst, _∙_}
 use mathlib.Core.List.{List}
 use mathlib.Core.Bool.{Bool, true, false}
 use native.Mathlib.Omega.{arith}
 use lib.Dec.{ltb, eqb}
 use lib.IntN.{ℤ, pos, negsuc}
-use borrow.Author.Tests.{ltb-true, eqb-true, lt-ltb, eq-eqb, ne-eqb, not-true}
+use borrow.Author.Tests.{ltb-true, leb-true, eqb-true, lt-ltb, eq-eqb, ne-eqb, not-true}
 use Rattle.sheet.specs.declared.Record.{Record}
 use Rattle.sheet.specs.declared.Found.{Found}
 use Rattle.sheet.specs.declared.Found.the-variants.{Present}
@@ -22,23 +22,25 @@ use Rattle.laris.specs.declared.Checked.the-variants.{Passed}
 use Rattle.laris.specs.declared.Operands.{Operands}
 use Rattle.laris.specs.Fields.{fieldOf, typeAt, componentsOf}
 use Rattle.laris.specs.Forms.{Form, literal, read, unary, binary, clock, skip, assign, externalSend, internalSend, arm, clockAct, call, choice, loop, sequence, unknown, formOf, operandsIn, operandsOf, operandAt, operandCount}
-use Rattle.laris.specs.Shape.{variablesAt, fieldsShape, treeShape, constantShape, constantsShape, bindingShape}
+use Rattle.laris.specs.Shape.{chartShape, variablesAt, fieldsShape, treeShape, constantShape, constantsShape, bindingShape}
 use Rattle.laris.specs.Types.{literalType, variableAt, readType, clockType, lowerType, typeIn, typeStep, typeOf, assignType, externalType, internalType, armType, clockActType, callType, choiceType, loopType, sequenceType}
 use Rattle.laris.specs.Static.{constantStatic, constantsStatic, bindingStatic}
 use Rattle.laris.specs.Values.{fits32, isBelow, isZero, inType, isBound, firstCell}
 use Rattle.laris.specs.State.{cellAt, wordOf}
 use Rattle.laris.specs.Valid.{zeroWords, runningClock, clockCell, cellFits}
-use Rattle.laris.specs.Eval.{onRecord, val, notVal, literalValue, within, ofType, Context, parameterVal, variableAtCell, readAs, readVal, clockVal, lowerEval, evalIn, evalOf}
+use Rattle.laris.specs.Eval.{needs, onRecord, val, notVal, literalValue, within, ofType, Context, onType, bodyWords, parameterVal, variableAtCell, readAs, readVal, clockVal, evalIn, evalOf}
 use Rattle.laris.specs.Check.{checkOf}
 use Rattle.laris.proofs.Fields.{holds-present}
 use Rattle.laris.proofs.Types.{type-step, lower-type}
-use Rattle.equations.proofs.Eval.{lower-eval, eval-none, eval-visit}
+use Rattle.equations.proofs.Eval.{eval-none, eval-visit}
 use Rattle.passed.specs.Places.{Placed, Locals, Cells}
-use Rattle.passed.proofs.Records.{held, binding-shape, binding-static}
+use Rattle.passed.proofs.Records.{held, chart-shape, binding-shape, binding-static}
+use Rattle.passed.proofs.Declared.{declared-record, declared-so, chart-variable-declared, variable-declared}
 use Rattle.sound.specs.Gives.{Gives}
+use Rattle.sound.proofs.Locals.{few}
 use Rattle.sound.proofs.Leaves.{no-statement, not-wrong, one-type, asked, then, met, value-within, int-in, not-gives, binary-gives, literal-fine}
 
-on-present : (f : Found) (r : Record) (K : Record → Out) → f ≡ Present r → onRecord f K ≡ K r
+pub on-present : (f : Found) (r : Record) (K : Record → Out) → f ≡ Present r → onRecord f K ≡ K r
 unfolding onRecord
 on-present f r K e = rw e refl
 
@@ -52,6 +54,10 @@ module _ (s : List ℕ) (ok : checkOf s ≡ Passed) (x : Context) (placed : Plac
   below-components : x .element < componentsOf s
   unfolding isBound
   below-components = ltb-true _ _ (and-second _ _ (placed .element .bound))
+
+  pub few-parameters : chartParameters (x .chart) .count ≤ 7
+  unfolding chartShape
+  few-parameters = leb-true _ _ (and-first _ _ (and-second _ _ (chart-shape s ok _ _ (placed .element .chart))))
 
   -- ---- variables: each place holds a value of its declared type
 
@@ -67,17 +73,18 @@ module _ (s : List ℕ) (ok : checkOf s ≡ Passed) (x : Context) (placed : Plac
         let q = sym (holds-present _ _ _ (k .1)) ∙ all-at _ _ types n h in
         let f = literal-fine s (x .element) (k .0) below-components (and-second _ _ (k .2)) in
         let same : literalType (k .0) ≡ t = eqb-true _ _ q ∙ e in
-        subst (Gives s t) (sym (on-present _ (k .0) _ (k .1)))
+        met s t _ _ (lt-ltb (1 + n) 8 (omega (arith, few-parameters)))
+        (subst (Gives s t) (sym (on-present _ (k .0) _ (k .1)))
         (met s t _ _ (and-first _ _ (k .2))
         (met s t _ _ (eq-eqb _ _ (f .0 ∙ same))
-        (value-within s t _ l (f .0 ∙ same) (ap (λ u. inType s u (literalValue (x .element) (k .0) .word)) (sym same) ∙ f .1))))
+        (value-within s t _ l (f .0 ∙ same) (ap (λ u. inType s u (literalValue (x .element) (k .0) .word)) (sym same) ∙ f .1)))))
 
     variable-gives : n < chartVariables (x .chart) .count → typeAt s (chartVariables (x .chart) .first + n) ≡ t → isClock t ≡ false → Gives s t (within s (val t (wordOf st (variableAtCell s x st lo n))) l)
     unfolding variableAtCell cellFits
     variable-gives h e c = value-within s t _ l refl (and-first _ _ (rw (cellFits, c) at (rw e at (cells n h))))
 
-    local-gives : n < bodyParameters (x .body) .count + bodyLocals (x .body) .count → typeAt s (variableAt (x .chart) (x .body) Names.bodyVariable n) ≡ t → Gives s t (within s (val t (wordOf lo n)) l)
-    local-gives h e = value-within s t _ l refl (rw e at (locals .holds n h))
+    local-gives : n < bodyParameters (x .body) .count + bodyLocals (x .body) .count → typeAt s (variableAt (x .chart) (x .body) Names.bodyVariable n) ≡ t → Gives s t (needs (ltb n bodyWords) (within s (val t (wordOf lo n)) l))
+    local-gives h e = met s t _ _ (lt-ltb n bodyWords (omega (arith, few s ok x placed))) (value-within s t _ l refl (rw e at (locals .holds n h)))
 
   pub no-place : (k : ℕ) → variablesAt (x .chart) (x .body) (suc (suc (suc k))) ≡ 0
   unfolding variablesAt
@@ -89,12 +96,18 @@ module _ (s : List ℕ) (ok : checkOf s ≡ Passed) (x : Context) (placed : Plac
       isClock (typeAt s (variableAt (x .chart) (x .body) place n)) ≡ false →
       Gives s (typeAt s (variableAt (x .chart) (x .body) place n)) (readAs s x st lo place n (typeAt s (variableAt (x .chart) (x .body) place n)) l)
 
-  pub read-gives : (place n l : ℕ) → Reads place n l
+  read-gives : (place n l : ℕ) → Reads place n l
   unfolding readAs variableAt variablesAt
   read-gives zero n l h c = parameter-gives n _ l (ltb-true _ _ h) refl
   read-gives (suc zero) n l h c = variable-gives n _ l (ltb-true _ _ h) refl c
   read-gives (suc (suc zero)) n l h c = local-gives n _ l (ltb-true _ _ h) refl
   read-gives (suc (suc (suc k))) n l h c = absurd (let z = ltb-true n 0 (rw (no-place k) at h) in omega arith)
+
+  -- its declaration is there
+  read-declared : (place n l : ℕ) → ltb n (variablesAt (x .chart) (x .body) place) ≡ true → isClock (typeAt s (variableAt (x .chart) (x .body) place n)) ≡ false → Gives s (typeAt s (variableAt (x .chart) (x .body) place n)) (onType s (variableAt (x .chart) (x .body) place n) (λ t. readAs s x st lo place n t l))
+  read-declared place n l h c =
+      let d = declared-record s _ (variable-declared s ok _ _ (placed .element .chart) (x .body) (placed .body) place n (ltb-true _ _ h)) in
+      subst (Gives s _) (sym (on-present _ (d .0) _ (d .1) ∙ ap (λ t. readAs s x st lo place n t l) (d .2))) (read-gives place n l h c)
 
   -- ---- clocks: 17 its running word, 18 its value
 
@@ -130,7 +143,7 @@ module _ (s : List ℕ) (ok : checkOf s ≡ Passed) (x : Context) (placed : Plac
 
   clock-gives : (op n t l : ℕ) → n < chartVariables (x .chart) .count → isClock (typeAt s (chartVariables (x .chart) .first + n)) ≡ true → elim (eqb op 17) [ true ↦ Bool-type | false ↦ Int-type ] ≡ t → Gives s t (clockVal s x st lo op n l)
   unfolding clockVal
-  clock-gives op n t l h c e = met s t _ _ (and-true _ _ (lt-ltb _ _ h) c) (go (eqb op 17) e)
+  clock-gives op n t l h c e = met s t _ _ (and-true _ _ (lt-ltb _ _ h) (declared-so s _ isClock (chart-variable-declared s ok _ _ (placed .element .chart) n h) ∙ c)) (go (eqb op 17) e)
     where
       go : (b : Bool) → elim b [ true ↦ Bool-type | false ↦ Int-type ] ≡ t → Gives s t (elim b [ true ↦ within s (val Bool-type (wordOf st (variableAtCell s x st lo n))) l | false ↦ within s (val Int-type (wordOf st (variableAtCell s x st lo n + 1))) l ])
       go true q = subst (λ u. Gives s u (within s (val Bool-type (wordOf st (variableAtCell s x st lo n))) l)) q (value-within s Bool-type _ l refl (running-in n h c))
@@ -154,7 +167,7 @@ module _ (s : List ℕ) (ok : checkOf s ≡ Passed) (x : Context) (placed : Plac
     act-gives read t l h o e =
         let a = asked _ _ e in
         subst (λ u. Gives s u (readVal s x st lo (r .f1) (r .f2) l)) (one-type (a .1))
-        (met s _ _ _ (and-first _ _ h) (read-gives (r .f1) (r .f2) l (and-first _ _ h) (not-true _ (a .0))))
+        (met s _ _ _ (and-first _ _ h) (read-declared (r .f1) (r .f2) l (and-first _ _ h) (not-true _ (a .0))))
     act-gives unary t l h o e =
         let n = not-gives s t (f (r .f1)) e in
         then s t Bool-type (g (r .f1) l) notVal (o 0 (omega arith) l Bool-type (n .0)) (λ v l k w. n .1 v l k)
@@ -191,10 +204,9 @@ module _ (s : List ℕ) (ok : checkOf s ≡ Passed) (x : Context) (placed : Plac
       let d = held _ _ h in
       let r = d .0 in
       subst (Gives s t) (sym (eval-visit s x st lo n l ∙ on-present _ r _ (d .1)))
-      (act-gives (lowerType n (typeOf s (x .chart) (x .body))) (lowerEval n (evalOf s x st lo)) r (formOf (operator r)) t l (and-first _ _ (d .2))
+      (act-gives (lowerType n (typeOf s (x .chart) (x .body))) (evalOf s x st lo) r (formOf (operator r)) t l (and-first _ _ (d .2))
       (λ j q m u z.
       let a = all-at _ _ (and-second _ _ (d .2)) j q in
       let low = ltb-true _ _ (and-first _ _ a) in
-      subst (Gives s u) (sym (lower-eval n _ (evalOf s x st lo) m low))
-      (eval-gives k _ u m (and-second _ _ a) (sym (lower-type n _ (typeOf s (x .chart) (x .body)) low) ∙ z)))
+      eval-gives k _ u m (and-second _ _ a) (sym (lower-type n _ (typeOf s (x .chart) (x .body)) low) ∙ z))
       (sym (type-at n r (d .1)) ∙ e))

@@ -1,7 +1,7 @@
 pub mod Leaves
+pub mod Locals
 pub mod Eval
 pub mod Data
-pub mod Locals
 pub mod Then
 pub mod Armed
 pub mod Run

@@ -7,16 +7,17 @@ use native.Mathlib.Omega.{arith}
 use lib.Dec.{ltb, leb, eqb}
 use lib.IntN.{ℤ, pos}
 use lib.Signed.{leZ}
-use borrow.Author.Tests.{ltb-true, eqb-true, le-ltb, lt-leb}
+use borrow.Author.Tests.{ltb-true, leb-true, eqb-true, lt-ltb, le-ltb, lt-leb, eq-eqb, ne-eqb}
 use Rattle.sheet.specs.declared.Record.{Record}
 use Rattle.sheet.specs.declared.Range.{Range}
 use Rattle.sheet.specs.declared.Found.{Found}
 use Rattle.sheet.specs.declared.Found.the-variants.{Present, Absent}
 use Rattle.sheet.specs.All.{_and_}
 use Rattle.sheet.specs.Names
-use Rattle.sheet.specs.Names.{names, bodies, dataOf, external, internal, chartVariables, chartBodies, root, bodyParameters, operator, Bool-type, Int-type, Component-type, Port-type, Timer-type, isClock}
-use Rattle.sheet.specs.Sheet.{recordOf}
+use Rattle.sheet.specs.Names.{declarations, names, bodies, dataOf, external, internal, chartVariables, chartBodies, root, bodyParameters, bodyLocals, operator, Bool-type, Int-type, Component-type, Port-type, Timer-type, isClock}
+use Rattle.sheet.specs.Sheet.{countOf, recordOf}
 use Rattle.sheet.proofs.All.{true-false, and-first, and-second, and-true, and-false, all-at}
+use Rattle.laris.specs.declared.Value.{Value}
 use Rattle.laris.specs.declared.Typed.{Typed}
 use Rattle.laris.specs.declared.Typed.the-variants.{Expression, Statement, Wrong}
 use Rattle.laris.specs.declared.Checked.the-variants.{Passed}
@@ -25,33 +26,34 @@ use Rattle.laris.specs.declared.Ran.{Ran}
 use Rattle.laris.specs.declared.Ran.the-variants.{Done, Refused, Stuck}
 use Rattle.laris.specs.Fields.{fieldOf, typeAt}
 use Rattle.laris.specs.Forms.{Form, literal, read, unary, binary, clock, skip, assign, externalSend, internalSend, arm, clockAct, call, choice, loop, sequence, unknown, formOf, nameData, calledBody, callData, operands, operandsIn, operandsOf, operandAt, operandCount}
-use Rattle.laris.specs.Shape.{variablesAt, sendShape, fieldsShape, treeShape}
-use Rattle.laris.specs.Types.{given, isOf, isStatement, sameType, variableAt, internalName, nameRange, parametersOf, clockOf, dataMatch, lowerType, readType, clockType, notType, binaryType, assignType, externalType, internalType, armType, clockActType, callType, choiceType, loopType, sequenceType, typeIn, typeOf}
+use Rattle.laris.specs.Shape.{bodyShape, variablesAt, sendShape, fieldsShape, treeShape}
+use Rattle.laris.specs.Types.{given, isOf, isStatement, sameType, chartVariableType, variableAt, internalName, nameRange, parametersOf, clockOf, dataMatch, lowerType, readType, clockType, notType, binaryType, assignType, externalType, internalType, armType, clockActType, callType, choiceType, loopType, sequenceType, typeIn, typeOf}
 use Rattle.laris.specs.Static.{bodyStatic}
 use Rattle.laris.specs.Values.{isZero, inType, chartOf, firstCell}
 use Rattle.laris.specs.State.{cellAt}
 use Rattle.laris.specs.Valid.{nameFits, reactionAwaits, OfSheet}
-use Rattle.laris.specs.Eval.{Context, variableAtCell, evalOf}
-use Rattle.laris.specs.Run.{World, given as had, dataFrom, thenData, datum, localsOf, armed, clockSet, inBody, assigned, assignOf, nameDataOf, externalSendOf, internalSendOf, cellType, armOf, clockActOf, entered, callOf, choiceOf, runIn, runOf, openCalls}
+use Rattle.laris.specs.Eval.{Context, bodyWords, variableAtCell, evalOf}
+use Rattle.laris.specs.Run.{World, valuesFrom, thenValues, areOf, wordsIn, datum, localsOf, armed, clockSet, inBody, assigned, hasVariable, assignOf, nameValues, externalSendOf, internalSendOf, isVariable, armOf, clockActOf, entered, callOf, choiceOf, runIn, runOf, openCalls}
 use Rattle.laris.specs.Check.{checkOf}
 use Rattle.laris.proofs.Fields.{number-present}
 use Rattle.laris.proofs.Types.{lower-type}
-use Rattle.equations.proofs.Left.{eval-left, data-left, run-left}
+use Rattle.equations.proofs.Left.{eval-left, values-left, run-left}
 use Rattle.equations.proofs.Run.{run-none, run-visit}
 use Rattle.passed.specs.Places.{InChart, Placed, Locals, Cells}
-use Rattle.passed.proofs.Records.{held}
+use Rattle.passed.proofs.Records.{held, body-shape}
+use Rattle.passed.proofs.Declared.{declared-so, name-declared, chart-variable-declared, parameter-declared, locals-there, variable-declared}
 use Rattle.passed.proofs.Charts.{element-chart, body-static, body-tree}
 use Rattle.states.proofs.Parts.{cell-of}
 use Rattle.states.proofs.Kept.{data-set}
 use Rattle.states.proofs.Telegrams.{own-telegram, sent-telegram}
 use Rattle.states.proofs.Acts.{armed-kept, stopped-kept, started-kept}
-use Rattle.sound.specs.Gives.{Gives, DataGive, Ends}
+use Rattle.sound.specs.Gives.{Gives, WordsOf, DataGive, Ends}
 use Rattle.sound.proofs.Leaves.{is-type}
 use Rattle.sound.proofs.Eval.{no-place, type-at, eval-gives}
-use Rattle.sound.proofs.Data.{data-gives, range-of, name-fits, awaited}
-use Rattle.sound.proofs.Locals.{fresh-locals, local-set}
+use Rattle.sound.proofs.Data.{data-gives, range-of, few-data, name-fits, awaited}
+use Rattle.sound.proofs.Locals.{few, fresh-locals, local-set}
 use Rattle.sound.proofs.Armed.{armed-clock}
-use Rattle.sound.proofs.Then.{Good, value-ends, data-ends, run-ends, record-ends, provided-ends, either-ends, append-ends, kept-ends}
+use Rattle.sound.proofs.Then.{Good, operand-ends, values-ends, run-ends, record-ends, provided-ends, either-ends, append-ends, kept-ends}
 
 -- ---- what the type of a statement says
 
@@ -103,6 +105,11 @@ called-in s c r b e = go (ltb (r .f1) (chartBodies c .count)) refl e
         present (Present a) = true
         present Absent = false
 
+-- a body has at most four parameters
+pub few-parameters : (s : List ℕ) → checkOf s ≡ Passed → (b c : Record) → InChart s c b → bodyParameters b .count ≤ 4
+unfolding bodyShape
+few-parameters s ok b c i = leb-true _ _ (and-first _ _ (and-second _ _ (and-second _ _ (and-second _ _ (body-shape s ok _ b (i .there))))))
+
 pub parameters-of : (f : Found) (b : Record) → f ≡ Present b → parametersOf f ≡ bodyParameters b
 unfolding parametersOf
 parameters-of f b e = rw e refl
@@ -137,6 +144,21 @@ module _ (s : List ℕ) (ok : checkOf s ≡ Passed) where
     cells : Cells s x st
     cells j l = cell-of s st o (x .element) (x .chart) there j l
 
+    -- a variable that the body has, of the type that its declaration says
+    pub variable-there : (place n t : ℕ) → ltb n (variablesAt (x .chart) (x .body) place) ≡ true → t ≡ typeAt s (variableAt (x .chart) (x .body) place n) → hasVariable s x place n t ≡ true
+    unfolding hasVariable variablesAt
+    variable-there place n t h e = and-true _ _ h (and-true _ _ (worded place h) (declared-so s _ (eqb t) (variable-declared s ok _ _ (placed .element .chart) (x .body) (placed .body) place n (ltb-true _ _ h)) ∙ eq-eqb _ _ e))
+      where
+        worded : (place : ℕ) → ltb n (variablesAt (x .chart) (x .body) place) ≡ true → _≡_ {A = Bool} (elim (eqb place Names.bodyVariable) [ true ↦ ltb n bodyWords | false ↦ true ]) true
+        worded zero h = refl
+        worded (suc zero) h = refl
+        worded (suc (suc zero)) h = lt-ltb n bodyWords (let l : n < bodyParameters (x .body) .count + bodyLocals (x .body) .count = ltb-true _ _ h in omega (arith, few s ok x placed))
+        worded (suc (suc (suc k))) h = rw (ne-eqb (suc (suc (suc k))) 2 (λ q. absurd (omega arith))) refl
+
+    pub clock-there : (n : ℕ) (p : ℕ → Bool) → ltb n (chartVariables (x .chart) .count) ≡ true → p (typeAt s (chartVariables (x .chart) .first + n)) ≡ true → isVariable s x n p ≡ true
+    unfolding isVariable
+    clock-there n p h e = and-true _ _ h (declared-so s _ p (chart-variable-declared s ok _ _ (placed .element .chart) n (ltb-true _ _ h)) ∙ e)
+
     assign-ends : (place n l : ℕ) (z : ℤ) → not (eqb place 0) ≡ true → ltb n (variablesAt (x .chart) (x .body) place) ≡ true → inType s (typeAt s (variableAt (x .chart) (x .body) place n)) z ≡ true → Good s x (assigned s x place n z l st lo)
     unfolding assigned variableAt variablesAt variableAtCell
     assign-ends zero n l z a h t = absurd (true-false a refl)
@@ -166,9 +188,9 @@ module _ (s : List ℕ) (ok : checkOf s ≡ Passed) where
       unfolding operandAt
       data-operand first c tail i = let q = le-ltb (c + i) c (omega arith) in let e : c + i - c ≡ i = omega arith in rw (operandAt, q, e) refl
 
-      data-end : (first c : ℕ) (g : Range) (l : ℕ) → Lower (operands first c (g .count)) → dataMatch s f g r ≡ true → DataGive s g (g .count) 0 (dataFrom s (evalOf s x st lo) g r (g .count) 0 l)
+      data-end : (first c : ℕ) (g : Range) (l : ℕ) → Lower (operands first c (g .count)) → dataMatch s f g r ≡ true → g .count ≤ 4 → ((j : ℕ) → j < g .count → g .first + j < countOf s declarations) → DataGive s g (g .count) 0 (valuesFrom (evalOf s x st lo) r (g .count) 0 l)
       unfolding dataMatch
-      data-end first c g l lower d = data-gives s g (evalOf s x st lo) r (g .count) 0 l (λ i m q.
+      data-end first c g l lower d small declared = data-gives s g (evalOf s x st lo) r (g .count) 0 l (omega arith) (λ i q. let z : 0 + i ≡ i = omega arith in rw z (declared i q)) (λ i m q.
           let z : 0 + i ≡ i = omega arith in
           let e = data-operand first c (g .count) i in
           rw z (operand-gives (fieldOf r (4 + i)) (subst (λ m. ltb m n and treeShape s (x .chart) (x .body) k m ≡ true) e (lower (c + i) (omega arith))) (typeAt s (g .first + i)) m (all-at (g .count) (λ j. isOf (f (fieldOf r (4 + j))) (typeAt s (g .first + j))) d i q)))
@@ -188,32 +210,33 @@ module _ (s : List ℕ) (ok : checkOf s ≡ Passed) where
           a = named .0
 
           -- the data, and what is sent with them
-          name-ends : (first c m : ℕ) → Lower (operands first c (nameData s r)) → m ≤ l → (K : List ℤ → ℕ → World) → ((zs : List ℤ) (m : ℕ) → DataGive s (dataOf a) (dataOf a .count) 0 (had zs m) → m ≤ l → Good s x (K zs m)) → Good s x (thenData (nameDataOf s x a r m st lo) st lo K)
-          unfolding nameDataOf
+          name-ends : (first c m : ℕ) → Lower (operands first c (nameData s r)) → m ≤ l → (K : List Value → ℕ → World) → ((vs : List Value) (m : ℕ) → areOf s (dataOf a .first) vs ≡ true → WordsOf s (dataOf a) (dataOf a .count) 0 (wordsIn vs) → m ≤ l → Good s x (K vs m)) → Good s x (thenValues (nameValues s x a r m st lo) st lo K)
+          unfolding nameValues
           name-ends first c m lower p K h =
-              data-ends s x (dataOf a) (dataOf a .count) m _ st lo K
-              (data-end first c (dataOf a) m (subst (λ t. Lower (operands first c t)) (named .3) lower) (subst (λ g. dataMatch s f g r ≡ true) (named .2) d))
-              (data-left s x st lo (dataOf a) r (dataOf a .count) 0 m)
-              (λ zs m′ g w. h zs m′ g (omega arith))
+              values-ends s x (dataOf a) (dataOf a .count) m _ st lo K
+              (data-end first c (dataOf a) m (subst (λ t. Lower (operands first c t)) (named .3) lower) (subst (λ g. dataMatch s f g r ≡ true) (named .2) d) (few-data s ok (r .f3) a (named .1)) (name-declared s ok (r .f3) a (named .1)))
+              (values-left s x st lo r (dataOf a .count) 0 m)
+              (λ vs m′ g v w. h vs m′ g v (omega arith))
 
         -- "period below 1": 7
-        armed-ends : (j : ℕ) (h : j < chartVariables (x .chart) .count) (op : ℕ) → formOf op ≡ arm → typeAt s (chartVariables (x .chart) .first + j) ≡ clockOf op → (period : ℤ) → inType s Int-type period ≡ true → (name : ℕ) (zs : List ℤ) (l : ℕ) → nameFits s internal (pos name) (datum zs) ≡ true → reactionAwaits s (x .element) (pos name) ≡ true → Good s x (armed (cellAt (firstCell s (x .element) + j)) (typeAt s (chartVariables (x .chart) .first + j)) period name zs l st lo)
+        armed-ends : (j : ℕ) (h : j < chartVariables (x .chart) .count) (op : ℕ) → formOf op ≡ arm → typeAt s (chartVariables (x .chart) .first + j) ≡ clockOf op → (period : ℤ) → inType s Int-type period ≡ true → (name : ℕ) (zs : List ℤ) (l : ℕ) → nameFits s internal (pos name) (datum zs) ≡ true → reactionAwaits s (x .element) (pos name) ≡ true → Good s x (armed (cellAt (firstCell s (x .element) + j)) (clockOf op) period name zs l st lo)
         unfolding armed inType
         armed-ends j h op g t period w name zs l a b =
             let c = armed-clock op g in
-            kept-ends s x (leZ (pos 1) period) l 7 st _ lo (armed-kept s st o (x .element) (x .chart) there j h (ap isClock t ∙ c .0) (ap (λ u. eqb u Timer-type) t ∙ c .1) period w name zs a b l lo) locals (omega arith, omega arith)
+            subst (λ u. Good s x (armed (cellAt (firstCell s (x .element) + j)) u period name zs l st lo)) t
+            (kept-ends s x (leZ (pos 1) period) l 7 st _ lo (armed-kept s st o (x .element) (x .chart) there j h (ap isClock t ∙ c .0) (ap (λ u. eqb u Timer-type) t ∙ c .1) period w name zs a b l lo) locals (omega arith, omega arith))
 
         -- "a 17th open call": 9
-        entered-ends : (b : Record) → InChart s (x .chart) b → (zs : List ℤ) (l l′ : ℕ) → DataGive s (bodyParameters b) (bodyParameters b .count) 0 (had zs l′) → l ≤ L → Good s x (entered s x (runOf s) depth b zs l st lo)
+        entered-ends : (b : Record) → InChart s (x .chart) b → (zs : List ℤ) (l : ℕ) → WordsOf s (bodyParameters b) (bodyParameters b .count) 0 zs → l ≤ L → Good s x (entered s x (runOf s) depth b zs l st lo)
         unfolding entered bodyStatic
-        entered-ends b i zs l l′ v q =
+        entered-ends b i zs l v q =
             let there : Placed s (inBody x b) = record { element = placed .element; body = i } in
             let w : World = runOf s (depth + 1) (inBody x b) (root b) l st (localsOf s b zs) in
             either-ends s x (ltb depth openCalls) _ _
-            (λ p. back s x (inBody x b) (w .ran) (w .st) lo (w .lo) (ih (depth + 1) (inBody x b) (root b) l 64 st (localsOf s b zs) q there o
+            (λ p. provided-ends s x _ st lo _ (locals-there s ok _ (x .chart) (placed .element .chart) b i) (back s x (inBody x b) (w .ran) (w .st) lo (w .lo) (ih (depth + 1) (inBody x b) (root b) l 64 st (localsOf s b zs) q there o
             (fresh-locals s ok (inBody x b) there zs (λ i h. let z : 0 + i ≡ i = omega arith in rw z at (v .1 i h)))
             (body-tree s ok _ (x .chart) (placed .element .chart) b i)
-            (is-statement _ (and-second _ _ (and-second _ _ (and-second _ _ (body-static s ok _ (x .chart) (placed .element .chart) b i)))))) locals)
+            (is-statement _ (and-second _ _ (and-second _ _ (and-second _ _ (body-static s ok _ (x .chart) (placed .element .chart) b i)))))) locals))
             (λ p. (omega arith, omega arith))
 
         act-ends : (F : Form) (l : ℕ) → l ≤ L → formOf (operator r) ≡ F → fieldsShape s (x .chart) (x .body) r F ≡ true → Lower (operandsIn s (x .chart) r F) → typeIn s (x .chart) (x .body) f r F ≡ Statement → Good s x (runIn s x (runOf s) depth n r l st lo F)
@@ -226,71 +249,81 @@ module _ (s : List ℕ) (ok : checkOf s ≡ Passed) where
         act-ends skip l q g h low e = (o, locals)
         act-ends assign l q g h low e =
             let t = stated _ e in
-            provided-ends s x _ st lo _ (and-first _ _ h)
-            (value-ends s x _ _ l st lo _ (operand-gives _ (low 0 (omega arith)) _ l (and-second _ _ t)) (eval-left s x st lo _ l) (λ z m w p.
-            assign-ends (r .f1) (r .f2) m z (and-first _ _ t) (and-first _ _ h) w))
+            let inside = and-first _ _ h in
+            operand-ends s x _ _ l st lo _ (operand-gives _ (low 0 (omega arith)) _ l (and-second _ _ t)) (eval-left s x st lo _ l) (λ v m k w p.
+            provided-ends s x _ st lo _ (variable-there (r .f1) (r .f2) (v .kind) inside k)
+            (assign-ends (r .f1) (r .f2) m (v .word) (and-first _ _ t) inside w))
         act-ends externalSend l q g h low e =
             let t = stated _ e in
             let d = and-second _ _ (and-second _ _ (and-second _ _ t)) in
             let name = named l q h d in
+            operand-ends s x _ Component-type l st lo _ (operand-gives _ (low 0 (omega arith)) _ l (and-first _ _ t)) (eval-left s x st lo _ l) (λ receiver m k w p.
+            operand-ends s x _ Port-type m st lo _ (operand-gives _ (low 1 (omega arith)) _ m (and-first _ _ (and-second _ _ t))) (eval-left s x st lo _ m) (λ port m′ k′ w′ p′.
             record-ends s x _ (name .0) st lo _ (name .1)
-            (value-ends s x _ Component-type l st lo _ (operand-gives _ (low 0 (omega arith)) _ l (and-first _ _ t)) (eval-left s x st lo _ l) (λ receiver m w p.
-            value-ends s x _ Port-type m st lo _ (operand-gives _ (low 1 (omega arith)) _ m (and-first _ _ (and-second _ _ t))) (eval-left s x st lo _ m) (λ port m′ w′ p′.
-            name-ends l q h d 1 2 m′ low (omega arith) _ (λ zs m″ v p″.
-            append-ends s x _ m″ st lo o locals (sent-telegram s (x .element) (x .chart) there receiver port (r .f3) zs w w′ (name-fits s ok (r .f3) external (name .0) (name .1) (and-first _ _ (and-second _ _ (and-second _ _ t))) zs m″ v))))))
+            (name-ends l q h d 1 2 m′ low (omega arith) _ (λ vs m″ are v p″.
+            provided-ends s x _ st lo _ (and-true _ _ (eq-eqb _ _ k) (and-true _ _ (eq-eqb _ _ k′) are))
+            (append-ends s x _ m″ st lo o locals (sent-telegram s (x .element) (x .chart) there (receiver .word) (port .word) (r .f3) (wordsIn vs) w w′ (name-fits s ok (r .f3) external (name .0) (name .1) (and-first _ _ (and-second _ _ (and-second _ _ t))) (wordsIn vs) v)))))))
         act-ends internalSend l q g h low e =
             let t = stated _ e in
             let shape = and-second _ _ (and-second _ _ h) in
             let d = and-second _ _ t in
             let name = named l q shape d in
             record-ends s x _ (name .0) st lo _ (name .1)
-            (name-ends l q shape d 1 0 l low (omega arith) _ (λ zs m v p.
-            append-ends s x _ m st lo o locals (own-telegram s (x .element) (x .chart) there (r .f3) zs
-            (name-fits s ok (r .f3) internal (name .0) (name .1) (and-first _ _ (and-first _ _ t)) zs m v)
-            (awaited s ok (r .f3) internal (name .0) (name .1) (and-first _ _ (and-first _ _ t)) zs m v (x .element) (x .binding) (x .chart) (placed .element) (and-second _ _ (and-first _ _ t))))))
+            (name-ends l q shape d 1 0 l low (omega arith) _ (λ vs m are v p.
+            provided-ends s x _ st lo _ are
+            (append-ends s x _ m st lo o locals (own-telegram s (x .element) (x .chart) there (r .f3) (wordsIn vs)
+            (name-fits s ok (r .f3) internal (name .0) (name .1) (and-first _ _ (and-first _ _ t)) (wordsIn vs) v)
+            (awaited s ok (r .f3) internal (name .0) (name .1) (and-first _ _ (and-first _ _ t)) (wordsIn vs) v (x .element) (x .binding) (x .chart) (placed .element) (and-second _ _ (and-first _ _ t)))))))
         act-ends arm l q g h low e =
             let t = stated _ e in
             let shape = and-second _ _ h in
             let i = and-second _ _ (and-second _ _ t) in
             let d = and-second _ _ i in
             let name = named l q shape d in
-            provided-ends s x _ st lo _ (and-true _ _ (and-first _ _ h) (and-first _ _ t))
-            (record-ends s x _ (name .0) st lo _ (name .1)
-            (value-ends s x _ Int-type l st lo _ (operand-gives _ (low 0 (omega arith)) _ l (and-first _ _ (and-second _ _ t))) (eval-left s x st lo _ l) (λ period m w p.
-            name-ends l q shape d 2 1 m low (omega arith) _ (λ zs m′ v p′.
-            armed-ends (r .f1) (ltb-true _ _ (and-first _ _ h)) (operator r) g (eqb-true _ _ (and-first _ _ t)) period w (r .f3) zs m′
-            (name-fits s ok (r .f3) internal (name .0) (name .1) (and-first _ _ (and-first _ _ i)) zs m′ v)
-            (awaited s ok (r .f3) internal (name .0) (name .1) (and-first _ _ (and-first _ _ i)) zs m′ v (x .element) (x .binding) (x .chart) (placed .element) (and-second _ _ (and-first _ _ i)))))))
+            let kind : typeAt s (chartVariables (x .chart) .first + r .f1) ≡ clockOf (operator r) = eqb-true _ _ (and-first _ _ t) in
+            operand-ends s x _ Int-type l st lo _ (operand-gives _ (low 0 (omega arith)) _ l (and-first _ _ (and-second _ _ t))) (eval-left s x st lo _ l) (λ period m k w p.
+            record-ends s x _ (name .0) st lo _ (name .1)
+            (name-ends l q shape d 2 1 m low (omega arith) _ (λ vs m′ are v p′.
+            provided-ends s x _ st lo _ (and-true _ _ (clock-there (r .f1) (eqb (clockOf (operator r))) (and-first _ _ h) (eq-eqb _ _ (sym kind))) (and-true _ _ (eq-eqb _ _ k) are))
+            (armed-ends (r .f1) (ltb-true _ _ (and-first _ _ h)) (operator r) g kind (period .word) w (r .f3) (wordsIn vs) m′
+            (name-fits s ok (r .f3) internal (name .0) (name .1) (and-first _ _ (and-first _ _ i)) (wordsIn vs) v)
+            (awaited s ok (r .f3) internal (name .0) (name .1) (and-first _ _ (and-first _ _ i)) (wordsIn vs) v (x .element) (x .binding) (x .chart) (placed .element) (and-second _ _ (and-first _ _ i)))))))
         act-ends clockAct l q g h low e =
             let t = stated _ e in
             let v = and-first _ _ h in
             either-ends s x (eqb (operator r) 38) _ _
-            (λ b. let k = subst (λ b. elim b [ true ↦ eqb (cellType s x (r .f1)) Timer-type | false ↦ isClock (cellType s x (r .f1)) ] ≡ true) b t in
-            provided-ends s x _ st lo _ (and-true _ _ v k) (started-kept s st o (x .element) (x .chart) there (r .f1) (ltb-true _ _ v) (eqb-true _ _ k) l lo, locals))
-            (λ b. let k = subst (λ b. elim b [ true ↦ eqb (cellType s x (r .f1)) Timer-type | false ↦ isClock (cellType s x (r .f1)) ] ≡ true) b t in
-            provided-ends s x _ st lo _ (and-true _ _ v k) (stopped-kept s st o (x .element) (x .chart) there (r .f1) (ltb-true _ _ v) k l lo, locals))
+            (λ b. let k = eqb-true _ _ (subst Acts b t) in
+            provided-ends s x _ st lo _ (clock-there (r .f1) (eqb Timer-type) v (eq-eqb _ _ (sym k))) (started-kept s st o (x .element) (x .chart) there (r .f1) (ltb-true _ _ v) k l lo, locals))
+            (λ b. let k = subst Acts b t in
+            provided-ends s x _ st lo _ (clock-there (r .f1) isClock v k) (stopped-kept s st o (x .element) (x .chart) there (r .f1) (ltb-true _ _ v) k l lo, locals))
+          where
+            Acts : Bool → Type 0
+            Acts b = elim b [ true ↦ eqb (chartVariableType s (x .chart) (r .f1)) Timer-type | false ↦ isClock (chartVariableType s (x .chart) (r .f1)) ] ≡ true
         act-ends call l q g h low e =
             let t = stated _ e in
             let p = held _ _ (and-first _ _ t) in
             let b = p .0 in
+            let i = called-in s (x .chart) r b (p .1) in
             record-ends s x _ b st lo _ (p .1)
-            (data-ends s x (bodyParameters b) (bodyParameters b .count) l _ st lo _
-            (data-end 1 0 (bodyParameters b) l (subst (λ t. Lower (operands 1 0 t)) (number-present _ b _ (p .1)) low) (subst (λ g. dataMatch s f g r ≡ true) (parameters-of _ b (p .1)) (and-second _ _ t)))
-            (data-left s x st lo (bodyParameters b) r (bodyParameters b .count) 0 l) (λ zs m v w.
-            entered-ends b (called-in s (x .chart) r b (p .1)) zs m m v (omega arith)))
+            (values-ends s x (bodyParameters b) (bodyParameters b .count) l _ st lo _
+            (data-end 1 0 (bodyParameters b) l (subst (λ t. Lower (operands 1 0 t)) (number-present _ b _ (p .1)) low) (subst (λ g. dataMatch s f g r ≡ true) (parameters-of _ b (p .1)) (and-second _ _ t)) (few-parameters s ok b (x .chart) i) (parameter-declared s ok _ (x .chart) (placed .element .chart) b i))
+            (values-left s x st lo r (bodyParameters b .count) 0 l) (λ vs m are v w.
+            provided-ends s x _ st lo _ are (entered-ends b i (wordsIn vs) m v (omega arith))))
         act-ends choice l q g h low e =
             let t = stated _ e in
-            value-ends s x _ Bool-type l st lo _ (operand-gives _ (low 0 (omega arith)) _ l (and-first _ _ t)) (eval-left s x st lo _ l) (λ z m w p.
-            either-ends s x (isZero z) _ _
+            operand-ends s x _ Bool-type l st lo _ (operand-gives _ (low 0 (omega arith)) _ l (and-first _ _ t)) (eval-left s x st lo _ l) (λ v m k w p.
+            provided-ends s x _ st lo _ (eq-eqb _ _ k)
+            (either-ends s x (isZero (v .word)) _ _
             (λ b. below-ends _ m st lo o locals (omega arith) (low 2 (omega arith)) (and-second _ _ (and-second _ _ t)))
-            (λ b. below-ends _ m st lo o locals (omega arith) (low 1 (omega arith)) (and-first _ _ (and-second _ _ t))))
+            (λ b. below-ends _ m st lo o locals (omega arith) (low 1 (omega arith)) (and-first _ _ (and-second _ _ t)))))
         act-ends loop l q g h low e =
             let t = stated _ e in
-            value-ends s x _ Bool-type l st lo _ (operand-gives _ (low 0 (omega arith)) _ l (and-first _ _ t)) (eval-left s x st lo _ l) (λ z m w p.
-            either-ends s x (isZero z) _ _
+            operand-ends s x _ Bool-type l st lo _ (operand-gives _ (low 0 (omega arith)) _ l (and-first _ _ t)) (eval-left s x st lo _ l) (λ v m y w p.
+            provided-ends s x _ st lo _ (eq-eqb _ _ y)
+            (either-ends s x (isZero (v .word)) _ _
             (λ b. (o, locals))
             (λ b. run-ends s x m _ _ _ _ (below-ends _ m st lo o locals (omega arith) (low 1 (omega arith)) (and-second _ _ t)) (run-left s depth x _ m st lo) (λ m′ o′ k′ p′.
-            ih depth x n m′ (suc k) _ _ (omega arith) placed o′ k′ whole typed)))
+            ih depth x n m′ (suc k) _ _ (omega arith) placed o′ k′ whole typed))))
         act-ends sequence l q g h low e =
             let t = stated _ e in
             run-ends s x l _ _ _ _ (below-ends _ l st lo o locals q (low 0 (omega arith)) (and-first _ _ t)) (run-left s depth x _ l st lo) (λ m o′ k′ p.

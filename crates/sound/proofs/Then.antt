@@ -1,45 +1,46 @@
 -- How parts of a statement follow each other: each keeps what `Ends` says.
-use Prim.Native.Nat.{ℕ, _<_, _≤_}
+use Prim.Native.Nat.{ℕ, _+_, _<_, _≤_}
 use mathlib.Core.Path.{_≡_, refl, sym, ap, subst}
 use mathlib.Core.List.{List}
 use mathlib.Core.Bool.{Bool, true, false}
 use lib.IntN.{ℤ}
-use borrow.Author.Tests.{eq-eqb}
+use native.Mathlib.Omega.{arith}
 use Rattle.sheet.specs.declared.Record.{Record}
 use Rattle.sheet.specs.declared.Range.{Range}
 use Rattle.sheet.specs.declared.Found.{Found}
 use Rattle.sheet.specs.declared.Found.the-variants.{Present, Absent}
 use Rattle.sheet.proofs.All.{true-false}
+use Rattle.laris.specs.declared.Value.{Value}
 use Rattle.laris.specs.declared.Out.{Out}
 use Rattle.laris.specs.declared.Out.the-variants as out
 use Rattle.laris.specs.declared.Ran.{Ran}
 use Rattle.laris.specs.declared.Ran.the-variants.{Done, Refused, Stuck}
 use Rattle.laris.specs.declared.Telegram.{Telegram}
 use Rattle.laris.specs.Values.{inType}
-use Rattle.laris.specs.State.{Changed, on, off, appended}
+use Rattle.laris.specs.State.{Changed, on, off, lost, appended}
 use Rattle.laris.specs.Valid.{telegramFits, OfSheet}
 use Rattle.laris.specs.Eval.{Context}
-use Rattle.laris.specs.Run.{World, world, goOn, thenValue, withRecord, provided, Data, given, refused, stuck, thenData, append}
-use Rattle.equations.proofs.Left.{Within, DataWithin, RanWithin}
+use Rattle.laris.specs.Run.{World, world, goOn, thenOperand, withRecord, provided, Values, given, refused, stuck, thenValues, areOf, wordsIn, append}
+use Rattle.equations.proofs.Left.{Within, ValuesWithin, RanWithin}
 use Rattle.passed.specs.Places.{Locals}
 use Rattle.states.proofs.Kept.{ChangeKept, appended-kept}
-use Rattle.sound.specs.Gives.{Gives, DataGive, Ends, Refusal}
+use Rattle.sound.specs.Gives.{Gives, WordsOf, DataGive, Ends, Refusal}
 
 module _ (s : List ℕ) (x : Context) where
   abbrev pub Good : World → Type 0
   Good w = Ends s x (w .ran) (w .st) (w .lo)
 
-  pub value-ends : (o : Out) (t l : ℕ) (st lo : List ℤ) (K : ℤ → ℕ → World) → Gives s t o → Within l o → ((z : ℤ) (m : ℕ) → inType s t z ≡ true → m < l → Good (K z m)) → Good (thenValue o t st lo K)
-  unfolding thenValue
-  value-ends (out.Val v m) t l st lo K h w k = subst (λ b. Good (elim b [ true ↦ K (v .word) m | false ↦ world Stuck st lo ])) (sym (eq-eqb _ _ (h .0))) (k (v .word) m (h .1) w)
-  value-ends (out.Refused n m) t l st lo K h w k = h
-  value-ends out.Stuck t l st lo K h w k = absurd h
+  pub operand-ends : (o : Out) (t l : ℕ) (st lo : List ℤ) (K : Value → ℕ → World) → Gives s t o → Within l o → ((v : Value) (m : ℕ) → v .kind ≡ t → inType s t (v .word) ≡ true → m < l → Good (K v m)) → Good (thenOperand o st lo K)
+  unfolding thenOperand
+  operand-ends (out.Val v m) t l st lo K h w k = k v m (h .0) (h .1) w
+  operand-ends (out.Refused n m) t l st lo K h w k = h
+  operand-ends out.Stuck t l st lo K h w k = absurd h
 
-  pub data-ends : (g : Range) (n l : ℕ) (d : Data) (st lo : List ℤ) (K : List ℤ → ℕ → World) → DataGive s g n 0 d → DataWithin l d → ((zs : List ℤ) (m : ℕ) → DataGive s g n 0 (given zs m) → m ≤ l → Good (K zs m)) → Good (thenData d st lo K)
-  unfolding thenData
-  data-ends g n l (given zs m) st lo K h w k = k zs m h w
-  data-ends g n l (refused q m) st lo K h w k = h
-  data-ends g n l stuck st lo K h w k = absurd h
+  pub values-ends : (g : Range) (n l : ℕ) (d : Values) (st lo : List ℤ) (K : List Value → ℕ → World) → DataGive s g n 0 d → ValuesWithin l d → ((vs : List Value) (m : ℕ) → areOf s (g .first) vs ≡ true → WordsOf s g n 0 (wordsIn vs) → m ≤ l → Good (K vs m)) → Good (thenValues d st lo K)
+  unfolding thenValues
+  values-ends g n l (given vs m) st lo K h w k = let z : g .first + 0 ≡ g .first = omega arith in k vs m (rw z at (h .0)) (h .1) w
+  values-ends g n l (refused q m) st lo K h w k = h
+  values-ends g n l stuck st lo K h w k = absurd h
 
   pub run-ends : (l : ℕ) (o : Ran) (st lo : List ℤ) (K : ℕ → List ℤ → List ℤ → World) → Ends s x o st lo → RanWithin l o → ((m : ℕ) → OfSheet s st → Locals s x lo → m < l → Good (K m st lo)) → Good (goOn o st lo K)
   unfolding goOn
@@ -74,9 +75,10 @@ module _ (s : List ℕ) (x : Context) where
   unfolding append
   append-ends t l st lo o k h = go (appended s st t) (appended-kept s st o t h)
     where
-      go : (r : Changed) → ChangeKept s r → Good (elim r as (λ r. World) [ on st′ ↦ world (Done l) st′ lo | off n ↦ world (Refused n l) st lo ])
+      go : (r : Changed) → ChangeKept s r → Good (elim r as (λ r. World) [ on st′ ↦ world (Done l) st′ lo | off n ↦ world (Refused n l) st lo | lost ↦ world Stuck st lo ])
       go (on st′) q = (q, k)
       go (off n) q = q
+      go lost q = q
 
   -- done with a state that is kept, or refused
   pub kept-ends : (b : Bool) (l k : ℕ) (st st′ lo : List ℤ) → OfSheet s ((elim b as (λ b. World) [ true ↦ world (Done l) st′ lo | false ↦ world (Refused k l) st lo ]) .st) → Locals s x lo → Refusal k → Good (elim b [ true ↦ world (Done l) st′ lo | false ↦ world (Refused k l) st lo ])

@@ -14,7 +14,7 @@ use Rattle.laris.specs.Fields.{typeAt}
 use Rattle.laris.specs.Values.{inType}
 use Rattle.laris.specs.Valid.{OfSheet}
 use Rattle.laris.specs.Eval.{Context}
-use Rattle.laris.specs.Run.{Data, given, refused, stuck, datum}
+use Rattle.laris.specs.Run.{Values, given, refused, stuck, areOf, wordsIn, datum}
 use Rattle.passed.specs.Places.{Locals}
 
 -- "6 to 10, the first met"
@@ -27,9 +27,13 @@ Gives s t (out.Val v m) = (v .kind ≡ t) × (inType s t (v .word) ≡ true)
 Gives s t (out.Refused k m) = Refusal k
 Gives s t out.Stuck = ⊥
 
+-- n words of the types of a range's declarations from number j on
+abbrev pub WordsOf : List ℕ → Range → ℕ → ℕ → List ℤ → Type 0
+WordsOf s g n j zs = (length zs ≡ n) × ((i : ℕ) → i < n → inType s (typeAt s (g .first + (j + i))) (datum zs i) ≡ true)
+
 -- n data for the declarations of a range from number j on are of their types
-abbrev pub DataGive : List ℕ → Range → ℕ → ℕ → Data → Type 0
-DataGive s g n j (given zs m) = (length zs ≡ n) × ((i : ℕ) → i < n → inType s (typeAt s (g .first + (j + i))) (datum zs i) ≡ true)
+abbrev pub DataGive : List ℕ → Range → ℕ → ℕ → Values → Type 0
+DataGive s g n j (given vs m) = (areOf s (g .first + j) vs ≡ true) × WordsOf s g n j (wordsIn vs)
 DataGive s g n j (refused k m) = Refusal k
 DataGive s g n j stuck = ⊥
 

@@ -25,19 +25,17 @@ use Rattle.laris.specs.Types.{typeOf}
 use Rattle.laris.specs.declared.Typed.the-variants.{Statement}
 use Rattle.laris.specs.Static.{bodyStatic}
 use Rattle.laris.specs.Values.{inType}
-use Rattle.laris.specs.Eval.{Context, evalOf}
-use Rattle.laris.specs.Run.{World, world, given, datum, localAt, listFrom, localsOf, inBody, entered, runOf, openCalls}
-use Rattle.equations.proofs.Left.{DataWithin, data-left}
+use Rattle.laris.specs.Eval.{Context}
+use Rattle.laris.specs.Run.{World, world, provided, datum, localAt, listFrom, localsOf, localsThere, inBody, entered, runOf, openCalls}
 use Rattle.passed.specs.Places.{Placed, Locals}
 use Rattle.passed.proofs.Records.{present-below, body-shape}
 use Rattle.passed.proofs.Charts.{body-tree, body-static}
-use Rattle.sound.specs.Gives.{DataGive}
-use Rattle.sound.proofs.Data.{data-gives}
+use Rattle.passed.proofs.Declared.{locals-there}
 use Rattle.sound.proofs.Locals.{fresh-locals}
 use Rattle.sound.proofs.Run.{called-in, is-statement}
 use Rattle.ready.specs.Ready.{recordOr0, contextAt, Running, Ready, IsStatement, HasData}
-use Rattle.ready.specs.Words.{ranData, fourWords}
-use Rattle.ready.proofs.Statements.{called-there, call-data, call-word}
+use Rattle.ready.specs.Words.{given, DataTold, ranData, fourWords}
+use Rattle.ready.proofs.Statements.{called-there, call-data, call-told, call-word}
 use Rattle.sending.specs.Visit.{Visit}
 use Rattle.sending.specs.Sent.{dataAt}
 use Rattle.sending.proofs.Sends.{on-given, data-ends-refused, data-ends-stuck}
@@ -100,12 +98,12 @@ module _ (s w : List ℕ) (st lo : List ℤ) (n : ℕ) (r : Record) (v : Visit s
     pub called-stuck : (depth l : ℕ) → Stuck ≡ ranData (dataAt s w st lo r (bodyParameters b) l) → world Stuck st lo ≡ runOf s depth x n (suc l) st lo
     called-stuck depth l e = data-ends-stuck _ st lo (λ zs l. entered s x (runOf s) depth b zs l st lo) e ∙ sym (call-word s w st lo (v .ready) n r (v .there) (v .statement) (v .form) b is-called depth l)
 
+    pub told : (l : ℕ) (zs : List ℤ) (m : ℕ) → dataAt s w st lo r (bodyParameters b) l ≡ given zs m → DataTold s (bodyParameters b) l (given zs m)
+    told l zs m e = subst (DataTold s (bodyParameters b) l) e (call-told s w st lo (v .ready) n r (v .there) (v .statement) (v .form) b is-called l)
+
     -- its parameters are of their types
     parameter-in : (l : ℕ) (zs : List ℤ) (m : ℕ) → dataAt s w st lo r (bodyParameters b) l ≡ given zs m → (i : ℕ) → i < b .f4 → inType s (typeAt s (b .f3 + i)) (datum zs i) ≡ true
-    parameter-in l zs m e i h =
-        let d = subst (DataGive s (bodyParameters b) (b .f4) 0) e (data-gives s (bodyParameters b) (evalOf s x st lo) r (b .f4) 0 l (λ i m h. let z : 0 + i ≡ i = omega arith in rw z (has-data .gives i m h))) in
-        let z : 0 + i ≡ i = omega arith in
-        rw z at (d .1 i h)
+    parameter-in l zs m e i h = let z : 0 + i ≡ i = omega arith in rw z at (told l zs m e .0 .1 i h)
 
     pub callable : (l : ℕ) (zs d : List ℤ) (m : ℕ) → dataAt s w st lo r (bodyParameters b) l ≡ given zs m → d ≡ fourWords zs → Callable s w st (getD w 4 0 + r .f1) b d
     callable l zs d m e q = record {
@@ -130,7 +128,7 @@ module _ (s : List ℕ) (b : Record) (few : b .f4 ≤ 4) (zs : List ℤ) where
 
   pub entered-four : (y : Context) (depth l : ℕ) (st lo : List ℤ) → entered s y (runOf s) depth b (fourWords zs) l st lo ≡ entered s y (runOf s) depth b zs l st lo
   unfolding entered
-  entered-four y depth l st lo = ap (λ ls. elim (ltb depth openCalls) as (λ t. World) [ true ↦ world (runOf s (depth + 1) (inBody y b) (root b) l st ls .ran) (runOf s (depth + 1) (inBody y b) (root b) l st ls .st) lo | false ↦ world (Refused 9 l) st lo ]) locals-four
+  entered-four y depth l st lo = ap (λ ls. elim (ltb depth openCalls) as (λ t. World) [ true ↦ provided (localsThere s b) st lo (world (runOf s (depth + 1) (inBody y b) (root b) l st ls .ran) (runOf s (depth + 1) (inBody y b) (root b) l st ls .st) lo) | false ↦ world (Refused 9 l) st lo ]) locals-four
 
 -- ---- the body entered
 
@@ -139,9 +137,9 @@ module _ (s : List ℕ) (y : Context) (depth : ℕ) (b : Record) (zs : List ℤ)
   unfolding entered
   too-deep h = rw (entered, le-ltb depth openCalls h) refl
 
-  pub body-runs : depth < openCalls → (o : Ran) (st′ lo′ : List ℤ) → world o st′ lo′ ≡ runOf s (depth + 1) (inBody y b) (root b) l st (localsOf s b zs) → world o st′ lo ≡ entered s y (runOf s) depth b zs l st lo
-  unfolding entered
-  body-runs h o st′ lo′ e = rw (entered, lt-ltb depth openCalls h) (ap (λ v. world (v .ran) (v .st) lo) e)
+  pub body-runs : depth < openCalls → localsThere s b ≡ true → (o : Ran) (st′ lo′ : List ℤ) → world o st′ lo′ ≡ runOf s (depth + 1) (inBody y b) (root b) l st (localsOf s b zs) → world o st′ lo ≡ entered s y (runOf s) depth b zs l st lo
+  unfolding entered provided
+  body-runs h k o st′ lo′ e = rw (entered, lt-ltb depth openCalls h, provided, k) (ap (λ v. world (v .ran) (v .st) lo) e)
 
 -- the six numbers inside
 abbrev pub innerOf : List ℕ → ℕ → List ℕ
@@ -154,6 +152,9 @@ module _ (s w : List ℕ) (st : List ℤ) (k : ℕ) (b : Record) (zs : List ℤ)
 
   placed : Placed s (inBody (contextAt s w) b)
   placed = record { element = c .running .placed .element; body = c .inside }
+
+  pub fresh-there : localsThere s b ≡ true
+  fresh-there = locals-there s (c .running .passed) _ _ (c .running .placed .element .chart) b (c .inside)
 
   shaped : bodyShape s b ≡ true
   shaped = body-shape s (c .running .passed) k b (c .there)
@@ -183,7 +184,7 @@ module _ (s w : List ℕ) (st : List ℤ) (k : ℕ) (b : Record) (zs : List ℤ)
 
 module _ (s w : List ℕ) (st lo : List ℤ) (n : ℕ) (r : Record) (v : Visit s w st lo n r call) (b : Record) (there : recordOf s bodies (getD w 4 0 + r .f1) ≡ Present b) where
   pub given-left : (l : ℕ) (zs : List ℤ) (m : ℕ) → dataAt s w st lo r (bodyParameters b) l ≡ given zs m → m ≤ l
-  given-left l zs m e = subst (DataWithin l) e (data-left s (contextAt s w) st lo (bodyParameters b) r (b .f4) 0 l)
+  given-left l zs m e = told s w st lo n r v b there l zs m e .1
 
   pub call-done : (depth l : ℕ) (zs d : List ℤ) (m : ℕ) → dataAt s w st lo r (bodyParameters b) l ≡ given zs m → d ≡ fourWords zs → entered s (contextAt s w) (runOf s) depth b d m st lo ≡ runOf s depth (contextAt s w) n (suc l) st lo
   call-done depth l zs d m e q = ap (λ d. entered s (contextAt s w) (runOf s) depth b d m st lo) q ∙ entered-four s b (four-parameters s w st lo n r v b there) zs (contextAt s w) depth m st lo ∙ called-word s w st lo n r v b there depth l zs m e

@@ -2,7 +2,7 @@
 use Prim.Native.Nat.{ℕ, suc, _+_, _-_, _<_, _≤_}
 use mathlib.Core.Path.{_≡_, sym, ap, subst, _∙_}
 use mathlib.Core.List.{List, []}
-use mathlib.Core.Bool.{true}
+use mathlib.Core.Bool.{true, false}
 use native.Mathlib.Omega.{arith}
 use lib.ListN.{replicate}
 use lib.IntN.{ℤ, pos}
@@ -15,23 +15,24 @@ use Rattle.laris.specs.declared.Handed.the-variants.{Nothing}
 use Rattle.laris.specs.declared.Answer.{Answer}
 use Rattle.laris.specs.declared.Ran.{Ran}
 use Rattle.laris.specs.declared.Ran.the-variants.{Done, Refused, Stuck}
-use Rattle.laris.specs.Fields.{componentsOf, externalsOf}
+use Rattle.laris.specs.Fields.{componentsOf, externalsOf, elementsOf}
 use Rattle.laris.specs.Values.{isBound}
 use Rattle.laris.specs.State.{stateLength}
 use Rattle.laris.specs.Valid.{OfSheet}
 use Rattle.laris.specs.Eval.{Context}
 use Rattle.laris.specs.Run.{World, localsOf}
-use Rattle.laris.specs.Play.{ended, answer, limitOf, isInitial, elementBody, ranBody, startNext, startFrom, started, defaultState}
+use Rattle.laris.specs.Play.{Outcome, ended, stuck, answer, limitOf, isInitial, elementBody, alone, ranBody, startNext, startFrom, started, defaultState}
 use Rattle.laris.specs.Check.{checkOf}
 use Rattle.equations.proofs.Left.{RanWithin, run-left}
-use Rattle.passed.proofs.Records.{elements-bound, components-limit}
+use Rattle.passed.proofs.Records.{elements-bound, elements-are, components-limit}
 use Rattle.passed.proofs.Charts.{bound-element, where-found, initial-there}
+use Rattle.passed.proofs.Declared.{elements-there}
 use Rattle.sound.specs.Gives.{Ends}
-use Rattle.promise.proofs.Bodies.{body-of, ran-is, ran-ends, no-parameters}
+use Rattle.promise.proofs.Bodies.{body-of, ran-is, ran-ends, no-parameters, runs-alone}
 
-pub begins : (s : List ℕ) (n e : ℕ) (st : List ℤ) → n ≡ countOf s bindings → e ≡ externalsOf s → st ≡ defaultState s → started s ≡ startFrom s n e 0 st
+pub begins : (s : List ℕ) → checkOf s ≡ Passed → (n e : ℕ) (st : List ℤ) → n ≡ countOf s bindings → e ≡ externalsOf s → st ≡ defaultState s → started s ≡ startFrom s n e 0 st
 unfolding started
-begins s n e st p q r = ap (λ n. startFrom s n (externalsOf s) 0 (defaultState s)) (sym p) ∙ ap (λ e. startFrom s n e 0 (defaultState s)) (sym q) ∙ ap (startFrom s n e 0) (sym r)
+begins s ok n e st p q r = ap (λ b. elim b as (λ b. Outcome) [ true ↦ startFrom s (elementsOf s) (externalsOf s) 0 (defaultState s) | false ↦ stuck ]) (elements-there s ok) ∙ ap (λ n. startFrom s n (externalsOf s) 0 (defaultState s)) (elements-are s ok ∙ sym p) ∙ ap (λ e. startFrom s n e 0 (defaultState s)) (sym q) ∙ ap (startFrom s n e 0) (sym r)
 
 pub ends : (s : List ℕ) (n e k : ℕ) (st : List ℤ) (a : Answer) → n ≡ 0 → a ≡ answer 0 k Nothing → ended a st ≡ startFrom s n e k st
 unfolding startFrom
@@ -39,7 +40,7 @@ ends s n e k st a z q = ap (λ a. ended a st) q ∙ ap (λ n. startFrom s n e k 
 
 module _ (s : List ℕ) where
   abbrev first-run : ℕ → List ℤ → World
-  first-run e st = ranBody s e (elementBody s e isInitial) [] st
+  first-run e st = ranBody s e (alone (elementBody s e isInitial)) [] st
 
   one : (n e k : ℕ) (st : List ℤ) (r : Ran) → first-run e st .ran ≡ r → startFrom s (suc n) e k st ≡ startNext s k r (first-run e st .st) (λ k st. startFrom s n (suc e) k st)
   unfolding startFrom
@@ -61,7 +62,7 @@ module _ (s : List ℕ) (ok : checkOf s ≡ Passed) where
       let i = initial-there s ok _ (x .1) (x .2 .chart) in
       let f = where-found s isInitial (x .1) (i .0) (i .1) in
       let none : role (i .0) ≡ initial = eqb-true _ _ (f .1) in
-      subst (λ g. ((y : Context) × Ends s y (ranBody s e g [] st .ran) (ranBody s e g [] st .st) (ranBody s e g [] st .lo)) × RanWithin (limitOf s) (ranBody s e g [] st .ran)) (sym (body-of s ok e (x .0) (x .1) (x .2) isInitial ∙ i .1)) (
+      subst (λ g. ((y : Context) × Ends s y (ranBody s e g [] st .ran) (ranBody s e g [] st .st) (ranBody s e g [] st .lo)) × RanWithin (limitOf s) (ranBody s e g [] st .ran)) (sym (ap alone (body-of s ok e (x .0) (x .1) (x .2) isInitial ∙ i .1) ∙ runs-alone s ok e (x .0) (x .1) (x .2) (i .0) (f .0) (omega arith))) (
         (_, ran-ends s ok e (x .0) (x .1) (x .2) (i .0) (f .0) [] st o (no-parameters s ok e (x .0) (x .1) (x .2) (i .0) (f .0) (omega arith) [])),
         subst (λ (w : World). RanWithin (limitOf s) (w .ran)) (sym (ran-is s ok e (x .0) (x .1) (x .2) (i .0) (f .0) [] st)) (run-left s 0 _ (root (i .0)) (limitOf s) st (localsOf s (i .0) [])),
       )

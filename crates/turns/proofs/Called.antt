@@ -12,8 +12,8 @@ use Rattle.sheet.specs.declared.Record.{Record}
 use Rattle.sheet.specs.declared.Found.{Found}
 use Rattle.sheet.specs.declared.Found.the-variants.{Present, Absent}
 use Rattle.sheet.specs.All.{_and_}
-use Rattle.sheet.specs.Names.{bodies, chartBodies, bodyParameters, role, initial, panic, externalReaction, internalReaction, reactionName}
-use Rattle.sheet.specs.Sheet.{recordOf}
+use Rattle.sheet.specs.Names.{names, bodies, chartBodies, bodyParameters, role, initial, panic, externalReaction, internalReaction, reactionName}
+use Rattle.sheet.specs.Sheet.{countOf, recordOf}
 use Rattle.sheet.proofs.All.{true-false, and-first, and-second, and-true}
 use Rattle.laris.specs.declared.Checked.the-variants.{Passed}
 use Rattle.laris.specs.declared.Telegram.{Telegram}
@@ -22,13 +22,14 @@ use Rattle.laris.specs.Shape.{isReaction}
 use Rattle.laris.specs.Types.{nameRange, reactsTo, hasReaction}
 use Rattle.laris.specs.Static.{bodyOf}
 use Rattle.laris.specs.Values.{isBelow, inType, isBound, chartOf}
-use Rattle.laris.specs.Valid.{dataFit, datumOf}
+use Rattle.laris.specs.Valid.{dataFit, datumOf, externalFits, telegramFits}
 use Rattle.laris.specs.Run.{datum}
-use Rattle.laris.specs.Play.{bodyWhere, hasPanic, isInitial, reactsOn, elementBody, bodyEvent, reacting, panicking, delivered, ranBody}
+use Rattle.laris.specs.Play.{bodyWhere, hasPanic, isInitial, reactsOn, elementBody, alone, bodyEvent, reacting, panicking, bodiesThere, delivered, ranBody}
 use Rattle.laris.specs.Check.{checkOf}
 use Rattle.passed.specs.Places.{InChart, Element, StandsAt}
 use Rattle.passed.proofs.Charts.{bound-element, element-chart, where-found, body-there, panic-there, initial-there, reaction-there}
-use Rattle.promise.proofs.Bodies.{brought-so, brought-data, no-parameters}
+use Rattle.passed.proofs.Declared.{bodies-there}
+use Rattle.promise.proofs.Bodies.{brought-so, brought-data, no-parameters, runs-alone}
 use Rattle.turns.specs.Called.{Called}
 use Rattle.turns.proofs.Laws.{element-body, delivered-reaction, delivered-panic, reacting-is, panicking-is, initial-ran}
 
@@ -88,11 +89,14 @@ module _ (s : List ℕ) (ok : checkOf s ≡ Passed) (e : ℕ) (b c : Record) (x 
     pub panic-stands : j < chartBodies c .count
     panic-stands = stands hasPanic j h _ (panic-there s ok _ c (x .chart) .1)
 
+    panic-role : role (body hasPanic j h panic-stands) ≤ panic
+    panic-role = let one : role (body hasPanic j h panic-stands) ≡ panic = eqb-true _ _ (meets hasPanic j h panic-stands) in omega arith
+
     pub panic-called : Called s e (chartBodies c .first + j) fourZeros
-    panic-called = let one : role (body hasPanic j h panic-stands) ≡ panic = eqb-true _ _ (meets hasPanic j h panic-stands) in called hasPanic j h panic-stands fourZeros (no-parameters s ok e b c x _ (inside hasPanic j h panic-stands) (omega arith) fourZeros)
+    panic-called = called hasPanic j h panic-stands fourZeros (no-parameters s ok e b c x _ (inside hasPanic j h panic-stands) panic-role fourZeros)
 
     pub panic-runs : (old st : List ℤ) → panicking s old e st ≡ bodyEvent s old e (recordOf s bodies (chartBodies c .first + j)) fourZeros st
-    panic-runs old st = panicking-is s old e st _ (element-found hasPanic j h panic-stands ∙ found hasPanic j h panic-stands .1) ∙ ap (λ f. bodyEvent s old e f fourZeros st) (sym (found hasPanic j h panic-stands .1))
+    panic-runs old st = panicking-is s old e st _ (ap alone (element-found hasPanic j h panic-stands ∙ found hasPanic j h panic-stands .1) ∙ runs-alone s ok e b c x _ (inside hasPanic j h panic-stands) panic-role) ∙ ap (λ f. bodyEvent s old e f fourZeros st) (sym (found hasPanic j h panic-stands .1))
 
   -- ---- the initial body
 
@@ -100,15 +104,18 @@ module _ (s : List ℕ) (ok : checkOf s ≡ Passed) (e : ℕ) (b c : Record) (x 
     pub initial-stands : j < chartBodies c .count
     initial-stands = stands isInitial j h _ (initial-there s ok _ c (x .chart) .1)
 
-    pub initial-called : Called s e (chartBodies c .first + j) fourZeros
-    initial-called = let none : role (body isInitial j h initial-stands) ≡ initial = eqb-true _ _ (meets isInitial j h initial-stands) in called isInitial j h initial-stands fourZeros (no-parameters s ok e b c x _ (inside isInitial j h initial-stands) (omega arith) fourZeros)
+    initial-role : role (body isInitial j h initial-stands) ≤ panic
+    initial-role = let none : role (body isInitial j h initial-stands) ≡ initial = eqb-true _ _ (meets isInitial j h initial-stands) in omega arith
 
-    pub initial-runs : (st : List ℤ) → ranBody s e (elementBody s e isInitial) [] st ≡ ranBody s e (recordOf s bodies (chartBodies c .first + j)) fourZeros st
-    initial-runs st = initial-ran s e st _ (element-found isInitial j h initial-stands ∙ found isInitial j h initial-stands .1) ∙ ap (λ f. ranBody s e f fourZeros st) (sym (found isInitial j h initial-stands .1))
+    pub initial-called : Called s e (chartBodies c .first + j) fourZeros
+    initial-called = called isInitial j h initial-stands fourZeros (no-parameters s ok e b c x _ (inside isInitial j h initial-stands) initial-role fourZeros)
+
+    pub initial-runs : (st : List ℤ) → ranBody s e (alone (elementBody s e isInitial)) [] st ≡ ranBody s e (recordOf s bodies (chartBodies c .first + j)) fourZeros st
+    initial-runs st = initial-ran s e st _ (ap alone (element-found isInitial j h initial-stands ∙ found isInitial j h initial-stands .1) ∙ runs-alone s ok e b c x _ (inside isInitial j h initial-stands) initial-role) ∙ ap (λ f. ranBody s e f fourZeros st) (sym (found isInitial j h initial-stands .1))
 
   -- ---- reactions, where the telegram's data fit its name
 
-  module _ (t : Telegram) (fits : dataFit s (nameRange s (natAbs (t .name))) (datumOf t) ≡ true) where
+  module _ (t : Telegram) (below : isBelow (t .name) (countOf s names) ≡ true) (fits : dataFit s (nameRange s (natAbs (t .name))) (datumOf t) ≡ true) where
     module _ (j : ℕ) (h : StandsAt s c (reactsOn (natAbs (t .port)) (natAbs (t .name))) j) (l : j < chartBodies c .count) where
       abbrev on : Record → Bool
       on = reactsOn (natAbs (t .port)) (natAbs (t .name))
@@ -121,19 +128,19 @@ module _ (s : List ℕ) (ok : checkOf s ≡ Passed) (e : ℕ) (b c : Record) (x 
       reaction-on = ap (λ r. leb 2 r and leb r 3) (eqb-true (role (body on j h l)) externalReaction (and-first _ _ (meets on j h l))) ∙ and-true _ _ refl refl
 
       pub on-called : Called s e (chartBodies c .first + j) (dataIn t)
-      on-called = called on j h l (dataIn t) (brought-data s ok e b c x _ (inside on j h l) t named-on fits reaction-on)
+      on-called = called on j h l (dataIn t) (brought-data s ok e b c x _ (inside on j h l) t named-on below fits reaction-on)
 
-      pub on-delivered : (old st : List ℤ) → e ≡ natAbs (t .receiver) → isBelow (t .receiver) (externalsOf s) ≡ false → delivered s old t st ≡ bodyEvent s old e (recordOf s bodies (chartBodies c .first + j)) (dataIn t) st
-      on-delivered old st q n =
-          delivered-reaction s old t st n (body on j h l) (subst (λ e. elementBody s e on ≡ Present (body on j h l)) q (element-found on j h l ∙ found on j h l .1))
+      pub on-delivered : (old st : List ℤ) → e ≡ natAbs (t .receiver) → telegramFits s t ≡ true → externalFits s t ≡ true → isBelow (t .receiver) (externalsOf s) ≡ false → delivered s old t st ≡ bodyEvent s old e (recordOf s bodies (chartBodies c .first + j)) (dataIn t) st
+      on-delivered old st q whole outer n =
+          delivered-reaction s old t st whole outer n (body on j h l) (subst (λ e. elementBody s e on ≡ Present (body on j h l)) q (element-found on j h l ∙ found on j h l .1))
           ∙ ap (λ e. reacting s old e (Present (body on j h l)) t st) (sym q)
-          ∙ reacting-is s old e _ t st (brought-so s ok e b c x _ (inside on j h l) t named-on fits reaction-on)
+          ∙ reacting-is s old e _ t st (brought-so s ok e b c x _ (inside on j h l) t named-on below fits reaction-on)
           ∙ ap (λ f. bodyEvent s old e f (dataIn t) st) (sym (found on j h l .1))
 
     -- without a reaction the panic body
-    pub panic-delivered : (j : ℕ) → StandsAt s c (reactsOn (natAbs (t .port)) (natAbs (t .name))) j → chartBodies c .count ≤ j → (old st : List ℤ) → e ≡ natAbs (t .receiver) → isBelow (t .receiver) (externalsOf s) ≡ false → delivered s old t st ≡ panicking s old e st
-    panic-delivered j h l old st q n =
-        delivered-panic s old t st n (subst (λ e. elementBody s e (reactsOn (natAbs (t .port)) (natAbs (t .name))) ≡ Absent) q (element-none (reactsOn (natAbs (t .port)) (natAbs (t .name))) j h l))
+    pub panic-delivered : (j : ℕ) → StandsAt s c (reactsOn (natAbs (t .port)) (natAbs (t .name))) j → chartBodies c .count ≤ j → (old st : List ℤ) → e ≡ natAbs (t .receiver) → telegramFits s t ≡ true → externalFits s t ≡ true → isBelow (t .receiver) (externalsOf s) ≡ false → delivered s old t st ≡ panicking s old e st
+    panic-delivered j h l old st q whole outer n =
+        delivered-panic s old t st whole outer n (subst (λ e. bodiesThere s e ≡ true) q (bodies-there s ok e (x .bound))) (subst (λ e. elementBody s e (reactsOn (natAbs (t .port)) (natAbs (t .name))) ≡ Absent) q (element-none (reactsOn (natAbs (t .port)) (natAbs (t .name))) j h l))
         ∙ ap (λ e. panicking s old e st) (sym q)
 
     -- ---- an internal name that has a reaction
@@ -153,10 +160,10 @@ module _ (s : List ℕ) (ok : checkOf s ≡ Passed) (e : ℕ) (b c : Record) (x 
       reaction-to = ap (λ r. leb 2 r and leb r 3) (eqb-true (role (body to j h inner-stands)) internalReaction (and-first _ _ (meets to j h inner-stands))) ∙ and-true _ _ refl refl
 
       pub inner-called : Called s e (chartBodies c .first + j) (dataIn t)
-      inner-called = called to j h inner-stands (dataIn t) (brought-data s ok e b c x _ (inside to j h inner-stands) t named-to fits reaction-to)
+      inner-called = called to j h inner-stands (dataIn t) (brought-data s ok e b c x _ (inside to j h inner-stands) t named-to below fits reaction-to)
 
       pub inner-runs : (old st : List ℤ) → reacting s old e (elementBody s e to) t st ≡ bodyEvent s old e (recordOf s bodies (chartBodies c .first + j)) (dataIn t) st
       inner-runs old st =
           ap (λ f. reacting s old e f t st) (element-found to j h inner-stands ∙ found to j h inner-stands .1)
-          ∙ reacting-is s old e _ t st (brought-so s ok e b c x _ (inside to j h inner-stands) t named-to fits reaction-to)
+          ∙ reacting-is s old e _ t st (brought-so s ok e b c x _ (inside to j h inner-stands) t named-to below fits reaction-to)
           ∙ ap (λ f. bodyEvent s old e f (dataIn t) st) (sym (found to j h inner-stands .1))

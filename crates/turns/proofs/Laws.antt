@@ -11,30 +11,30 @@ use Rattle.sheet.specs.declared.Record.{Record}
 use Rattle.sheet.specs.declared.Found.the-variants.{Present, Absent}
 use Rattle.sheet.specs.All.{_and_}
 use Rattle.sheet.specs.Names.{bodyParameters, root}
-use Rattle.sheet.proofs.All.{and-true, false-and, and-false}
+use Rattle.sheet.proofs.All.{and-first, and-second, and-true, false-and, and-false}
 use Rattle.laris.specs.declared.Checked.the-variants.{Passed, Shape, Static}
 use Rattle.laris.specs.declared.Telegram.{Telegram}
 use Rattle.laris.specs.declared.Handed.the-variants.{Nothing, Outside}
 use Rattle.laris.specs.Fields.{holds, externalsOf}
 use Rattle.laris.specs.Values.{isBelow, bindingOf, chartOf}
-use Rattle.laris.specs.State.{stateLength, wordOf, waiting, telegramOf, withoutTelegram}
-use Rattle.laris.specs.Valid.{contentFits}
+use Rattle.laris.specs.State.{stateLength, wordOf, waiting, counted, telegramOf, withoutTelegram}
+use Rattle.laris.specs.Valid.{nameFits, externalFits, telegramFits, contentFits}
 use Rattle.laris.specs.Eval.{sameWord}
-use Rattle.laris.specs.declared.Ran.the-variants.{Stuck}
-use Rattle.laris.specs.Run.{World, runOf, datum, localAt, listFrom, localsOf}
-use Rattle.laris.specs.Play.{Outcome, ended, answer, limitOf, bodyWhere, hasPanic, isInitial, reactsOn, ranBody, elementBody, eventEnd, bodyEvent, oldest, taking, brought, reacting, panicking, outside, delivered, deliver, corrupt, inner, isEvent, telegramOfEvent, slice, happens, turnedDown, ifPassed, started, startCall, eventCall}
+use Rattle.laris.specs.Run.{withRecord, provided, runOf, datum, localAt, listFrom, localsOf, localsThere}
+use Rattle.laris.specs.Play.{Outcome, ended, answer, limitOf, bodyWhere, hasPanic, isInitial, reactsOn, ranBody, elementBody, alone, eventEnd, bodyEvent, oldest, taking, brought, reacting, panicking, outside, bodiesThere, received, delivered, deliver, corrupt, inner, isEvent, telegramOfEvent, slice, happens, turnedDown, ifPassed, started, startCall, eventCall}
 use Rattle.laris.specs.Check.{checkOf}
+use Rattle.promise.proofs.Events.{number-is}
 
 -- ---- the oldest telegram that meets a test
 
-module _ (s : List ℕ) (st : List ℤ) (p : Telegram → Bool) (K : Telegram → List ℤ → Outcome) where
+module _ (s : List ℕ) (st : List ℤ) (p : Telegram → Bool) (K : Telegram → List ℤ → Outcome) (c : counted st ≡ true) where
   pub taking-none : waiting st ≤ oldest s st p → taking s st p K ≡ ended (answer 5 0 Nothing) st
   unfolding taking
-  taking-none h = rw (taking, le-ltb (oldest s st p) (waiting st) h) refl
+  taking-none h = rw (taking, c, le-ltb (oldest s st p) (waiting st) h) refl
 
   pub taking-one : oldest s st p < waiting st → taking s st p K ≡ K (telegramOf s st (oldest s st p)) (withoutTelegram s st (oldest s st p))
   unfolding taking
-  taking-one h = rw (taking, lt-ltb (oldest s st p) (waiting st) h) refl
+  taking-one h = rw (taking, c, lt-ltb (oldest s st p) (waiting st) h) refl
 
 -- ---- 2 Deliver
 
@@ -43,14 +43,21 @@ module _ (s : List ℕ) (old : List ℤ) (t : Telegram) (st : List ℤ) where
   unfolding delivered
   handed-outside h = rw (delivered, h) refl
 
-  module _ (bound : isBelow (t .receiver) (externalsOf s) ≡ false) where
-    pub delivered-reaction : (b : Record) → elementBody s (natAbs (t .receiver)) (reactsOn (natAbs (t .port)) (natAbs (t .name))) ≡ Present b → delivered s old t st ≡ reacting s old (natAbs (t .receiver)) (Present b) t st
-    unfolding delivered
-    delivered-reaction b h = rw (delivered, bound, h) refl
+  -- a telegram that fits, with both ends not external
+  module _ (fits : telegramFits s t ≡ true) (outer : externalFits s t ≡ true) (bound : isBelow (t .receiver) (externalsOf s) ≡ false) where
+    delivered-bound : delivered s old t st ≡ received s old t st (natAbs (t .receiver)) (natAbs (t .port)) (natAbs (t .name))
+    unfolding delivered telegramFits externalFits nameFits
+    delivered-bound =
+        rw (delivered, bound)
+        (number-is (t .receiver) _ _ (and-first _ _ (and-second _ _ fits)) ∙ number-is (t .port) _ _ (and-first _ _ (and-second _ _ outer)) ∙ number-is (t .name) _ _ (and-first _ _ (and-second _ _ (and-second _ _ outer))))
 
-    pub delivered-panic : elementBody s (natAbs (t .receiver)) (reactsOn (natAbs (t .port)) (natAbs (t .name))) ≡ Absent → delivered s old t st ≡ panicking s old (natAbs (t .receiver)) st
-    unfolding delivered
-    delivered-panic h = rw (delivered, bound, h) refl
+    pub delivered-reaction : (b : Record) → elementBody s (natAbs (t .receiver)) (reactsOn (natAbs (t .port)) (natAbs (t .name))) ≡ Present b → delivered s old t st ≡ reacting s old (natAbs (t .receiver)) (Present b) t st
+    unfolding received
+    delivered-reaction b h = delivered-bound ∙ rw (received, h) refl
+
+    pub delivered-panic : bodiesThere s (natAbs (t .receiver)) ≡ true → elementBody s (natAbs (t .receiver)) (reactsOn (natAbs (t .port)) (natAbs (t .name))) ≡ Absent → delivered s old t st ≡ panicking s old (natAbs (t .receiver)) st
+    unfolding received
+    delivered-panic k h = delivered-bound ∙ rw (received, h, k) refl
 
 -- ---- bodies
 
@@ -80,23 +87,16 @@ no-data s b = ap (listFrom 16 0) (fun-ext (λ i. each i (ltb i (bodyParameters b
     each i false z = refl
 
 ran-without : (s : List ℕ) (e : ℕ) (b : Record) (st : List ℤ) → ranBody s e (Present b) [] st ≡ ranBody s e (Present b) (pos 0 ∷ pos 0 ∷ pos 0 ∷ pos 0 ∷ []) st
-unfolding ranBody
-ran-without s e b st =
-    ap (λ lo. elim (bindingOf s e) as (λ f. World) [
-      | Absent ↦ record { ran = Stuck; st = st; lo = [] }
-      | Present a ↦ elim (chartOf s e) as (λ f. World) [
-        | Absent ↦ record { ran = Stuck; st = st; lo = [] }
-        | Present c ↦ runOf s 0 (record { element = e; chart = c; binding = a; body = b }) (root b) (limitOf s) st lo
-      ]
-    ]) (no-data s b)
+unfolding ranBody withRecord
+ran-without s e b st = ap (λ lo. withRecord (bindingOf s e) st [] (λ a. withRecord (chartOf s e) st [] (λ c. provided (localsThere s b) st [] (runOf s 0 (record { element = e; chart = c; binding = a; body = b }) (root b) (limitOf s) st lo)))) (no-data s b)
 
 -- the panic body runs without data
-pub panicking-is : (s : List ℕ) (old : List ℤ) (e : ℕ) (st : List ℤ) (b : Record) → elementBody s e hasPanic ≡ Present b → panicking s old e st ≡ bodyEvent s old e (Present b) (pos 0 ∷ pos 0 ∷ pos 0 ∷ pos 0 ∷ []) st
+pub panicking-is : (s : List ℕ) (old : List ℤ) (e : ℕ) (st : List ℤ) (b : Record) → alone (elementBody s e hasPanic) ≡ Present b → panicking s old e st ≡ bodyEvent s old e (Present b) (pos 0 ∷ pos 0 ∷ pos 0 ∷ pos 0 ∷ []) st
 unfolding panicking
 panicking-is s old e st b h = ap (λ f. bodyEvent s old e f [] st) h ∙ ap (λ w. eventEnd s old (w .ran) (w .st)) (ran-without s e b st)
 
 -- so does an initial body
-pub initial-ran : (s : List ℕ) (e : ℕ) (st : List ℤ) (b : Record) → elementBody s e isInitial ≡ Present b → ranBody s e (elementBody s e isInitial) [] st ≡ ranBody s e (Present b) (pos 0 ∷ pos 0 ∷ pos 0 ∷ pos 0 ∷ []) st
+pub initial-ran : (s : List ℕ) (e : ℕ) (st : List ℤ) (b : Record) → alone (elementBody s e isInitial) ≡ Present b → ranBody s e (alone (elementBody s e isInitial)) [] st ≡ ranBody s e (Present b) (pos 0 ∷ pos 0 ∷ pos 0 ∷ pos 0 ∷ []) st
 initial-ran s e st b h = ap (λ f. ranBody s e f [] st) h ∙ ran-without s e b st
 
 -- ---- the calls

@@ -9,8 +9,8 @@ use lib.Signed.{leZ}
 use borrow.Author.Tests.{le-leb}
 use Rattle.sheet.specs.declared.Record.{Record}
 use Rattle.sheet.specs.declared.Found.the-variants.{Present}
-use Rattle.sheet.specs.Names.{bodies, chartBodies}
-use Rattle.sheet.specs.Sheet.{recordOf}
+use Rattle.sheet.specs.Names.{names, bodies, chartBodies}
+use Rattle.sheet.specs.Sheet.{countOf, recordOf}
 use Rattle.sheet.proofs.All.{and-first, and-second}
 use Rattle.laris.specs.declared.Checked.the-variants.{Passed}
 use Rattle.laris.specs.declared.Telegram.{Telegram}
@@ -53,9 +53,12 @@ module _ (s : List ℕ) (ok : checkOf s ≡ Passed) where
       unfolding externalFits
       port-number = not-negative _ _ (and-first _ _ (and-second _ _ part))
 
-      pub name-number : leZ (pos 0) (t .name) ≡ true
+      name-below : isBelow (t .name) (countOf s names) ≡ true
       unfolding externalFits nameFits
-      name-number = not-negative _ _ (and-first _ _ (and-second _ _ (and-second _ _ part)))
+      name-below = and-first _ _ (and-second _ _ (and-second _ _ part))
+
+      pub name-number : leZ (pos 0) (t .name) ≡ true
+      name-number = not-negative _ _ name-below
 
       data-fit : dataFit s (nameRange s (natAbs (t .name))) (datumOf t) ≡ true
       unfolding externalFits nameFits
@@ -71,17 +74,17 @@ module _ (s : List ℕ) (ok : checkOf s ≡ Passed) where
 
           module _ (l : j < chartBodies c .count) (zs : List ℤ) (read : zs ≡ dataIn t) where
             pub reaction-called : Called s e (chartBodies c .first + j) zs
-            reaction-called = let x = chart-element s e c chart in subst (Called s e (chartBodies c .first + j)) (sym read) (on-called s ok e (x .0) c (x .1) t data-fit j stands l)
+            reaction-called = let x = chart-element s e c chart in subst (Called s e (chartBodies c .first + j)) (sym read) (on-called s ok e (x .0) c (x .1) t name-below data-fit j stands l)
 
             pub as-delivered : (old st : List ℤ) (x : Outcome) → x ≡ bodyEvent s old e (recordOf s bodies (chartBodies c .first + j)) zs st → x ≡ delivered s old t st
             as-delivered old st x g =
                 let y = chart-element s e c chart in
                 g
                 ∙ ap (λ zs. bodyEvent s old e (recordOf s bodies (chartBodies c .first + j)) zs st) read
-                ∙ sym (on-delivered s ok e (y .0) c (y .1) t data-fit j stands l old st same far)
+                ∙ sym (on-delivered s ok e (y .0) c (y .1) t name-below data-fit j stands l old st same fits part far)
 
           pub none-delivered : chartBodies c .count ≤ j → (old st : List ℤ) (x : Outcome) → x ≡ panicking s old e st → x ≡ delivered s old t st
-          none-delivered l old st x g = let y = chart-element s e c chart in g ∙ sym (panic-delivered s ok e (y .0) c (y .1) t data-fit j stands l old st same far)
+          none-delivered l old st x g = let y = chart-element s e c chart in g ∙ sym (panic-delivered s ok e (y .0) c (y .1) t name-below data-fit j stands l old st same fits part far)
 
     -- ---- an internal telegram
 
@@ -93,9 +96,12 @@ module _ (s : List ℕ) (ok : checkOf s ≡ Passed) where
       unfolding internalFits
       named = and-first _ _ (and-second _ _ (and-second _ _ (and-second _ _ inside)))
 
-      pub inner-name : leZ (pos 0) (t .name) ≡ true
+      inner-below : isBelow (t .name) (countOf s names) ≡ true
       unfolding nameFits
-      inner-name = not-negative _ _ (and-first _ _ named)
+      inner-below = and-first _ _ named
+
+      pub inner-name : leZ (pos 0) (t .name) ≡ true
+      inner-name = not-negative _ _ inner-below
 
       inner-fit : dataFit s (nameRange s (natAbs (t .name))) (datumOf t) ≡ true
       unfolding nameFits
@@ -115,12 +121,12 @@ module _ (s : List ℕ) (ok : checkOf s ≡ Passed) where
           reacts = subst (λ n. StandsAt s c (reactsTo n) j) of h
 
           pub inner-asked : Called s e (chartBodies c .first + j) zs
-          inner-asked = let x = chart-element s e c chart in subst (Called s e (chartBodies c .first + j)) (sym read) (inner-called s ok e (x .0) c (x .1) t inner-fit j reacts awaited)
+          inner-asked = let x = chart-element s e c chart in subst (Called s e (chartBodies c .first + j)) (sym read) (inner-called s ok e (x .0) c (x .1) t inner-below inner-fit j reacts awaited)
 
           pub as-reacting : (old st : List ℤ) (x : Outcome) → x ≡ bodyEvent s old e (recordOf s bodies (chartBodies c .first + j)) zs st → x ≡ reacting s old (natAbs (t .receiver)) (elementBody s (natAbs (t .receiver)) (reactsTo (natAbs (t .name)))) t st
           as-reacting old st x g =
               let y = chart-element s e c chart in
               g
               ∙ ap (λ zs. bodyEvent s old e (recordOf s bodies (chartBodies c .first + j)) zs st) read
-              ∙ sym (inner-runs s ok e (y .0) c (y .1) t inner-fit j reacts awaited old st)
+              ∙ sym (inner-runs s ok e (y .0) c (y .1) t inner-below inner-fit j reacts awaited old st)
               ∙ ap (λ e. reacting s old e (elementBody s e (reactsTo (natAbs (t .name)))) t st) same

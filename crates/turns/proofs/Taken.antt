@@ -12,19 +12,21 @@ use lib.IntN.{ℤ, pos, negsuc, natAbs}
 use lib.Signed.{leZ}
 use borrow.Author.Tests.{eqb-true, lt-ltb, le-leb, not-true}
 use Rattle.sheet.specs.All.{_and_}
+use Rattle.sheet.specs.Names.{names}
+use Rattle.sheet.specs.Sheet.{countOf}
 use Rattle.sheet.proofs.All.{true-false, not-so, and-first, and-second, and-true, false-and, and-false}
 use Rattle.laris.specs.declared.Telegram.{Telegram}
 use Rattle.laris.specs.declared.Handed.the-variants.{Nothing}
 use Rattle.laris.specs.Fields.{componentsOf, externalsOf}
 use Rattle.laris.specs.Types.{reactsTo}
 use Rattle.laris.specs.Values.{isBelow, isBound}
-use Rattle.laris.specs.State.{wordOf, waiting, telegramOf, withoutTelegram}
-use Rattle.laris.specs.Valid.{isInternal, telegramFits, OfSheet}
+use Rattle.laris.specs.State.{wordOf, waiting, counted, telegramOf, withoutTelegram}
+use Rattle.laris.specs.Valid.{nameFits, isInternal, internalFits, telegramFits, OfSheet}
 use Rattle.laris.specs.Eval.{sameWord}
-use Rattle.laris.specs.Play.{Outcome, ended, answer, elementBody, goesFrom, innerOf, oldest, taking, reacting, panicking, outside, delivered, deliver, corrupt, inner, slice, restZero, boundWord, wellFormed, isEvent, telegramOfEvent, happens}
-use Rattle.states.proofs.Parts.{telegram-of}
+use Rattle.laris.specs.Play.{Outcome, ended, answer, elementBody, goesFrom, innerOf, oldest, taking, reacting, panicking, withNumber, outside, delivered, deliver, corrupt, inner, slice, restZero, boundWord, wellFormed, isEvent, telegramOfEvent, happens}
+use Rattle.states.proofs.Parts.{is-counted, telegram-of}
 use Rattle.states.proofs.Kept.{removed-kept}
-use Rattle.promise.proofs.Events.{same-word, bound-word, oldest-meets}
+use Rattle.promise.proofs.Events.{same-word, bound-word, oldest-meets, number-is, receiver-below, internal-part}
 use Rattle.turns.specs.Playing.{Playing}
 use Rattle.turns.specs.Sought.{seeks, soughtAt, mayUndo}
 use Rattle.turns.proofs.Laws.{taking-none, taking-one, handed-outside, happens-outside, happens-deliver, happens-corrupt, happens-inner, happens-slice}
@@ -180,13 +182,13 @@ module _ (s : List ℕ) (st ev : List ℤ) (h : isEvent s ev ≡ true) (n : ℕ)
   oldest-inner q = at ∙ sought-oldest s st ev n k n₁ n₅ ∙ ap (oldest s st) (seeks-inner s st ev n k q)
 
   -- "no such telegram waits"
-  pub none-happens : (w : ℕ) → w ≡ waiting st → w ≤ j → happens s st ev ≡ ended (answer 5 0 Nothing) st
+  pub none-happens : counted st ≡ true → (w : ℕ) → w ≡ waiting st → w ≤ j → happens s st ev ≡ ended (answer 5 0 Nothing) st
   unfolding deliver corrupt inner
-  none-happens w v l = elim (ℕ-discrete n 2) [
-    | yes q ↦ let o = oldest-outer (λ z. omega arith) in happens-deliver s st ev (k ∙ ap pos q) ∙ taking-none s st (goesFrom (wordOf ev 1) (wordOf ev 2)) (delivered s st) (omega arith)
+  none-happens c w v l = elim (ℕ-discrete n 2) [
+    | yes q ↦ let o = oldest-outer (λ z. omega arith) in happens-deliver s st ev (k ∙ ap pos q) ∙ taking-none s st (goesFrom (wordOf ev 1) (wordOf ev 2)) (delivered s st) c (omega arith)
     | no n₂ ↦ elim (ℕ-discrete n 3) [
-      | yes q ↦ let o = oldest-outer (λ z. omega arith) in happens-corrupt s st ev (k ∙ ap pos q) ∙ taking-none s st (goesFrom (wordOf ev 1) (wordOf ev 2)) (λ t st′. panicking s st (natAbs (wordOf ev 2)) st′) (omega arith)
-      | no n₃ ↦ let q = inner-kind n₂ n₃ in let o = oldest-inner q in happens-inner s st ev (k ∙ ap pos q) ∙ taking-none s st (innerOf (wordOf ev 2)) (λ t st′. reacting s st (natAbs (wordOf ev 2)) (elementBody s (natAbs (wordOf ev 2)) (reactsTo (natAbs (t .name)))) t st′) (omega arith)
+      | yes q ↦ let o = oldest-outer (λ z. omega arith) in happens-corrupt s st ev (k ∙ ap pos q) ∙ taking-none s st (goesFrom (wordOf ev 1) (wordOf ev 2)) _ c (omega arith)
+      | no n₃ ↦ let q = inner-kind n₂ n₃ in let o = oldest-inner q in happens-inner s st ev (k ∙ ap pos q) ∙ taking-none s st (innerOf (wordOf ev 2)) _ c (omega arith)
     ]
   ]
 
@@ -248,8 +250,16 @@ module _ {s d : List ℕ} {st ev : List ℤ} {n j : ℕ} {t : Telegram} {st′ :
   receiver-is : t .receiver ≡ wordOf ev 2
   receiver-is = elim (ℕ-discrete n 4) [ yes q ↦ same-word _ _ (and-second _ _ (inner-meets q)) | no d ↦ same-word _ _ (and-second _ _ (and-second _ _ (outer-meets d))) ]
 
+  -- its receiver and the name of an internal one are numbers
+  receiver-word : isBelow (wordOf ev 2) (componentsOf s) ≡ true
+  receiver-word = subst (λ z. isBelow z (componentsOf s) ≡ true) receiver-is (receiver-below s (k .playing .passed) t taken-fits)
+
+  name-word : isInternal t ≡ true → isBelow (t .name) (countOf s names) ≡ true
+  unfolding internalFits nameFits
+  name-word i = and-first _ _ (and-first _ _ (and-second _ _ (and-second _ _ (and-second _ _ (internal-part s (k .playing .passed) t taken-fits i)))))
+
   took : (p : Telegram → Bool) (K : Telegram → List ℤ → Outcome) → j ≡ oldest s st p → taking s st p K ≡ K t st′
-  took p K q = taking-one s st p K (let l = k .waits in omega arith) ∙ ap (λ j. K (telegramOf s st j) (withoutTelegram s st j)) (sym q) ∙ ap (λ t. K t (withoutTelegram s st j)) (sym (k .telegram)) ∙ ap (K t) (sym (k .state))
+  took p K q = taking-one s st p K (is-counted s st (k .playing .state)) (let l = k .waits in omega arith) ∙ ap (λ j. K (telegramOf s st j) (withoutTelegram s st j)) (sym q) ∙ ap (λ t. K t (withoutTelegram s st j)) (sym (k .telegram)) ∙ ap (K t) (sym (k .state))
 
   -- "A Corrupt": its receiver is bound
   pub corrupt-bound : n ≡ 3 → (r : ℕ) → r ≡ natAbs (t .receiver) → isBound s r ≡ true
@@ -283,7 +293,7 @@ module _ {s d : List ℕ} {st ev : List ℤ} {n j : ℕ} {t : Telegram} {st′ :
         g
         ∙ ap (λ o. panicking s o r st′) (copied (λ z. absurd (omega arith)))
         ∙ ap (λ r. panicking s st r st′) (i ∙ ap natAbs receiver-is)
-        ∙ sym (happens-corrupt s st ev (word 3 q) ∙ took (goesFrom (wordOf ev 1) (wordOf ev 2)) (λ t st′. panicking s st (natAbs (wordOf ev 2)) st′) (outer-at (λ z. omega arith)))
+        ∙ sym (happens-corrupt s st ev (word 3 q) ∙ took (goesFrom (wordOf ev 1) (wordOf ev 2)) (λ t st′. withNumber (wordOf ev 2) (λ e. panicking s st e st′)) (outer-at (λ z. omega arith)) ∙ number-is (wordOf ev 2) _ _ receiver-word)
 
     pub as-inner : (n ≡ 2 → ⊥) → (n ≡ 3 → ⊥) → x ≡ reacting s old (natAbs (t .receiver)) (elementBody s (natAbs (t .receiver)) (reactsTo (natAbs (t .name)))) t st′ → x ≡ happens s st ev
     unfolding inner
@@ -292,4 +302,4 @@ module _ {s d : List ℕ} {st ev : List ℤ} {n j : ℕ} {t : Telegram} {st′ :
         g
         ∙ ap (λ o. reacting s o (natAbs (t .receiver)) (elementBody s (natAbs (t .receiver)) (reactsTo (natAbs (t .name)))) t st′) (copied (λ q. absurd (n₂ q)))
         ∙ ap (λ r. reacting s st (natAbs r) (elementBody s (natAbs r) (reactsTo (natAbs (t .name)))) t st′) receiver-is
-        ∙ sym (happens-inner s st ev (word 4 q) ∙ took (innerOf (wordOf ev 2)) (λ t st′. reacting s st (natAbs (wordOf ev 2)) (elementBody s (natAbs (wordOf ev 2)) (reactsTo (natAbs (t .name)))) t st′) (inner-at q))
+        ∙ sym (happens-inner s st ev (word 4 q) ∙ took (innerOf (wordOf ev 2)) (λ t st′. withNumber (wordOf ev 2) (λ e. withNumber (t .name) (λ n. reacting s st e (elementBody s e (reactsTo n)) t st′))) (inner-at q) ∙ number-is (wordOf ev 2) _ _ receiver-word ∙ number-is (t .name) _ _ (name-word (taken-inner n₂ n₃)))

@@ -39,13 +39,13 @@ enum-known-x-2 : tie.Need-enum-known-x-2 Inv-loop μ-loop
 enum-known-x-2 c = search needs
 
 returns : tie.Need-returns Inv-loop μ-loop
-returns c = data-refused _ _ _ _ _ _ _ _ _ _ (c .before .before .before .before .before .before .before .loop .inv) (c .before .before .before .before .before .before .before .before .before .pre .2) (c .before .before .before .before .before .if1 .taken) (ap length (c .before .before .before .before .before .before .before .loop .inv .words)) _ _ (sym (c .before .x2 .given .1) ∙ (rw (c .before .before .before .before .field .ensures .0) at (c .before .before .before .eval .ensures)))
+returns c = data-refused _ _ _ _ _ _ _ _ _ _ (c .before .before .before .before .before .before .before .loop .inv) (c .before .before .before .before .before .if1 .taken) (ap length (c .before .before .before .before .before .before .before .loop .inv .words)) _ _ (sym (c .before .x2 .given .1) ∙ (rw (c .before .before .before .before .field .ensures .0) at (c .before .before .before .eval .ensures)))
 
 enum-told : tie.Need-enum-told Inv-loop μ-loop
 enum-told c = search needs
 
 returns-2 : tie.Need-returns-2 Inv-loop μ-loop
-returns-2 c = data-stuck _ _ _ _ _ _ _ _ _ _ (c .before .before .before .before .before .before .loop .inv) (c .before .before .before .before .before .before .before .before .pre .2) (c .before .before .before .before .if1 .taken) (ap length (c .before .before .before .before .before .before .loop .inv .words)) (sym (c .enum-told .given .1) ∙ (rw (c .before .before .before .field .ensures .0) at (c .before .before .eval .ensures)))
+returns-2 c = data-stuck _ _ _ _ _ _ _ _ _ _ (c .before .before .before .before .before .before .loop .inv) (c .before .before .before .before .if1 .taken) (ap length (c .before .before .before .before .before .before .loop .inv .words)) (sym (c .enum-told .given .1) ∙ (rw (c .before .before .before .field .ensures .0) at (c .before .before .eval .ensures)))
 
 add-j : tie.Need-add-j Inv-loop μ-loop
 add-j c = let h = c .before .before .before .before .before .if1 .taken in let q = c .before .before .before .before .before .before .before .before .before .pre .3 in record { fits = omega arith }
@@ -54,7 +54,7 @@ loop-less : tie.Need-loop-less Inv-loop μ-loop
 loop-less c = let h = c .before .before .before .before .before .if1 .taken in omega arith
 
 loop-again : tie.Need-loop-again Inv-loop μ-loop
-loop-again c = rw (given (c .before .x .given .0 .0) (c .known-told .given .0 .1)) (data-again _ _ _ _ _ _ _ _ _ _ (c .before .before .before .before .before .before .before .loop .inv) (c .before .before .before .before .before .before .before .before .before .pre .2) (c .before .before .before .before .before .if1 .taken) (c .before .before .before .before .before .before .before .before .before .pre .3) _ _ (sym (c .before .x .given .1) ∙ (rw (c .before .before .before .before .field .ensures .0) at (c .before .before .before .eval .ensures))))
+loop-again c = rw (given (c .before .x .given .0 .0) (c .known-told .given .0 .1)) (data-again _ _ _ _ _ _ _ _ _ _ (c .before .before .before .before .before .before .before .loop .inv) (c .before .before .before .before .before .if1 .taken) (c .before .before .before .before .before .before .before .before .before .pre .3) _ _ (sym (c .before .x .given .1) ∙ (rw (c .before .before .before .before .field .ensures .0) at (c .before .before .before .eval .ensures))))
 
 returns-3 : tie.Need-returns-3 Inv-loop μ-loop
 returns-3 c = data-end _ _ _ _ _ _ _ _ _ _ (c .before .before .loop .inv) (λ h. let q = c .if1 .left in omega arith)

@@ -16,7 +16,7 @@ use Rattle.ready.proofs.Statements.{ready-after, choice-operand, choice-then, c
 use Rattle.sending.specs.Visit.{Visit}
 use Rattle.sending.proofs.Sends.{data-given, no-record}
 use Rattle.acts.proofs.Acts.{act-cell}
-use Rattle.statements.proofs.Bodies.{body-called, number-small, has-data, four-parameters, callable, given-left, call-done, called-refused, called-stuck, too-deep, body-runs, innerOf, inner-context, few-parameters, few-variables, inner-ready, inner-statement}
+use Rattle.statements.proofs.Bodies.{body-called, number-small, has-data, four-parameters, callable, given-left, call-done, called-refused, called-stuck, too-deep, body-runs, innerOf, inner-context, fresh-there, few-parameters, few-variables, inner-ready, inner-statement}
 use Rattle.statements.proofs.Steps.{word-left, done-left, none-left, no-node, other-stuck, visit, skips, choice-no, choice-yes, choice-refused, choice-stuck, loop-ends, loop-refused, loop-stuck, turn-refused, turn-stuck, turn-visit, turn-none, turn-again, first-done, first-refused, first-stuck, with-ran, step-back, past-four, below-next, form-assign, form-external, form-internal, form-call, form-choice, form-loop, form-sequence}
 use Rattle.statements.proofs.call.Reads as call
 use Rattle.statements.proofs.call.Kinds as call-kinds
@@ -209,7 +209,7 @@ enter-same-length : (t : ℕ) → enter-lts.Need-same-length (enter-claims t) (e
 enter-same-length t c = search needs
 
 enter-returns-2 : (t : ℕ) → enter-lts.Need-returns-2 (enter-claims t) (enter-at t) enter.Post
-enter-returns-2 t c = λ lo. body-runs _ _ _ _ _ _ _ lo (let h = c .before .before .before .before .before .before .before .before .before .before .before .before .if1 .left in omega arith) _ _ _ (c .before .run .ensures .1 ∙ ap (λ y. runOf (c .before .before .before .before .before .before .before .before .before .before .before .before .before .before .args .sheet .now) (c .before .before .before .before .before .before .before .before .before .before .before .before .before .before .args .depth + 1) y (root (c .before .before .before .before .before .before .before .before .before .before .before .before .before .before .args .b)) (c .before .before .before .before .before .before .before .before .before .before .before .before .before .before .args .left) (c .before .before .before .before .before .before .before .before .before .before .before .before .before .before .args .st .now) (c .before .before .before .before .before .before .fresh-locals .result)) (inner-context _ _ _ _ _ _ (c .before .before .before .before .before .before .before .before .before .before .before .before .before .before .pre .1 .1)) ∙ ap (λ lo. runOf (c .before .before .before .before .before .before .before .before .before .before .before .before .before .before .args .sheet .now) (c .before .before .before .before .before .before .before .before .before .before .before .before .before .before .args .depth + 1) (inBody (contextAt (c .before .before .before .before .before .before .before .before .before .before .before .before .before .before .args .sheet .now) (c .before .before .before .before .before .before .before .before .before .before .before .before .before .before .args .context .now)) (c .before .before .before .before .before .before .before .before .before .before .before .before .before .before .args .b)) (root (c .before .before .before .before .before .before .before .before .before .before .before .before .before .before .args .b)) (c .before .before .before .before .before .before .before .before .before .before .before .before .before .before .args .left) (c .before .before .before .before .before .before .before .before .before .before .before .before .before .before .args .st .now) lo) (c .before .before .before .before .before .before .fresh-locals .ensures))
+enter-returns-2 t c = λ lo. body-runs _ _ _ _ _ _ _ lo (let h = c .before .before .before .before .before .before .before .before .before .before .before .before .if1 .left in omega arith) (fresh-there _ _ _ _ _ _ (c .before .before .before .before .before .before .before .before .before .before .before .before .before .before .pre .1 .1)) _ _ _ (c .before .run .ensures .1 ∙ ap (λ y. runOf (c .before .before .before .before .before .before .before .before .before .before .before .before .before .before .args .sheet .now) (c .before .before .before .before .before .before .before .before .before .before .before .before .before .before .args .depth + 1) y (root (c .before .before .before .before .before .before .before .before .before .before .before .before .before .before .args .b)) (c .before .before .before .before .before .before .before .before .before .before .before .before .before .before .args .left) (c .before .before .before .before .before .before .before .before .before .before .before .before .before .before .args .st .now) (c .before .before .before .before .before .before .fresh-locals .result)) (inner-context _ _ _ _ _ _ (c .before .before .before .before .before .before .before .before .before .before .before .before .before .before .pre .1 .1)) ∙ ap (λ lo. runOf (c .before .before .before .before .before .before .before .before .before .before .before .before .before .before .args .sheet .now) (c .before .before .before .before .before .before .before .before .before .before .before .before .before .before .args .depth + 1) (inBody (contextAt (c .before .before .before .before .before .before .before .before .before .before .before .before .before .before .args .sheet .now) (c .before .before .before .before .before .before .before .before .before .before .before .before .before .before .args .context .now)) (c .before .before .before .before .before .before .before .before .before .before .before .before .before .before .args .b)) (root (c .before .before .before .before .before .before .before .before .before .before .before .before .before .before .args .b)) (c .before .before .before .before .before .before .before .before .before .before .before .before .before .before .args .left) (c .before .before .before .before .before .before .before .before .before .before .before .before .before .before .args .st .now) lo) (c .before .before .before .before .before .before .fresh-locals .ensures))
 
 abbrev repeat-Inv-loop : repeat-lts.InvT-loop
 repeat-Inv-loop sheet directory context st₀ lo₀ depth n r left l₀ st lo l = Visit sheet context st lo n r loop × (runOf sheet depth (contextAt sheet context) n (suc left) st₀ lo₀ ≡ runOf sheet depth (contextAt sheet context) n (suc l) st lo) × (l ≤ left) × (length st ≡ length st₀) × (length lo ≡ length lo₀)
