@@ -13,10 +13,11 @@ use Rattle.sheet.specs.declared.Record.{Record}
 use Rattle.sheet.specs.declared.Found.{Found}
 use Rattle.sheet.specs.declared.Found.the-variants.{Present, Absent}
 use Rattle.sheet.specs.All.{_and_, allBelow}
+use Rattle.sheet.specs.Names.{declarations, declaredType}
 use Rattle.sheet.specs.Sheet.{wordAt, offsetOf, recordAt, recordOf}
 use Rattle.sheet.proofs.All.{and-first}
 use Rattle.sheet.proofs.Sheet.{record-present, present-below}
-use Rattle.laris.specs.Fields.{numberOr0, typeAt, sumBelow, componentsOf, externalsOf, elementsOf}
+use Rattle.laris.specs.Fields.{numberOr0, declaredSo, sumBelow, componentsOf, externalsOf, elementsOf}
 use Rattle.laris.proofs.Fields.{number-present, holds-present, holds-absent, sum-more}
 use Rattle.laris.specs.Shape.{variablesBound, variablesOf}
 use Rattle.laris.specs.Values.{chartOf, firstCell}
@@ -62,15 +63,20 @@ module _ (s : List ℕ) (byte : (i : ℕ) → Fits w8 (getD s i 0)) where
 
 -- variable j of an element whose first cell is `first` and whose variables are declared from d on
 abbrev pub cellOf : List ℕ → List ℤ → ℕ → ℕ → ℕ → ℕ → Bool
-cellOf s st e d first j = cellFits s e (typeAt s (d + j)) st (8 + 8 * (first + j))
+cellOf s st e d first j = declaredSo s (d + j) (λ t. cellFits s e t st (8 + 8 * (first + j)))
 
 module _ (s : List ℕ) (st : List ℤ) (e : ℕ) (c : Record) (first : ℕ) (p : chartOf s e ≡ Present c) (q : first ≡ firstCell s e) where
   pub element-is : allBelow (c .f3) (cellOf s st e (c .f2) first) ≡ elementFits s st e
   unfolding elementFits cellAt
   element-is = rw q (sym (holds-present (chartOf s e) c _ p))
 
-  pub cell-here : (j t : ℕ) (b : Bool) → t ≡ typeAt s (c .f2 + j) → b ≡ cellFits s e t st (8 + 8 * (first + j)) → b ≡ cellOf s st e (c .f2) first j
-  cell-here j t b r h = h ∙ ap (λ (u : ℕ). cellFits s e u st (8 + 8 * (first + j))) r
+  pub cell-here : (j : ℕ) (d : Record) (b : Bool) → recordOf s declarations (c .f2 + j) ≡ Present d → b ≡ cellFits s e (declaredType d) st (8 + 8 * (first + j)) → b ≡ cellOf s st e (c .f2) first j
+  unfolding declaredSo
+  cell-here j d b r h = h ∙ sym (holds-present _ d _ r)
+
+  pub cell-absent : (j : ℕ) → recordOf s declarations (c .f2 + j) ≡ Absent → cellOf s st e (c .f2) first j ≡ false
+  unfolding declaredSo
+  cell-absent j r = holds-absent _ _ r
 
   pub cell-inside : (j : ℕ) → j < c .f3 → length st ≡ stateLength s → 8 + 8 * (first + j) + 8 ≤ length st
   unfolding stateLength placeAt

@@ -35,8 +35,11 @@ fn element_fits(
     let count = c.f3 as usize;
     let mut j: usize = 0;
     while j < count {
-        let t = types::type_at(sheet, directory, declared + j);
-        if !cells::cell_fits(sheet, directory, e, t, st, 8 + 8 * (first + j)) {
+        let at = 8 + 8 * (first + j);
+        let Found::Present(d) = reader::read(sheet, directory, 2, declared + j) else {
+            return false;
+        };
+        if !cells::cell_fits(sheet, directory, e, d.f0 as usize, st, at) {
             return false;
         }
         j += 1;

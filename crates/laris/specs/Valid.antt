@@ -12,7 +12,7 @@ use Rattle.sheet.specs.All.{_and_, allBelow}
 use Rattle.sheet.specs.Names.{names, external, internal, chartVariables, Timer-type, Timeout-type, isClock}
 use Rattle.sheet.specs.Sheet.{countOf}
 use Rattle.laris.specs.declared.Telegram.{Telegram}
-use Rattle.laris.specs.Fields.{holds, typeAt, componentsOf, externalsOf, portsOf, elementsOf}
+use Rattle.laris.specs.Fields.{holds, declaredSo, componentsOf, externalsOf, portsOf, elementsOf}
 use Rattle.laris.specs.Types.{hasClass, hasReaction, nameRange}
 use Rattle.laris.specs.Values.{fits32, isBelow, isZero, inType, isBound, chartOf, firstCell}
 use Rattle.laris.specs.State.{places, cellAt, placeAt, stateLength, wordOf, waiting, counted, telegramOf}
@@ -20,7 +20,7 @@ use Rattle.laris.specs.State.{places, cellAt, placeAt, stateLength, word
 -- ---- data: "Surplus data are zero." "Data, also a clock's, fit their name's types"
 
 unfoldable pub dataFit : List ℕ → Range → (ℕ → ℤ) → Bool
-dataFit s g d = allBelow 4 (λ j. elim (ltb j (g .count)) [ true ↦ inType s (typeAt s (g .first + j)) (d j) | false ↦ isZero (d j) ])
+dataFit s g d = allBelow 4 (λ j. elim (ltb j (g .count)) [ true ↦ declaredSo s (g .first + j) (λ t. inType s t (d j)) | false ↦ isZero (d j) ])
 
 -- the name exists, is of a class, and the data fit it
 unfoldable pub nameFits : List ℕ → ℕ → ℤ → (ℕ → ℤ) → Bool
@@ -58,7 +58,7 @@ cellFits s e t st at = elim (isClock t) [ true ↦ clockCell s e t st at | false
 
 -- the cells of element e, "variables in order"
 unfoldable pub elementFits : List ℕ → List ℤ → ℕ → Bool
-elementFits s st e = holds (chartOf s e) (λ c. allBelow (chartVariables c .count) (λ j. cellFits s e (typeAt s (chartVariables c .first + j)) st (cellAt (firstCell s e + j))))
+elementFits s st e = holds (chartOf s e) (λ c. allBelow (chartVariables c .count) (λ j. declaredSo s (chartVariables c .first + j) (λ t. cellFits s e t st (cellAt (firstCell s e + j)))))
 
 -- ---- telegrams
 

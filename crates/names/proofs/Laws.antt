@@ -1,31 +1,40 @@
 -- Laws of names, data and reactions, one for a path of the code.
 use Prim.Native.Nat.{ℕ, _+_, _≤_, _<_}
-use mathlib.Core.Path.{_≡_, refl, ap, _∙_}
+use mathlib.Core.Path.{_≡_, refl, sym, ap, _∙_}
 use mathlib.Core.List.{List}
-use mathlib.Core.Bool.{Bool, true}
+use mathlib.Core.Bool.{Bool, true, false}
 use lib.IntN.{ℤ, pos, natAbs}
 use lib.Signed.{leZ}
 use borrow.Author.Tests.{lt-ltb, le-ltb}
+use Rattle.sheet.specs.declared.Record.{Record}
 use Rattle.sheet.specs.declared.Range.{Range}
+use Rattle.sheet.specs.declared.Found.the-variants.{Present, Absent}
+use Rattle.sheet.specs.Names.{declarations, declaredType}
+use Rattle.sheet.specs.Sheet.{recordOf}
 use Rattle.sheet.specs.All.{_and_}
 use Rattle.sheet.proofs.All.{and-first}
-use Rattle.laris.specs.Fields.{holds, typeAt}
+use Rattle.laris.specs.Fields.{holds, declaredSo}
 use Rattle.laris.specs.Types.{hasClass, nameRange, hasReaction}
 use Rattle.laris.specs.Values.{isZero, inType, chartOf}
 use Rattle.laris.specs.Valid.{dataFit, nameFits, reactionAwaits}
+use Rattle.laris.proofs.Fields.{holds-present, holds-absent}
 use Rattle.tests.proofs.Laws.{below-from}
 use Rattle.names.specs.Parts.{datumFits}
 
 -- ---- data
 
 module _ (s : List ℕ) (g : Range) (j : ℕ) (z : ℤ) (b : Bool) where
-  pub datum-typed : (t : ℕ) → j < g .count → t ≡ typeAt s (g .first + j) → b ≡ inType s t z → b ≡ datumFits s g j z
-  unfolding datumFits
-  datum-typed t h p e = e ∙ rw (datumFits, p, lt-ltb j (g .count) h) refl
+  pub datum-typed : (r : Record) → j < g .count → recordOf s declarations (g .first + j) ≡ Present r → b ≡ inType s (declaredType r) z → b ≡ datumFits s g j z
+  unfolding datumFits declaredSo
+  datum-typed r h p e = e ∙ sym (rw (datumFits, lt-ltb j (g .count) h) (holds-present _ r _ p))
 
   pub datum-surplus : g .count ≤ j → b ≡ isZero z → b ≡ datumFits s g j z
   unfolding datumFits
   datum-surplus h e = e ∙ rw (datumFits, le-ltb j (g .count) h) refl
+
+pub datum-absent : (s : List ℕ) (g : Range) (j : ℕ) (z : ℤ) → j < g .count → recordOf s declarations (g .first + j) ≡ Absent → false ≡ datumFits s g j z
+unfolding datumFits declaredSo
+datum-absent s g j z h p = sym (rw (datumFits, lt-ltb j (g .count) h) (holds-absent _ _ p))
 
 -- ---- names
 

@@ -5,9 +5,9 @@ use mathlib.Core.Bool.{Bool, true, false}
 use lib.Dec.{ltb}
 use lib.IntN.{ℤ}
 use Rattle.sheet.specs.declared.Range.{Range}
-use Rattle.laris.specs.Fields.{typeAt}
+use Rattle.laris.specs.Fields.{declaredSo}
 use Rattle.laris.specs.Values.{isZero, inType}
 
 -- datum j of the data of a range
 unfoldable pub datumFits : List ℕ → Range → ℕ → ℤ → Bool
-datumFits s g j z = elim (ltb j (g .count)) [ true ↦ inType s (typeAt s (g .first + j)) z | false ↦ isZero z ]
+datumFits s g j z = elim (ltb j (g .count)) [ true ↦ declaredSo s (g .first + j) (λ t. inType s t z) | false ↦ isZero z ]

@@ -27,13 +27,10 @@ fn datum_fits(
     ensures { λ b. ⌜ b ≡ datumFits (now (sheet .entry)) g j (wordOf (now (st .entry)) i) ⌝ }
 {
     if j < g.count {
-        return values::value_at(
-            sheet,
-            directory,
-            types::type_at(sheet, directory, g.first + j),
-            st,
-            i,
-        );
+        let Found::Present(d) = reader::read(sheet, directory, 2, g.first + j) else {
+            return false;
+        };
+        return values::value_at(sheet, directory, d.f0 as usize, st, i);
     }
     tests::zero_at(st, i)
 }

@@ -25,7 +25,7 @@ use Rattle.laris.specs.Play.{hasHead, elementThere, elementsThere, bodiesThere,
 use Rattle.laris.specs.Check.{checkOf}
 use Rattle.laris.proofs.Fields.{holds-present, number-present}
 use Rattle.passed.specs.Places.{InChart}
-use Rattle.passed.proofs.Records.{present-below, type-shape, name-shape, chart-shape, body-shape, head-there, two-externals, externals-components, two-ports, declared-exists}
+use Rattle.passed.proofs.Records.{held, present-below, type-shape, name-shape, chart-shape, body-shape, head-there, two-externals, externals-components, two-ports, declared-exists}
 use Rattle.passed.proofs.Charts.{element-chart, chart-element, number-bound, bound-element, where-found, body-there, initial-there}
 
 pub all-true : (n : ℕ) (p : ℕ → Bool) → ((i : ℕ) → i < n → p i ≡ true) → allBelow n p ≡ true
@@ -48,6 +48,14 @@ module _ (s : List ℕ) where
   pub declared-so : (d : ℕ) (p : ℕ → Bool) → d < countOf s declarations → declaredSo s d p ≡ p (typeAt s d)
   unfolding declaredSo
   declared-so d p l = let r = declared-record d l in holds-present _ (r .0) _ (r .1) ∙ ap p (r .2)
+
+  -- a test of a declaration's type that holds
+  pub declared-below : (d : ℕ) (p : ℕ → Bool) → declaredSo s d p ≡ true → d < countOf s declarations
+  unfolding declaredSo
+  declared-below d p h = let r = held _ _ h in present-below s declarations d (r .0) (r .1)
+
+  pub declared-true : (d : ℕ) (p : ℕ → Bool) → declaredSo s d p ≡ true → p (typeAt s d) ≡ true
+  declared-true d p h = sym (declared-so d p (declared-below d p h)) ∙ h
 
 -- ---- defaults
 

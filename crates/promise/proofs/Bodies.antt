@@ -32,7 +32,7 @@ use Rattle.laris.specs.Check.{checkOf}
 use Rattle.laris.proofs.Fields.{holds-present}
 use Rattle.passed.specs.Places.{InChart, Element, Placed}
 use Rattle.passed.proofs.Charts.{element-binding, element-chart, where-found, body-static, panic-there}
-use Rattle.passed.proofs.Declared.{all-true, declared-so, name-declared, parameter-declared, locals-there}
+use Rattle.passed.proofs.Declared.{all-true, declared-so, declared-true, name-declared, parameter-declared, locals-there}
 use Rattle.sound.specs.Gives.{Ends}
 use Rattle.sound.proofs.Data.{range-of, few-data}
 use Rattle.sound.proofs.Locals.{fresh-locals}
@@ -135,7 +135,7 @@ module _ (s : List ℕ) (ok : checkOf s ≡ Passed) (e : ℕ) (b c : Record) (x 
         unfolding dataFit
         brought-data j l =
             let k : j < dataOf n .count = omega (arith, same-count) in
-            rw (same-type j l) (rw (lt-ltb j (dataOf n .count) k) at (all-at 4 _ fits j (omega (arith, few-data s ok _ n (named .2)))))
+            rw (same-type j l) (declared-true s _ (λ t. inType s t _) (rw (lt-ltb j (dataOf n .count) k) at (all-at 4 _ fits j (omega (arith, few-data s ok _ n (named .2))))))
 
         pub reacting-kept : (old st : List ℤ) → OfSheet s st → EventKept s old (reacting s old e (Present d) t st)
         unfolding reacting holds

@@ -31,7 +31,7 @@ use Rattle.laris.proofs.Fields.{holds-present}
 use Rattle.passed.specs.Places.{Element}
 use Rattle.passed.proofs.Records.{present-below, name-shape}
 use Rattle.passed.proofs.Charts.{element-chart}
-use Rattle.passed.proofs.Declared.{declared-so}
+use Rattle.passed.proofs.Declared.{declared-so, name-declared}
 use Rattle.states.proofs.Frame.{all-true}
 use Rattle.sound.specs.Gives.{Gives, WordsOf, DataGive}
 
@@ -65,10 +65,10 @@ module _ (s : List ℕ) (g : Range) where
       (λ i k q. let e : j + suc i ≡ suc j + i = omega arith in rw e at (h (suc i) k (omega arith)))))
 
   -- all of a name's or a body's data: "Surplus data are zero"
-  pub data-fit : (zs : List ℤ) → g .count ≤ 4 → WordsOf s g (g .count) 0 zs → dataFit s g (datum zs) ≡ true
+  pub data-fit : (zs : List ℤ) → g .count ≤ 4 → ((j : ℕ) → j < g .count → g .first + j < countOf s declarations) → WordsOf s g (g .count) 0 zs → dataFit s g (datum zs) ≡ true
   unfolding dataFit isZero
-  data-fit zs small h = all-true 4 _ (λ j q. elim (decLt j (g .count)) [
-    | yes k ↦ rw (lt-ltb j (g .count) k) (let z : 0 + j ≡ j = omega arith in rw z at (h .1 j k))
+  data-fit zs small declared h = all-true 4 _ (λ j q. elim (decLt j (g .count)) [
+    | yes k ↦ rw (lt-ltb j (g .count) k) (declared-so s _ _ (declared j k) ∙ (let z : 0 + j ≡ j = omega arith in rw z at (h .1 j k)))
     | no k ↦ rw (le-ltb j (g .count) (omega arith)) (let e : getD zs j (pos 0) ≡ pos 0 = List·getD-eq-default zs (pos 0) (omega (arith, h .0)) in rw e refl)
   ])
 
@@ -90,7 +90,7 @@ module _ (s : List ℕ) (ok : checkOf s ≡ Passed) where
   module _ (n k : ℕ) (r : Record) (there : recordOf s names n ≡ Present r) (classed : hasClass s n k ≡ true) (zs : List ℤ) (typed : WordsOf s (dataOf r) (dataOf r .count) 0 zs) where
     pub name-fits : nameFits s k (pos n) (datum zs) ≡ true
     unfolding nameFits
-    name-fits = and-true _ _ (below-in n _ (present-below s names n r there)) (and-true _ _ classed (rw (range-of s n r there) (data-fit s (dataOf r) zs (few-data n r there) typed)))
+    name-fits = and-true _ _ (below-in n _ (present-below s names n r there)) (and-true _ _ classed (rw (range-of s n r there) (data-fit s (dataOf r) zs (few-data n r there) (name-declared s ok n r there) typed)))
 
     -- it waits or is armed in an element of a chart that reacts to it
     pub awaited : (e : ℕ) (b c : Record) → Element s e b c → hasReaction s c n ≡ true → reactionAwaits s e (pos n) ≡ true

@@ -10,7 +10,7 @@ use lib.Signed.{leZ, ltZ}
 use Rattle.sheet.specs.declared.Range.{Range}
 use Rattle.sheet.specs.All.{_and_, allBelow}
 use Rattle.sheet.specs.Names.{internal, Timer-type, Timeout-type, isClock}
-use Rattle.laris.specs.Fields.{typeAt}
+use Rattle.laris.specs.Fields.{declaredSo}
 use Rattle.laris.specs.Types.{nameRange}
 use Rattle.laris.specs.Values.{fits32, isBelow, isZero, inType}
 use Rattle.laris.specs.State.{wordOf, telegramIn}
@@ -31,7 +31,7 @@ all-same (suc n) p q h = rw (all-same n p q (λ i l. h i (omega arith)), h n (om
 
 pub data-same : (s : List ℕ) (g : Range) (d d′ : ℕ → ℤ) → ((j : ℕ) → j < 4 → d j ≡ d′ j) → dataFit s g d ≡ dataFit s g d′
 unfolding dataFit
-data-same s g d d′ h = all-same 4 _ _ (λ j l. ap (λ (z : ℤ). elim (ltb j (g .count)) [ true ↦ inType s (typeAt s (g .first + j)) z | false ↦ isZero z ]) (h j l))
+data-same s g d d′ h = all-same 4 _ _ (λ j l. ap (λ (z : ℤ). elim (ltb j (g .count)) [ true ↦ declaredSo s (g .first + j) (λ t. inType s t z) | false ↦ isZero z ]) (h j l))
 
 pub name-same : (s : List ℕ) (k : ℕ) (n n′ : ℤ) (d d′ : ℕ → ℤ) → n ≡ n′ → ((j : ℕ) → j < 4 → d j ≡ d′ j) → nameFits s k n d ≡ nameFits s k n′ d′
 unfolding nameFits

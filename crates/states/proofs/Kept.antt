@@ -22,7 +22,7 @@ use Rattle.laris.proofs.Fields.{number-present}
 use Rattle.states.proofs.Frame.{Same, zero-from, zero-same, telegram-same, cell-same}
 use Rattle.states.proofs.Words.{length-put, word-put-in, word-put-before, word-put-behind, word-set, word-set-other, with-length, with-head, with-waiting, with-before, with-behind, with-last, with-earlier, without-length, without-head, without-waiting, without-before, without-last, without-closed, without-earlier, without-later}
 use Rattle.states.proofs.Elements.{element-cells, cells-apart}
-use Rattle.states.proofs.Parts.{zeros, is-counted, waiting-limit, head-zero, has-chart, cell-of, telegram-of, unused-of, cells-fit, telegrams-fit, rest-unused}
+use Rattle.states.proofs.Parts.{zeros, is-counted, waiting-limit, head-zero, has-chart, has-declared, cell-of, telegram-of, unused-of, cells-fit, telegrams-fit, rest-unused}
 
 -- a change leaves a state of the sheet, or is refused
 abbrev pub ChangeKept : List ℕ → Changed → Type 0
@@ -81,7 +81,7 @@ module _ (s : List ℕ) (st : List ℤ) (o : OfSheet s st) (e : ℕ) (c : Record
     cell-kept fits = record {
       whole = whole ∙ o .whole;
       head = head-kept;
-      cells = cells-fit s st′ (has-chart s st o) each;
+      cells = cells-fit s st′ (has-chart s st o) (has-declared s st o) each;
       telegrams = telegrams-fit s st′ (waiting st) waiting-kept (λ n m. ap (telegramFits s) (telegram-same st′ (placeAt s n) st (placeAt s n) (place-kept n)) ∙ telegram-of s st o n m);
       unused = rest-unused s st′ (waiting st) waiting-kept (λ n m q. zero-same st′ (placeAt s n) st (placeAt s n) (place-kept n) 0 ∙ unused-of s st o n m q);
     }
@@ -116,7 +116,7 @@ head-of s st o st′ n e l h = and-true _ _ (ap (λ (z : ℤ). isBelow z 129) e 
 -- the cells, where all their words are as they were
 cells-of : (s : List ℕ) (st : List ℤ) → OfSheet s st → (st′ : List ℤ) → ((i : ℕ) → 0 < i → i < placeAt s 0 → wordOf st′ i ≡ wordOf st i) → cellsFit s st′ ≡ true
 unfolding cellAt
-cells-of s st o st′ h = cells-fit s st′ (has-chart s st o) (λ e c p j l. cell-same st′ (cellAt (firstCell s e + j)) st (cellAt (firstCell s e + j)) (λ k m. h (cellAt (firstCell s e + j) + k) (omega arith) (omega (arith, cell-inside s st o e c p j l))) s e _ ∙ cell-of s st o e c p j l)
+cells-of s st o st′ h = cells-fit s st′ (has-chart s st o) (has-declared s st o) (λ e c p j l. cell-same st′ (cellAt (firstCell s e + j)) st (cellAt (firstCell s e + j)) (λ k m. h (cellAt (firstCell s e + j) + k) (omega arith) (omega (arith, cell-inside s st o e c p j l))) s e _ ∙ cell-of s st o e c p j l)
 
 pub telegram-kept : (s : List ℕ) (st : List ℤ) → OfSheet s st → (t : Telegram) → waiting st < places → telegramFits s t ≡ true → OfSheet s (withTelegram s st t)
 unfolding placeAt
