@@ -92,6 +92,6 @@ pub fn event_body(
     match r {
         Ran::Done { left } => answer(old, st, 0, limit - left),
         Ran::Refused { number, left } => answer(old, st, number, limit - left),
-        Ran::Stuck => answer(old, st, 0, 0),
+        Ran::Stuck => answer(old, st, 4, 0),
     }
 }

@@ -29,7 +29,7 @@ pub fn panicked(
     ensures { λ a. ⌜ ended a (now (st .exit)) ≡ panicking (now (sheet .entry)) (now (old .entry)) e (now (st .entry)) ⌝ }
 {
     let Found::Present(c) = values::chart_of(sheet, directory, e) else {
-        return answered(0, 0);
+        return answered(4, 0);
     };
     let j = finders::with_role(sheet, directory, c, 1);
     let none = [0i32; 4];
@@ -49,7 +49,7 @@ fn received(
 {
     let e = tests::number(t.receiver);
     let Found::Present(c) = values::chart_of(sheet, directory, e) else {
-        return answered(0, 0);
+        return answered(4, 0);
     };
     let j = finders::reaction_on(
         sheet,
@@ -107,7 +107,7 @@ pub fn reacts(
 {
     let e = tests::number(t.receiver);
     let Found::Present(c) = values::chart_of(sheet, directory, e) else {
-        return answered(0, 0);
+        return answered(4, 0);
     };
     let j = finders::reaction_to(sheet, directory, c, tests::number(t.name));
     let brought = [t.d0, t.d1, t.d2, t.d3];

@@ -6,12 +6,15 @@ use lib.IntN.{ℤ}
 use native.Mathlib.Omega.{arith}
 use Rattle.sheet.specs.Names.{bindings}
 use Rattle.sheet.specs.Sheet.{countOf}
+use Rattle.laris.specs.declared.Checked.the-variants.{Passed}
 use Rattle.laris.specs.declared.Answer.{Answer}
 use Rattle.laris.specs.declared.Handed.the-variants.{Nothing}
 use Rattle.laris.specs.declared.Telegram.{Telegram}
 use Rattle.laris.specs.Fields.{externalsOf}
 use Rattle.laris.specs.State.{telegramIn, Changed, appended}
 use Rattle.laris.specs.Play.{Outcome, ended, answer, outside, slice, slicedFrom, telegramOfEvent, changeEnd}
+use Rattle.laris.specs.Check.{checkOf}
+use Rattle.turns.proofs.Laws.{slice-is}
 use Rattle.queue.specs.Changed.{changedTo}
 
 -- an answer without a telegram
@@ -34,17 +37,15 @@ refused-same (suc n) new back z = refl
 
 -- ---- a slice
 
-module _ (s : List ℕ) (old st new : List ℤ) (same : old ≡ st) (n : ℕ) (h : slicedFrom s (countOf s bindings) (externalsOf s) st ≡ changedTo n new) where
+module _ (s : List ℕ) (ok : checkOf s ≡ Passed) (old st new : List ℤ) (same : old ≡ st) (n : ℕ) (h : slicedFrom s (countOf s bindings) (externalsOf s) st ≡ changedTo n new) where
   of-old : slicedFrom s (countOf s bindings) (externalsOf s) old ≡ changedTo n new
   of-old = ap (slicedFrom s (countOf s bindings) (externalsOf s)) same ∙ h
 
   pub slice-done : (a : Answer) → a ≡ answer 0 0 Nothing → n ≡ 0 → ended a new ≡ slice s old
-  unfolding slice
-  slice-done a e z = change-ends old new _ n of-old (λ no. absurd (no z)) a (e ∙ ap (λ n. answer n 0 Nothing) (sym z))
+  slice-done a e z = change-ends old new _ n of-old (λ no. absurd (no z)) a (e ∙ ap (λ n. answer n 0 Nothing) (sym z)) ∙ sym (slice-is s ok old)
 
   pub slice-refused : (a : Answer) (back : List ℤ) → back ≡ old → a ≡ answer n 0 Nothing → (n ≡ 0 → ⊥) → ended a back ≡ slice s old
-  unfolding slice
-  slice-refused a back b e z = change-ends old back _ n (of-old ∙ refused-same n new back z) (λ no. b) a e
+  slice-refused a back b e z = change-ends old back _ n (of-old ∙ refused-same n new back z) (λ no. b) a e ∙ sym (slice-is s ok old)
 
 -- ---- Outside
 

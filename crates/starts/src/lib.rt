@@ -13,14 +13,14 @@ ghost use Rattle.laris.specs.declared.Checked.the-variants.{Passed};
 ghost use Rattle.laris.specs.declared.Handed.the-variants.{Nothing};
 ghost use Rattle.laris.specs.Values.{isBound};
 ghost use Rattle.laris.specs.State.{stateLength};
-ghost use Rattle.laris.specs.Play.{ended, answer, isInitial, elementBody, ranBody, started};
+ghost use Rattle.laris.specs.Play.{ended, answer, isInitial, elementBody, alone, ranBody, started};
 ghost use Rattle.laris.specs.Check.{checkOf};
 ghost use Rattle.turns.specs.Playing.{Playing};
 
 // The initial body of element e.
 fn initial(sheet: &[u8], directory: &[usize; 16], st: &mut [i32], e: usize) -> Ran
     requires { ⌜ Playing (now sheet) (now directory) (now st) × (isBound (now sheet) e ≡ true) ⌝ }
-    ensures { λ r. ⌜ (r ≡ ranBody (now (sheet .entry)) e (elementBody (now (sheet .entry)) e isInitial) [] (now (st .entry)) .ran) × (now (st .exit) ≡ ranBody (now (sheet .entry)) e (elementBody (now (sheet .entry)) e isInitial) [] (now (st .entry)) .st) ⌝ }
+    ensures { λ r. ⌜ (r ≡ ranBody (now (sheet .entry)) e (alone (elementBody (now (sheet .entry)) e isInitial)) [] (now (st .entry)) .ran) × (now (st .exit) ≡ ranBody (now (sheet .entry)) e (alone (elementBody (now (sheet .entry)) e isInitial)) [] (now (st .entry)) .st) ⌝ }
 {
     let Found::Present(c) = values::chart_of(sheet, directory, e) else {
         return Ran::Stuck;
@@ -59,7 +59,7 @@ pub fn from_defaults(sheet: &[u8], directory: &[usize; 16], st: &mut [i32]) -> A
                 return refused(st, number, steps + (most - left));
             }
             Ran::Stuck => {
-                return answered(0, 0);
+                return answered(4, 0);
             }
         }
         i += 1;

@@ -10,19 +10,22 @@ use borrow.Author.Tests.{lt-ltb, le-ltb, eq-eqb, ne-eqb}
 use Rattle.sheet.specs.declared.Record.{Record}
 use Rattle.sheet.specs.declared.Found.the-variants.{Present, Absent}
 use Rattle.sheet.specs.All.{_and_}
-use Rattle.sheet.specs.Names.{bodyParameters, root}
+use Rattle.sheet.specs.Names.{bindings, bodyParameters, root}
+use Rattle.sheet.specs.Sheet.{countOf}
 use Rattle.sheet.proofs.All.{and-first, and-second, and-true, false-and, and-false}
 use Rattle.laris.specs.declared.Checked.the-variants.{Passed, Shape, Static}
 use Rattle.laris.specs.declared.Telegram.{Telegram}
 use Rattle.laris.specs.declared.Handed.the-variants.{Nothing, Outside}
-use Rattle.laris.specs.Fields.{holds, externalsOf}
+use Rattle.laris.specs.Fields.{holds, externalsOf, elementsOf}
 use Rattle.laris.specs.Values.{isBelow, bindingOf, chartOf}
-use Rattle.laris.specs.State.{stateLength, wordOf, waiting, counted, telegramOf, withoutTelegram}
+use Rattle.laris.specs.State.{stateLength, wordOf, waiting, Changed, lost, counted, telegramOf, withoutTelegram}
 use Rattle.laris.specs.Valid.{nameFits, externalFits, telegramFits, contentFits}
 use Rattle.laris.specs.Eval.{sameWord}
 use Rattle.laris.specs.Run.{withRecord, provided, runOf, datum, localAt, listFrom, localsOf, localsThere}
-use Rattle.laris.specs.Play.{Outcome, ended, answer, limitOf, bodyWhere, hasPanic, isInitial, reactsOn, ranBody, elementBody, alone, eventEnd, bodyEvent, oldest, taking, brought, reacting, panicking, outside, bodiesThere, received, delivered, deliver, corrupt, inner, isEvent, telegramOfEvent, slice, happens, turnedDown, ifPassed, started, startCall, eventCall}
+use Rattle.laris.specs.Play.{Outcome, ended, answer, limitOf, bodyWhere, hasPanic, isInitial, reactsOn, ranBody, elementBody, alone, eventEnd, bodyEvent, oldest, taking, brought, reacting, panicking, outside, bodiesThere, received, delivered, deliver, corrupt, inner, changeEnd, isEvent, telegramOfEvent, slicedFrom, slice, happens, turnedDown, ifPassed, started, startCall, eventCall}
 use Rattle.laris.specs.Check.{checkOf}
+use Rattle.passed.proofs.Records.{elements-are}
+use Rattle.passed.proofs.Declared.{has-head}
 use Rattle.promise.proofs.Events.{number-is}
 
 -- ---- the oldest telegram that meets a test
@@ -162,6 +165,11 @@ module _ (s : List ℕ) (old result ev : List ℤ) where
       event-happens c e = whole ∙ rw (c, e) refl
 
 -- ---- the five kinds
+
+-- a slice goes over the bound elements
+pub slice-is : (s : List ℕ) → checkOf s ≡ Passed → (st : List ℤ) → slice s st ≡ changeEnd st (slicedFrom s (countOf s bindings) (externalsOf s) st)
+unfolding slice
+slice-is s ok st = ap (λ b. changeEnd st (elim b as (λ b. Changed) [ true ↦ slicedFrom s (elementsOf s) (externalsOf s) st | false ↦ lost ])) (has-head s ok) ∙ ap (λ n. changeEnd st (slicedFrom s n (externalsOf s) st)) (elements-are s ok)
 
 module _ (s : List ℕ) (st ev : List ℤ) where
   abbrev kinds : ℤ → Outcome

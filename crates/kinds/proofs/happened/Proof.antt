@@ -3,7 +3,7 @@ use native.Mathlib.Omega.{arith}
 use lib.IntN.{pos, natAbs}
 use lib.Signed.{leZ}
 use borrow.Author.Needs.{needs}
-use Rattle.states.proofs.Parts.{waiting-limit}
+use Rattle.states.proofs.Parts.{is-counted, waiting-limit}
 use Rattle.turns.proofs.Taken.{nine, kind-from-0, as-outside, slice-copied, as-slice, none-happens, takes, taken-fits, taken-plays, taken-long, taken-outer, taken-inner, corrupt-bound, as-deliver, as-corrupt, as-inner}
 use Rattle.turns.proofs.Received.{receiver-number}
 use Rattle.store.proofs.Laws.{given}
@@ -43,7 +43,7 @@ same-length-3 : tie.Need-same-length-3
 same-length-3 c = search needs
 
 returns-3 : tie.Need-returns-3
-returns-3 c = down _ 5 0 _ _ (c .answered .ensures) (none-happens _ _ _ (c .before .before .before .before .before .before .before .before .pre .1) _ (c .before .before .before .before .before .before .number-at .ensures) (c .before .before .before .before .before .if1 .left) (c .before .before .before .before .if2 .left) _ (c .before .before .before .before .before .before .before .before .pre .2) _ (c .before .before .waiting-count .ensures) (c .before .if3 .taken))
+returns-3 c = down _ 5 0 _ _ (c .answered .ensures) (none-happens _ _ _ (c .before .before .before .before .before .before .before .before .pre .1) _ (c .before .before .before .before .before .before .number-at .ensures) (c .before .before .before .before .before .if1 .left) (c .before .before .before .before .if2 .left) _ (c .before .before .before .before .before .before .before .before .pre .2) (is-counted _ _ (c .before .before .before .before .before .before .before .before .pre .0 .state)) _ (c .before .before .waiting-count .ensures) (c .before .if3 .taken))
 
 telegram-at-requires : tie.Need-telegram-at-requires
 telegram-at-requires c κs = (laid _ _ (c .before .before .before .before .before .before .before .before .pre .0 .state) .long, omega (arith, waiting-limit _ _ (c .before .before .before .before .before .before .before .before .pre .0 .state), c .before .before .waiting-count .ensures, c .before .if3 .left))

@@ -13,7 +13,7 @@ same-length : tie.Need-same-length
 same-length c = search needs
 
 returns : tie.Need-returns
-returns c = slice-done _ _ _ _ (c .before .before .before .before .before .before .pre .1) _ (c .before .before .before .slice .ensures) _ (c .answered .ensures) (c .before .if1 .taken)
+returns c = slice-done _ (c .before .before .before .before .before .before .pre .0 .passed) _ _ _ (c .before .before .before .before .before .before .pre .1) _ (c .before .before .before .slice .ensures) _ (c .answered .ensures) (c .before .if1 .taken)
 
 copy-requires : tie.Need-copy-requires
 copy-requires c κs = search needs
@@ -25,7 +25,7 @@ same-length-2 : tie.Need-same-length-2
 same-length-2 c = search needs
 
 returns-2 : tie.Need-returns-2
-returns-2 c = slice-refused _ _ _ _ (c .before .before .before .before .before .before .before .before .before .pre .1) _ (c .before .before .before .before .before .before .slice .ensures) _ _ (c .before .before .copy .ensures) (c .answered2 .ensures) (c .before .before .before .before .if1 .left)
+returns-2 c = slice-refused _ (c .before .before .before .before .before .before .before .before .before .pre .0 .passed) _ _ _ (c .before .before .before .before .before .before .before .before .before .pre .1) _ (c .before .before .before .before .before .before .slice .ensures) _ _ (c .before .before .copy .ensures) (c .answered2 .ensures) (c .before .before .before .before .if1 .left)
 
 pub sliced-spec : {M : Type 1} → statement M
 sliced-spec =

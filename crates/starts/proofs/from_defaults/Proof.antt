@@ -31,7 +31,7 @@ loop-holds : tie.Need-loop-holds Inv-loop μ-loop
 loop-holds c =
     let p = c .before .before .externals .ensures .0 in
     let q = c .before .count-in .ensures _ (c .before .before .before .before .before .before .before .pre .0) in
-    (omega arith, subst (OfSheet _) (sym (c .before .before .before .before .default-state .ensures)) (default-of-sheet _ (c .before .before .before .before .before .before .before .pre .1)), omega arith, begins _ _ _ _ (omega arith) (omega arith) (c .before .before .before .before .default-state .ensures))
+    (omega arith, subst (OfSheet _) (sym (c .before .before .before .before .default-state .ensures)) (default-of-sheet _ (c .before .before .before .before .before .before .before .pre .1)), omega arith, begins _ (c .before .before .before .before .before .before .before .pre .1) _ _ _ (omega arith) (omega arith) (c .before .before .before .before .default-state .ensures))
 
 add-initial : tie.Need-add-initial Inv-loop μ-loop
 add-initial c =
