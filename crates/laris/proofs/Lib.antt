@@ -3,3 +3,4 @@ pub mod Fields
 pub mod Types
 pub mod Appending
 pub mod Samples
+pub mod NotPassed

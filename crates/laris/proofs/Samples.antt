@@ -38,17 +38,18 @@ fieldsOf : List (List ℕ) → List ℕ
 fieldsOf [] = []
 fieldsOf (s ∷ ss) = s ++ fieldsOf ss
 
-sheetOf : List (List ℕ) → List ℕ
+unfoldable pub sheetOf : List (List ℕ) → List ℕ
+unfolding bytesOf directoryFor fieldsOf
 sheetOf ss = bytesOf (directoryFor 32 ss ++ fieldsOf ss)
 
 -- a record by its first three or six fields; a body by role, name and root
-rec3 : ℕ → ℕ → ℕ → List ℕ
+unfoldable pub rec3 : ℕ → ℕ → ℕ → List ℕ
 rec3 a b c = a ∷ b ∷ c ∷ 0 ∷ 0 ∷ 0 ∷ 0 ∷ 0 ∷ []
 
-rec6 : ℕ → ℕ → ℕ → ℕ → ℕ → ℕ → List ℕ
+unfoldable pub rec6 : ℕ → ℕ → ℕ → ℕ → ℕ → ℕ → List ℕ
 rec6 a b c d e f = a ∷ b ∷ c ∷ d ∷ e ∷ f ∷ 0 ∷ 0 ∷ []
 
-body : ℕ → ℕ → ℕ → List ℕ
+unfoldable pub body : ℕ → ℕ → ℕ → List ℕ
 body role name root = role ∷ 0 ∷ name ∷ 0 ∷ 0 ∷ 0 ∷ 0 ∷ root ∷ []
 
 -- the number that check gives to a sheet, with every definition open
@@ -132,7 +133,7 @@ mod-zero l = refl
 
 -- ---- start and events, with every definition open
 
-start : List (List ℕ) → Outcome
+unfoldable pub start : List (List ℕ) → Outcome
 unfolding check fits32 isBelow recordBy isZero membersOf inType defaultOf hasDefault isBound bindingOf chartOf firstCell cellAt placeAt stateLength wordOf waiting setWaiting telegramIn telegramOf putWords withTelegram appended withoutTelegram dataFit nameFits reactionAwaits zeroWords runningClock clockCell cellFits elementFits internalFits externalFits telegramFits headFits cellsFit waitingFit unusedZero contentFits andThen needs onRecord intOut quotient remainder dividing notVal intVal binaryVal literalValue within ofType parameterVal variableAtCell readAs readVal clockVal evalIn evalStep evalF evalOf goOn thenOperand withRecord provided before nextValue valuesFrom thenValues areOf wordsIn localAt listFrom localsOf localsThere append armed clockSet fewer assigned hasVariable assignOf nameValues externalSendOf internalSendOf isVariable armOf clockActOf entered callOf choiceOf runIn runStep runF runOf limitOf bodyFrom bodyWhere ranBody elementBody alone eventEnd defaultCell defaultCells elementCells cellsFrom defaultState hasHead elementThere elementsThere startNext startFrom started oldestFrom oldest taking sameDeclared brought reacting panicking withNumber outside bodiesThere received delivered deliver corrupt inner thenSlice fires ticks slicedCell slicedVariable slicedCells slicedElement slicedFrom changeEnd slice restZero wellFormed isEvent happens ifPassed startCall eventCall
 start ss = startCall (sheetOf ss) (replicate (stateLength (sheetOf ss)) (pos 0))
 
@@ -142,12 +143,12 @@ unfolding start
 eventOn ss st ev = eventCall (sheetOf ss) st (replicate (length st) (pos 0)) ev
 
 -- the machine alone, without the tests of sheet, state and event that a call makes before: those of 128 places take seconds
-event : List (List ℕ) → List ℤ → List ℤ → Outcome
+unfoldable pub event : List (List ℕ) → List ℤ → List ℤ → Outcome
 unfolding start
 event ss st ev = happens (sheetOf ss) st ev
 
 -- what is answered, without a telegram handed outside
-answered : ℕ → ℕ → List ℤ → Outcome
+unfoldable pub answered : ℕ → ℕ → List ℤ → Outcome
 answered number steps st = ended (answer number steps Nothing) st
 
 -- kind, s and r; the other words are 0, which also is port 0 and name 0 of an Outside
@@ -155,7 +156,7 @@ words : ℕ → ℕ → ℕ → List ℤ
 words kind sender receiver = pos kind ∷ pos sender ∷ pos receiver ∷ replicate 6 (pos 0)
 
 -- A play is start, then events, each on the state that the last one left. A row for each: the answer's number, its steps, and how many telegrams wait then
-row : ℕ → ℕ → ℕ → List ℕ
+unfoldable pub row : ℕ → ℕ → ℕ → List ℕ
 row number steps count = number ∷ steps ∷ count ∷ []
 
 heard : Outcome → (List ℤ → List (List ℕ)) → List (List ℕ)
@@ -229,11 +230,11 @@ copies zero ws = []
 copies (suc n) ws = ws ++ copies n ws
 
 -- a state in which n telegrams wait: its cells, the telegrams
-waits : ℕ → List ℤ → List ℤ → List ℤ
+unfoldable pub waits : ℕ → List ℤ → List ℤ → List ℤ
 waits n cells telegrams = pos n ∷ replicate 7 (pos 0) ++ cells ++ telegrams ++ replicate (8 * (128 - n)) (pos 0)
 
 -- a telegram of external name 0 on port 0
-sent : ℕ → ℕ → List ℤ
+unfoldable pub sent : ℕ → ℕ → List ℤ
 sent sender receiver = pos sender ∷ pos receiver ∷ replicate 6 (pos 0)
 
 -- so many of them wait at element 2
