@@ -629,6 +629,11 @@ assign-past-refused : told (begun (doing 17 0 (rec6 33 1 1 2 0 0))) ≡ row 6 4 
 unfolding told begun
 assign-past-refused = refl
 
+-- but "all defaults, nothing waiting, then the initial bodies": a declaration that is absent is met before
+defaults-before : begun (doing 19 0 (rec6 33 1 0 2 0 0)) ≡ stuck
+unfolding begun
+defaults-before = refl
+
 -- 34 external send to Log on log; of name 2, which is absent; to 1, which is no Component. With 1 div 0 for the receiver, or for the port: 6
 send : told (begun (doing 18 0 (rec6 34 3 4 0 0 0))) ≡ row 0 3 1
 unfolding told begun
