@@ -12,7 +12,6 @@ use borrow.Author.Tests.{ltb-true, lt-ltb, eq-eqb, ne-eqb}
 use Rattle.sheet.specs.declared.Record.{Record}
 use Rattle.sheet.specs.declared.Found.the-variants.{Present, Absent}
 use Rattle.sheet.specs.All.{_and_}
-use Rattle.sheet.specs.Names
 use Rattle.sheet.specs.Names.{nodes, chartParameters, chartVariables, bodyParameters, bodyLocals, operator, isLiteral, Bool-type, Int-type}
 use Rattle.sheet.specs.Sheet.{recordOf}
 use Rattle.sheet.proofs.All.{true-false, and-first, and-second, all-at}

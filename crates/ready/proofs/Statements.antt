@@ -12,7 +12,6 @@ use Rattle.sheet.specs.declared.Range.{Range}
 use Rattle.sheet.specs.declared.Found.{Found}
 use Rattle.sheet.specs.declared.Found.the-variants.{Present, Absent}
 use Rattle.sheet.specs.All.{_and_}
-use Rattle.sheet.specs.Names
 use Rattle.sheet.specs.Names.{declarations, names, nodes, dataOf, external, role, procedure, chartVariables, bodyParameters, operator, Bool-type, Int-type, Component-type, Port-type, Timer-type, isClock}
 use Rattle.sheet.specs.Sheet.{countOf, recordOf}
 use Rattle.sheet.proofs.All.{true-false, and-first, and-second, and-true, all-at}

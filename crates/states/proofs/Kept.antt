@@ -11,7 +11,7 @@ use borrow.Author.Tests.{lt-ltb}
 use Rattle.sheet.specs.declared.Record.{Record}
 use Rattle.sheet.specs.declared.Found.the-variants.{Present}
 use Rattle.sheet.specs.Names.{chartVariables, isClock}
-use Rattle.sheet.proofs.All.{and-first, and-second, and-true}
+use Rattle.sheet.proofs.All.{and-second, and-true}
 use Rattle.laris.proofs.Appending.{appending}
 use Rattle.laris.specs.declared.Telegram.{Telegram}
 use Rattle.laris.specs.Fields.{typeAt, numberOr0}
