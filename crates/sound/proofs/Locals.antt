@@ -24,7 +24,7 @@ use Rattle.laris.specs.Check.{checkOf}
 use Rattle.passed.specs.Places.{Placed, Locals}
 use Rattle.passed.proofs.Records.{declared-exists, body-shape}
 use Rattle.passed.proofs.Charts.{body-static}
-use Rattle.states.proofs.Passed.{default-in}
+use Rattle.passed.proofs.Declared.{default-in}
 use Rattle.states.proofs.Words.{word-set, word-set-other}
 
 list-length : (n i : ℕ) (f : ℕ → ℤ) → length (listFrom n i f) ≡ n

@@ -23,8 +23,8 @@ use Rattle.laris.specs.Valid.{zeroWords, clockCell, cellFits, headFits, OfSheet
 use Rattle.laris.specs.Play.{defaultCell, defaultCells, elementCells, cellsFrom, defaultState}
 use Rattle.laris.proofs.Fields.{holds-present, holds-absent, sum-more}
 use Rattle.passed.proofs.Records.{declared-exists}
-use Rattle.passed.proofs.Charts.{element-chart, chart-element, number-bound, bound-element}
-use Rattle.passed.proofs.Declared.{default-in, chart-variable-declared}
+use Rattle.passed.proofs.Charts.{element-chart, number-bound, bound-element}
+use Rattle.passed.proofs.Declared.{default-in, element-declared}
 use Rattle.states.proofs.Frame.{Same, cell-same}
 use Rattle.states.proofs.Words.{word-front, word-rest}
 use Rattle.states.proofs.Elements.{element-number, element-count, element-from, element-cells, sum-rises}
@@ -195,7 +195,7 @@ module _ (s : List ℕ) (ok : checkOf s ≡ Passed) where
   default-of-sheet = record {
     whole = default-length;
     head = default-head;
-    cells = cells-fit s (defaultState s) bound-chart (λ e c p j l. let x = chart-element s e c p in chart-variable-declared s ok _ c (x .1 .chart) j l) default-fits;
+    cells = cells-fit s (defaultState s) bound-chart (element-declared s ok) default-fits;
     telegrams = telegrams-fit s (defaultState s) 0 nothing-waits (λ j l. absurd (omega arith));
     unused = rest-unused s (defaultState s) 0 nothing-waits (λ n a l. place-zero n l);
   }

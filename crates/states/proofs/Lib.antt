@@ -3,7 +3,6 @@ pub mod Words
 pub mod Elements
 pub mod Parts
 pub mod Kept
-pub mod Passed
 pub mod Default
 pub mod Telegrams
 pub mod Clocks

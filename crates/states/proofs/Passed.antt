@@ -1,2 +1,0 @@
--- Defaults are of their types, on a passed sheet.
-pub use Rattle.passed.proofs.Declared.{default-in}
