@@ -170,6 +170,11 @@ active-absent : meets 3 (declaring [] [] 1 0 (testing (rec3 17 0 0))) (cell 1) �
 unfolding happened
 active-absent = refl
 
+-- 18 "its value, 0 when stopped", whatever the word there is: 1 div it is 6
+value-stopped : told (meets 3 (declaring [] (rec3 4 0 0) 1 0 (testing (rec3 18 0 0 ++ rec3 15 0 7 ++ rec3 10 8 8))) (pos 0 ∷ pos 5 ∷ replicate 6 (pos 0))) ≡ row 6 5 1
+unfolding told happened
+value-stopped = refl
+
 stopped : told (meets 3 (declaring [] (rec3 4 0 0) 1 0 (rec3 39 0 0)) (cell 1)) ≡ row 0 1 0
 unfolding told happened
 stopped = refl

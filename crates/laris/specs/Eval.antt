@@ -159,10 +159,13 @@ module _ (s : List ℕ) (x : Context) (st lo : List ℤ) where
   readVal place n l = needs (ltb n (variablesAt (x .chart) (x .body) place)) (onType s (variableAt (x .chart) (x .body) place n) (λ t. readAs place n t l))
 
   -- "17 gives the clock's running word, 18 its value, 0 when stopped"
+  unfoldable pub clockWord : ℕ → ℤ
+  clockWord n = elim (isZero (wordOf st (variableAtCell n))) [ true ↦ pos 0 | false ↦ wordOf st (variableAtCell n + 1) ]
+
   unfoldable pub clockVal : ℕ → ℕ → ℕ → Out
   clockVal op n l =
       needs (ltb n (chartVariables (x .chart) .count) and declaredSo s (chartVariables (x .chart) .first + n) isClock)
-      (elim (eqb op 17) [ true ↦ within s (val Bool-type (wordOf st (variableAtCell n))) l | false ↦ within s (val Int-type (wordOf st (variableAtCell n + 1))) l ])
+      (elim (eqb op 17) [ true ↦ within s (val Bool-type (wordOf st (variableAtCell n))) l | false ↦ within s (val Int-type (clockWord n)) l ])
 
   -- ---- a node
 

@@ -23,10 +23,10 @@ use Rattle.laris.specs.declared.Typed.the-variants.{Expression}
 use Rattle.laris.specs.Fields.{fieldOf, typeAt}
 use Rattle.laris.specs.Forms.{Form, literal, read, unary, binary, clock, skip, assign, externalSend, internalSend, arm, clockAct, call, choice, loop, sequence, unknown, formOf, operandsIn, operandsOf, operandAt, operandCount}
 use Rattle.laris.specs.Shape.{variablesAt, fieldsShape, treeShape, constantOf}
-use Rattle.laris.specs.Types.{variableAt, lowerType, typeIn, typeOf}
+use Rattle.laris.specs.Types.{variableAt, clockType, lowerType, typeIn, typeOf}
 use Rattle.laris.specs.Values.{isZero, inType, firstCell}
 use Rattle.laris.specs.State.{cellAt, wordOf}
-use Rattle.laris.specs.Eval.{andThen, needs, onRecord, val, boolWord, isOne, sameWord, notVal, intVal, binaryVal, literalValue, within, ofType, Context, parameterVal, variableAtCell, readAs, readVal, clockVal, evalIn, evalOf}
+use Rattle.laris.specs.Eval.{andThen, needs, onRecord, val, boolWord, isOne, sameWord, notVal, intVal, binaryVal, literalValue, within, ofType, Context, parameterVal, variableAtCell, readAs, readVal, clockWord, clockVal, evalIn, evalOf}
 use Rattle.laris.proofs.Fields.{holds-present}
 use Rattle.laris.proofs.Forms.{isExpressionForm}
 use Rattle.laris.proofs.Types.{lower-type}
@@ -38,8 +38,8 @@ use Rattle.states.proofs.Parts.{cell-of}
 use Rattle.states.proofs.Kept.{cell-in-state}
 use Rattle.sound.proofs.Locals.{few}
 use Rattle.sound.specs.Gives.{Gives}
-use Rattle.sound.proofs.Leaves.{Both, not-gives, binary-gives}
-use Rattle.sound.proofs.Eval.{on-present, few-parameters, type-at, eval-gives}
+use Rattle.sound.proofs.Leaves.{Both, asked, not-gives, binary-gives}
+use Rattle.sound.proofs.Eval.{on-present, few-parameters, clock-word, type-at, eval-gives}
 use Rattle.ints.specs.declared.Work.{Work}
 use Rattle.ints.specs.declared.Work.the-variants.{Word, Refused, Stuck}
 use Rattle.ints.specs.Work.{workOf, thenWork, notWork, binaryWork}
@@ -236,7 +236,7 @@ module _ (s w : List ℕ) (st lo : List ℤ) (ready : Ready s w st lo) where
       clock-in-state = cell-in-state s st (ready .state) (x .element) (x .chart) (element-chart s (x .element) (x .binding) (x .chart) (placed .element)) (r .f1) clock-inside
 
       -- 17 its running word, 18 its value
-      clock-as : (l : ℕ) (v : Value) → elim (eqb (operator r) 17) [ true ↦ within s (val Bool-type (wordOf st (variableAtCell s x st lo (r .f1)))) l | false ↦ within s (val Int-type (wordOf st (variableAtCell s x st lo (r .f1) + 1))) l ] ≡ within s v l → workOf (evalOf s x st lo n (suc l)) ≡ Word (v .word) l
+      clock-as : (l : ℕ) (v : Value) → elim (eqb (operator r) 17) [ true ↦ within s (val Bool-type (wordOf st (variableAtCell s x st lo (r .f1)))) l | false ↦ within s (val Int-type (clockWord s x st lo (r .f1))) l ] ≡ within s v l → workOf (evalOf s x st lo n (suc l)) ≡ Word (v .word) l
       unfolding evalIn clockVal within workOf
       clock-as l v h = ap workOf (visited clock q l) ∙ needs-word _ _ _ (λ b. ap workOf h ∙ needs-word _ _ _ (λ c. refl) (λ z. goes clock q l (needs-through _ _ b ∙ ap workOf h ∙ z))) (goes clock q l)
 
@@ -245,8 +245,8 @@ module _ (s w : List ℕ) (st lo : List ℤ) (ready : Ready s w st lo) where
       running-word h l = clock-as l (val Bool-type (wordOf st (cellAt (firstCell s (x .element) + r .f1)))) (rw (eq-eqb (operator r) 17 h) refl)
 
       pub value-word : (operator r ≡ 17 → ⊥) → (l : ℕ) → workOf (evalOf s x st lo n (suc l)) ≡ Word (wordOf st (cellAt (firstCell s (x .element) + r .f1) + 1)) l
-      unfolding variableAtCell
-      value-word h l = clock-as l (val Int-type (wordOf st (cellAt (firstCell s (x .element) + r .f1) + 1))) (rw (ne-eqb (operator r) 17 h) refl)
+      unfolding typeIn clockType
+      value-word h l = clock-as l (val Int-type (clockWord s x st lo (r .f1))) (rw (ne-eqb (operator r) 17 h) refl) ∙ ap (λ z. Word z l) (clock-word s (ready .running .passed) x placed st lo cells (ready .locals) (r .f1) clock-inside (asked _ _ (typed clock q) .0))
 
     -- ---- operators
 

@@ -28,7 +28,7 @@ use Rattle.laris.specs.Static.{constantStatic, constantsStatic, bindingStatic}
 use Rattle.laris.specs.Values.{fits32, isBelow, isZero, inType, isBound, firstCell}
 use Rattle.laris.specs.State.{cellAt, wordOf}
 use Rattle.laris.specs.Valid.{zeroWords, runningClock, clockCell, cellFits}
-use Rattle.laris.specs.Eval.{needs, onRecord, val, notVal, literalValue, within, ofType, Context, onType, bodyWords, parameterVal, variableAtCell, readAs, readVal, clockVal, evalIn, evalOf}
+use Rattle.laris.specs.Eval.{needs, onRecord, val, notVal, literalValue, within, ofType, Context, onType, bodyWords, parameterVal, variableAtCell, readAs, readVal, clockWord, clockVal, evalIn, evalOf}
 use Rattle.laris.specs.Check.{checkOf}
 use Rattle.laris.proofs.Fields.{holds-present}
 use Rattle.laris.proofs.Types.{type-step, lower-type}
@@ -127,27 +127,37 @@ module _ (s : List ℕ) (ok : checkOf s ≡ Passed) (x : Context) (placed : Plac
         go true e q = rw (zero-is (wordOf st at) e) refl
         go false e q = and-first _ _ q
 
-    value-in : inType s Int-type (wordOf st (variableAtCell s x st lo n + 1)) ≡ true
-    unfolding variableAtCell clockCell runningClock zeroWords inType fits32
-    value-in = go (isZero (wordOf st (cellAt (firstCell s (x .element) + n)))) cell
-      where
-        at : ℕ
-        at = cellAt (firstCell s (x .element) + n)
+    abbrev at : ℕ
+    at = cellAt (firstCell s (x .element) + n)
 
+    -- a stopped clock's value is 0
+    stopped-value : zeroWords st at 1 ≡ true → wordOf st (at + 1) ≡ pos 0
+    unfolding zeroWords
+    stopped-value q = let i : at + 1 + 0 ≡ at + 1 = omega arith in zero-is _ (subst (λ i. isZero (wordOf st i) ≡ true) i (all-at 7 (λ k. isZero (wordOf st (at + 1 + k))) q 0 (omega arith)))
+
+    pub clock-word : clockWord s x st lo n ≡ wordOf st (at + 1)
+    unfolding clockWord variableAtCell clockCell
+    clock-word = go (isZero (wordOf st at)) cell
+      where
+        go : (b : Bool) → elim b [ true ↦ zeroWords st at 1 | false ↦ isBelow (wordOf st at) 2 and runningClock s (x .element) (typeAt s (chartVariables (x .chart) .first + n)) st at ] ≡ true → _≡_ {A = ℤ} (elim b [ true ↦ pos 0 | false ↦ wordOf st (at + 1) ]) (wordOf st (at + 1))
+        go true q = sym (stopped-value q)
+        go false q = refl
+
+    value-in : inType s Int-type (clockWord s x st lo n) ≡ true
+    unfolding clockCell runningClock inType fits32
+    value-in = ap (inType s Int-type) clock-word ∙ go (isZero (wordOf st at)) cell
+      where
         go : (b : Bool) → elim b [ true ↦ zeroWords st at 1 | false ↦ isBelow (wordOf st at) 2 and runningClock s (x .element) (typeAt s (chartVariables (x .chart) .first + n)) st at ] ≡ true → inType s Int-type (wordOf st (at + 1)) ≡ true
-        go true q =
-            let i : at + 1 + 0 ≡ at + 1 = omega arith in
-            let z : wordOf st (at + 1) ≡ pos 0 = zero-is _ (subst (λ i. isZero (wordOf st i) ≡ true) i (all-at 7 (λ k. isZero (wordOf st (at + 1 + k))) q 0 (omega arith))) in
-            rw z refl
+        go true q = rw (stopped-value q) refl
         go false q = int-in s (wordOf st (at + 1)) (and-first _ _ (and-second _ _ q))
 
   clock-gives : (op n t l : ℕ) → n < chartVariables (x .chart) .count → isClock (typeAt s (chartVariables (x .chart) .first + n)) ≡ true → elim (eqb op 17) [ true ↦ Bool-type | false ↦ Int-type ] ≡ t → Gives s t (clockVal s x st lo op n l)
   unfolding clockVal
   clock-gives op n t l h c e = met s t _ _ (and-true _ _ (lt-ltb _ _ h) (declared-so s _ isClock (chart-variable-declared s ok _ _ (placed .element .chart) n h) ∙ c)) (go (eqb op 17) e)
     where
-      go : (b : Bool) → elim b [ true ↦ Bool-type | false ↦ Int-type ] ≡ t → Gives s t (elim b [ true ↦ within s (val Bool-type (wordOf st (variableAtCell s x st lo n))) l | false ↦ within s (val Int-type (wordOf st (variableAtCell s x st lo n + 1))) l ])
+      go : (b : Bool) → elim b [ true ↦ Bool-type | false ↦ Int-type ] ≡ t → Gives s t (elim b [ true ↦ within s (val Bool-type (wordOf st (variableAtCell s x st lo n))) l | false ↦ within s (val Int-type (clockWord s x st lo n)) l ])
       go true q = subst (λ u. Gives s u (within s (val Bool-type (wordOf st (variableAtCell s x st lo n))) l)) q (value-within s Bool-type _ l refl (running-in n h c))
-      go false q = subst (λ u. Gives s u (within s (val Int-type (wordOf st (variableAtCell s x st lo n + 1))) l)) q (value-within s Int-type _ l refl (value-in n h c))
+      go false q = subst (λ u. Gives s u (within s (val Int-type (clockWord s x st lo n)) l)) q (value-within s Int-type _ l refl (value-in n h c))
 
   -- ---- a node, where its operands give values of their types
 
