@@ -1,24 +1,31 @@
 -- The claim, from the promise of the machine.
-use Prim.Native.Nat.{ℕ, suc}
+use Prim.Native.Nat.{ℕ, _*_, _-_, _≤_}
 use mathlib.Core.Path.{_≡_, refl, sym, ap, subst, _∙_}
 use mathlib.Core.List.{List, [], _∷_}
 use mathlib.Core.Bool.{Bool, true, false}
-use lib.ListN.{length, replicate, length-replicate, length-map}
+use native.Mathlib.Omega.{arith}
+use lib.ListN.{length, length-map}
 use lib.Dec.{eqb}
-use lib.IntN.{ℤ, pos}
+use lib.IntN.{ℤ}
 use borrow.Author.Tests.{eqb-true, eqb-false}
+use Rattle.sheet.specs.Names.{bindings}
+use Rattle.sheet.specs.Sheet.{countOf}
 use Rattle.laris.specs.declared.Answer.{Answer}
 use Rattle.laris.specs.declared.Checked.the-variants.{Passed}
+use Rattle.laris.specs.Fields.{componentsOf, externalsOf}
 use Rattle.laris.specs.State.{stateLength}
 use Rattle.laris.specs.Valid.{OfSheet}
-use Rattle.laris.specs.Play.{Outcome, ended, stuck, isEvent, startCall, eventCall}
+use Rattle.laris.specs.Play.{Outcome, ended, stuck, limitOf, isEvent, eventCall}
 use Rattle.laris.specs.Check.{checkOf}
 use Rattle.laris.specs.Lists.{Played, played, nowhere, thenPlayed, afterAnswer, goesOn, eventsOf, playOf, EventGives}
+use Rattle.passed.proofs.Records.{elements-bound}
 use Rattle.states.proofs.Parts.{of-content}
-use Rattle.turns.proofs.Laws.{start-is, event-malformed, event-happens}
-use Rattle.promise.specs.Promise.{OneOf, StartKept, EventKept, ListKept}
+use Rattle.turns.proofs.Laws.{event-malformed, event-happens}
+use Rattle.promise.specs.Promise.{StartKept, EventKept, ListKept}
 use Rattle.promise.proofs.Promise.{on-kept, list-kept, promise}
 use Rattle.claim.specs.Claim.{Engine, Meets, Call, AllLent, eventsIn, calledFrom, runOfEngine, Claim, EveryList}
+use Rattle.claim.proofs.Limit.{start-within}
+use Rattle.claim.proofs.Runs.{Bounded, events-bounded, play-is}
 
 answerOf : Answer → Outcome → Answer
 answerOf d (ended a st) = a
@@ -27,27 +34,6 @@ answerOf d stuck = d
 same-answer : (a b : Answer) (st st′ : List ℤ) → ended a st ≡ ended b st′ → a ≡ b
 unfolding answerOf
 same-answer a b st st′ e = ap (answerOf a) e
-
--- ---- a list has an answer for each event
-
-abbrev Each : ℕ → Played → Type 0
-Each n (played answers last) = length answers ≡ n
-Each n nowhere = Unit {0}
-
-each-after : (n : ℕ) (a : Answer) (p : Played) → Each n p → Each (suc n) (afterAnswer a p)
-unfolding afterAnswer
-each-after n a (played answers last) h = ap suc h
-each-after n a nowhere h = h
-
-each-then : (n : ℕ) (w : Outcome) (K : Answer → List ℤ → Played) → ((a : Answer) (st : List ℤ) → Each n (K a st)) → Each (suc n) (thenPlayed w (λ a st. afterAnswer a (K a st)))
-unfolding thenPlayed
-each-then n (ended a st) K k = each-after n a (K a st) (k a st)
-each-then n stuck K k = tt
-
-events-each : (s : List ℕ) (evs : List (List ℤ)) (st : List ℤ) → Each (length evs) (eventsOf s st evs)
-unfolding eventsOf
-events-each s [] st = refl
-events-each s (ev ∷ evs) st = each-then (length evs) _ _ (λ a new. events-each s evs (goesOn a st new))
 
 -- ---- whatever was lent, the answer and the state that goes on are those of the machine's own list
 
@@ -86,17 +72,15 @@ module _ (s : List ℕ) (ok : checkOf s ≡ Passed) where
       kept : StartKept s (ended a st)
       kept = subst (StartKept s) (sym (m .start s lent)) (promise s ok .start lent l)
 
-      -- start's answer and state don't depend on what was lent
-      start-same : ended a st ≡ startCall s (replicate (stateLength s) (pos 0))
-      start-same = m .start s lent ∙ start-is s lent ok l ∙ sym (start-is s (replicate (stateLength s) (pos 0)) ok (length-replicate (stateLength s) (pos 0)))
-
       -- what follows start in either run
       abbrev after : Bool → Played → Played
       after b p = elim b [ true ↦ p | false ↦ played [] st ]
 
       machine-same : (evs : List (List ℤ)) → playOf s evs ≡ afterAnswer a (after (eqb (a .number) 0) (eventsOf s st evs))
-      unfolding playOf thenPlayed
-      machine-same evs = ap (λ w. thenPlayed w (λ a st. afterAnswer a (elim (eqb (a .number) 0) as (λ b. Played) [ true ↦ eventsOf s st evs | false ↦ played [] st ]))) (sym start-same)
+      machine-same = play-is s ok lent l a st (m .start s lent)
+
+      start-steps : a .steps ≤ (componentsOf s - externalsOf s) * limitOf s
+      start-steps = let n : countOf s bindings ≡ componentsOf s - externalsOf s = omega (arith, elements-bound s ok) in subst (λ n. a .steps ≤ n * limitOf s) n (start-within s lent .steps a st (sym (m .start s lent)))
 
       module _ (calls : List Call) (g : AllLent s calls) where
         -- the two runs, where start's test and the machine's list are known
@@ -113,6 +97,7 @@ module _ (s : List ℕ) (ok : checkOf s ≡ Passed) where
         claim-of true (played answers last) q h =
             let z = eqb-true _ _ q in
             let r = runs-same true (played answers last) q h in
+            let bound : Bounded s (length (eventsIn calls)) (played answers last) = subst (Bounded s (length (eventsIn calls))) h (events-bounded s (eventsIn calls) st) in
             let k : ListKept s (played answers last) = subst (ListKept s) h (list-kept s ok (eventsIn calls) st (kept .1 z)) in
             record {
               first = a;
@@ -122,8 +107,10 @@ module _ (s : List ℕ) (ok : checkOf s ≡ Passed) where
               machine = r .1;
               start = kept .0;
               answered = k .0;
-              each = λ _. subst (Each (length (eventsIn calls))) h (events-each s (eventsIn calls) st) ∙ length-map calls _;
+              each = λ _. bound .0 ∙ length-map calls _;
               refused = λ n. absurd (n z);
+              within = bound .1;
+              startWithin = start-steps;
               ofSheet = λ _. k .1;
               reactions = λ _. k .2;
             }
@@ -140,6 +127,8 @@ module _ (s : List ℕ) (ok : checkOf s ≡ Passed) where
               answered = tt;
               each = λ z. absurd (n z);
               refused = λ _. refl;
+              within = tt;
+              startWithin = start-steps;
               ofSheet = λ z. absurd (n z);
               reactions = λ z. absurd (n z);
             }

@@ -1,2 +1,4 @@
+pub mod Limit
+pub mod Runs
 pub mod Claim
 pub mod Machine

@@ -1,5 +1,5 @@
 -- The claim about whole lists of events, of any engine that meets the contracts of start and event.
-use Prim.Native.Nat.{ℕ}
+use Prim.Native.Nat.{ℕ, _*_, _-_, _≤_}
 use mathlib.Core.Path.{_≡_}
 use mathlib.Core.List.{List, [], _∷_, map}
 use mathlib.Core.Bool.{true, false}
@@ -8,8 +8,10 @@ use lib.Dec.{eqb}
 use lib.IntN.{ℤ}
 use Rattle.laris.specs.declared.Answer.{Answer}
 use Rattle.laris.specs.declared.Checked.the-variants.{Passed}
+use Rattle.laris.specs.Fields.{componentsOf, externalsOf}
 use Rattle.laris.specs.State.{stateLength}
 use Rattle.laris.specs.Valid.{OfSheet}
+use Rattle.laris.specs.Play.{limitOf}
 use Rattle.laris.specs.Check.{checkOf}
 use Rattle.laris.specs.Lists.{Played, played, afterAnswer, goesOn, playOf, StartGives, EventGives}
 use Rattle.promise.specs.Promise.{OneOf, AllAnswered, OneReaction}
@@ -57,6 +59,10 @@ runOfEngine e s lent calls = let r = e .start s lent in afterAnswer (r .answer) 
 
 -- ---- the claim
 
+abbrev pub AllWithin : ℕ → List Answer → Type 0
+AllWithin m [] = Unit {0}
+AllWithin m (a ∷ rest) = (a .steps ≤ m) × AllWithin m rest
+
 pub record Claim (e : Engine) (s : List ℕ) (lent : List ℤ) (calls : List Call) : Type 0 where
   -- start's answer, the events' answers and the state after the list
   pub first : Answer
@@ -73,6 +79,9 @@ pub record Claim (e : Engine) (s : List ℕ) (lent : List ℤ) (calls : List Cal
   pub each : first .number ≡ 0 → length answers ≡ length calls
   -- after another start no event was played
   pub refused : (first .number ≡ 0 → ⊥) → answers ≡ []
+  -- no event has more steps than the limit, and start than a limit for each bound element
+  pub within : AllWithin (limitOf s) answers
+  pub startWithin : first .steps ≤ (componentsOf s - externalsOf s) * limitOf s
   -- "the state is then of the sheet"
   pub ofSheet : first .number ≡ 0 → OfSheet s last
   -- every internal name that waits or is armed has one reaction in its element's chart
