@@ -23,7 +23,7 @@ use Rattle.states.proofs.Parts.{of-content}
 use Rattle.turns.proofs.Laws.{event-malformed, event-happens}
 use Rattle.promise.specs.Promise.{StartKept, EventKept, ListKept}
 use Rattle.promise.proofs.Promise.{on-kept, list-kept, promise}
-use Rattle.claim.specs.Claim.{Engine, Meets, Call, AllLent, eventsIn, calledFrom, runOfEngine, Claim, EveryList}
+use Rattle.claim.specs.Claim.{Engine, Meets, Call, AllLent, eventsCalled, calledFrom, runOfEngine, Claim, EveryList}
 use Rattle.claim.proofs.Limit.{start-within}
 use Rattle.claim.proofs.Runs.{Bounded, events-bounded, play-is}
 
@@ -51,7 +51,7 @@ module _ (s : List ℕ) (ok : checkOf s ≡ Passed) where
             (st, ap (λ a. ended a st) four ∙ sym (event-malformed s st st ev ok (o .whole) (o .whole) (of-content s st o) q), subst (λ a. _≡_ {A = List ℤ} (elim (eqb (a .number) 0) [ true ↦ result | false ↦ st ]) (elim (eqb (a .number) 0) [ true ↦ st | false ↦ st ])) (sym four) refl)
 
   module _ (e : Engine) (m : Meets e) where
-    calls-same : (calls : List Call) (st : List ℤ) → OfSheet s st → AllLent s calls → calledFrom e s st calls ≡ eventsOf s st (eventsIn calls)
+    calls-same : (calls : List Call) (st : List ℤ) → OfSheet s st → AllLent s calls → calledFrom e s st calls ≡ eventsOf s st (eventsCalled calls)
     unfolding calledFrom eventsOf thenPlayed
     calls-same [] st o l = refl
     calls-same (c ∷ calls) st o l =
@@ -60,7 +60,7 @@ module _ (s : List ℕ) (ok : checkOf s ≡ Passed) where
         let o′ : OfSheet s (goesOn a st (k .0)) = on-kept s ok st o a (k .0) (subst (EventKept s st) (sym (k .1)) (promise s ok .event st (c .words) o)) in
         ap (λ new. afterAnswer a (calledFrom e s new calls)) (k .2)
         ∙ ap (afterAnswer a) (calls-same calls (goesOn a st (k .0)) o′ (l .1))
-        ∙ ap (λ w. thenPlayed w (λ a new. afterAnswer a (eventsOf s (goesOn a st new) (eventsIn calls)))) (k .1)
+        ∙ ap (λ w. thenPlayed w (λ a new. afterAnswer a (eventsOf s (goesOn a st new) (eventsCalled calls)))) (k .1)
 
     module _ (lent : List ℤ) (l : length lent ≡ stateLength s) where
       abbrev a : Answer
@@ -84,21 +84,21 @@ module _ (s : List ℕ) (ok : checkOf s ≡ Passed) where
 
       module _ (calls : List Call) (g : AllLent s calls) where
         -- the two runs, where start's test and the machine's list are known
-        runs-same : (b : Bool) (p : Played) → eqb (a .number) 0 ≡ b → eventsOf s st (eventsIn calls) ≡ p → (runOfEngine e s lent calls ≡ afterAnswer a (after b p)) × (playOf s (eventsIn calls) ≡ afterAnswer a (after b p))
+        runs-same : (b : Bool) (p : Played) → eqb (a .number) 0 ≡ b → eventsOf s st (eventsCalled calls) ≡ p → (runOfEngine e s lent calls ≡ afterAnswer a (after b p)) × (playOf s (eventsCalled calls) ≡ afterAnswer a (after b p))
         unfolding runOfEngine
         runs-same true p q h =
             let o : OfSheet s st = kept .1 (eqb-true _ _ q) in
-            (ap (λ b. afterAnswer a (elim b as (λ b. Played) [ true ↦ calledFrom e s st calls | false ↦ played [] st ])) q ∙ ap (afterAnswer a) (calls-same calls st o g ∙ h), machine-same (eventsIn calls) ∙ ap (λ b. afterAnswer a (after b (eventsOf s st (eventsIn calls)))) q ∙ ap (afterAnswer a) h)
-        runs-same false p q h = (ap (λ b. afterAnswer a (elim b as (λ b. Played) [ true ↦ calledFrom e s st calls | false ↦ played [] st ])) q, machine-same (eventsIn calls) ∙ ap (λ b. afterAnswer a (after b (eventsOf s st (eventsIn calls)))) q)
+            (ap (λ b. afterAnswer a (elim b as (λ b. Played) [ true ↦ calledFrom e s st calls | false ↦ played [] st ])) q ∙ ap (afterAnswer a) (calls-same calls st o g ∙ h), machine-same (eventsCalled calls) ∙ ap (λ b. afterAnswer a (after b (eventsOf s st (eventsCalled calls)))) q ∙ ap (afterAnswer a) h)
+        runs-same false p q h = (ap (λ b. afterAnswer a (elim b as (λ b. Played) [ true ↦ calledFrom e s st calls | false ↦ played [] st ])) q, machine-same (eventsCalled calls) ∙ ap (λ b. afterAnswer a (after b (eventsOf s st (eventsCalled calls)))) q)
 
-        claim-of : (b : Bool) (p : Played) → eqb (a .number) 0 ≡ b → eventsOf s st (eventsIn calls) ≡ p → Claim e s lent calls
+        claim-of : (b : Bool) (p : Played) → eqb (a .number) 0 ≡ b → eventsOf s st (eventsCalled calls) ≡ p → Claim e s lent calls
         unfolding afterAnswer
-        claim-of true nowhere q h = absurd (subst (ListKept s) h (list-kept s ok (eventsIn calls) st (kept .1 (eqb-true _ _ q))))
+        claim-of true nowhere q h = absurd (subst (ListKept s) h (list-kept s ok (eventsCalled calls) st (kept .1 (eqb-true _ _ q))))
         claim-of true (played answers last) q h =
             let z = eqb-true _ _ q in
             let r = runs-same true (played answers last) q h in
-            let bound : Bounded s (length (eventsIn calls)) (played answers last) = subst (Bounded s (length (eventsIn calls))) h (events-bounded s (eventsIn calls) st) in
-            let k : ListKept s (played answers last) = subst (ListKept s) h (list-kept s ok (eventsIn calls) st (kept .1 z)) in
+            let bound : Bounded s (length (eventsCalled calls)) (played answers last) = subst (Bounded s (length (eventsCalled calls))) h (events-bounded s (eventsCalled calls) st) in
+            let k : ListKept s (played answers last) = subst (ListKept s) h (list-kept s ok (eventsCalled calls) st (kept .1 z)) in
             record {
               first = a;
               answers = answers;

@@ -2,3 +2,4 @@ pub mod Limit
 pub mod Runs
 pub mod Claim
 pub mod Machine
+pub mod Kept

@@ -40,8 +40,8 @@ pub record Call : Type 0 where
   pub words : List ℤ
   pub lent : List ℤ
 
-abbrev pub eventsIn : List Call → List (List ℤ)
-eventsIn calls = map (λ c. c .words) calls
+abbrev pub eventsCalled : List Call → List (List ℤ)
+eventsCalled calls = map (λ c. c .words) calls
 
 -- every result state is lent at its length
 abbrev pub AllLent : List ℕ → List Call → Type 0
@@ -71,7 +71,7 @@ pub record Claim (e : Engine) (s : List ℕ) (lent : List ℤ) (calls : List Cal
   -- they are what the engine's run comes to
   pub run : runOfEngine e s lent calls ≡ played (first ∷ answers) last
   -- "The machine is fed with the sheet and the events alone and keeps its own state. Compared are each answer, whole, and after the list the two states, word for word": it isn't stuck and comes to the very same
-  pub machine : playOf s (eventsIn calls) ≡ played (first ∷ answers) last
+  pub machine : playOf s (eventsCalled calls) ≡ played (first ∷ answers) last
   -- start gives 0 or 6 to 10
   pub start : OneOf 6 (first .number)
   -- each event gives 0 or 4 to 10, and after a start of 0 each has its answer
