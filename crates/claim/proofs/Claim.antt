@@ -25,6 +25,7 @@ use Rattle.promise.specs.Promise.{StartKept, EventKept, ListKept}
 use Rattle.promise.proofs.Promise.{on-kept, list-kept, promise}
 use Rattle.claim.specs.Claim.{Engine, Meets, Call, AllLent, eventsCalled, calledFrom, runOfEngine, Claim, EveryList}
 use Rattle.claim.proofs.Limit.{start-within}
+use Rattle.claim.proofs.Zeros.{start-zeros}
 use Rattle.claim.proofs.Runs.{Bounded, events-bounded, play-is}
 
 answerOf : Answer → Outcome → Answer
@@ -109,6 +110,7 @@ module _ (s : List ℕ) (ok : checkOf s ≡ Passed) where
               answered = k .0;
               each = λ _. bound .0 ∙ length-map calls _;
               refused = λ n. absurd (n z);
+              zeros = λ n. absurd (n z);
               within = bound .1;
               startWithin = start-steps;
               ofSheet = λ _. k .1;
@@ -127,6 +129,7 @@ module _ (s : List ℕ) (ok : checkOf s ≡ Passed) where
               answered = tt;
               each = λ z. absurd (n z);
               refused = λ _. refl;
+              zeros = start-zeros s ok lent l a st (m .start s lent);
               within = tt;
               startWithin = start-steps;
               ofSheet = λ z. absurd (n z);

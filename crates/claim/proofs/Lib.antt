@@ -1,4 +1,5 @@
 pub mod Limit
+pub mod Zeros
 pub mod Runs
 pub mod Claim
 pub mod Machine

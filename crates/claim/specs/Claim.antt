@@ -3,9 +3,9 @@ use Prim.Native.Nat.{ℕ, _*_, _-_, _≤_}
 use mathlib.Core.Path.{_≡_}
 use mathlib.Core.List.{List, [], _∷_, map}
 use mathlib.Core.Bool.{true, false}
-use lib.ListN.{length}
+use lib.ListN.{length, replicate}
 use lib.Dec.{eqb}
-use lib.IntN.{ℤ}
+use lib.IntN.{ℤ, pos}
 use Rattle.laris.specs.declared.Answer.{Answer}
 use Rattle.laris.specs.declared.Checked.the-variants.{Passed}
 use Rattle.laris.specs.Fields.{componentsOf, externalsOf}
@@ -77,8 +77,9 @@ pub record Claim (e : Engine) (s : List ℕ) (lent : List ℤ) (calls : List Cal
   -- each event gives 0 or 4 to 10, and after a start of 0 each has its answer
   pub answered : AllAnswered answers
   pub each : first .number ≡ 0 → length answers ≡ length calls
-  -- after another start no event was played
+  -- after another start no event was played, and "its state is all zeros"
   pub refused : (first .number ≡ 0 → ⊥) → answers ≡ []
+  pub zeros : (first .number ≡ 0 → ⊥) → last ≡ replicate (stateLength s) (pos 0)
   -- no event has more steps than the limit, and start than a limit for each bound element
   pub within : AllWithin (limitOf s) answers
   pub startWithin : first .steps ≤ (componentsOf s - externalsOf s) * limitOf s

@@ -6,7 +6,7 @@ use mathlib.Core.Bool.{true, false}
 use lib.ListN.{length, length-map}
 use lib.Dec.{eqb}
 use lib.IntN.{ℤ}
-use borrow.Author.Tests.{eq-eqb}
+use borrow.Author.Tests.{eq-eqb, ne-eqb}
 use Rattle.laris.specs.declared.Answer.{Answer}
 use Rattle.laris.specs.declared.Checked.the-variants.{Passed}
 use Rattle.laris.specs.Fields.{componentsOf, externalsOf}
@@ -61,12 +61,13 @@ answersIn (listed a st answers) = answers
 answersIn unlisted = []
 
 module _ (s : List ℕ) (events lent room : List ℤ) (c : Claim (some-engine .0) s lent (callsOf lent (eventsIn events))) (a : Answer) (st answers : List ℤ) where
-  given-demand : listed a st answers ≡ listed (c .first) (c .last) (elim (eqb (c .first .number) 0) [ true ↦ answersWords (c .answers) | false ↦ room ]) → Demand s events a st answers
+  given-demand : listed a st answers ≡ listed (c .first) (c .last) (elim (eqb (c .first .number) 0) [ true ↦ answersWords (c .answers) | false ↦ room ]) → Demand s events room a st answers
   unfolding answerIn stateIn answersIn
   given-demand e =
       let same : a ≡ c .first = ap (answerIn a) e in
       let left : st ≡ c .last = ap stateIn e in
       let words = ap answersIn e in
+      let other : (a .number ≡ 0 → ⊥) → c .first .number ≡ 0 → ⊥ = λ n z. n (ap (λ a. a .number) same ∙ z) in
       record {
         start = subst (λ a. OneOf 6 (a .number)) (sym same) (c .start);
         startWithin = subst (λ a. a .steps ≤ (componentsOf s - externalsOf s) * limitOf s) (sym same) (c .startWithin);
@@ -82,6 +83,8 @@ module _ (s : List ℕ) (events lent room : List ℤ) (c : Claim (some-engine .0
               ofSheet = subst (OfSheet s) (sym left) (c .ofSheet y);
               reactions = subst (OneReaction s) (sym left) (c .reactions y);
             };
+        zeros = λ n. left ∙ c .zeros (other n);
+        untouched = λ n. words ∙ ap (λ b. elim b as (λ b. List ℤ) [ true ↦ answersWords (c .answers) | false ↦ room ]) (ne-eqb (c .first .number) 0 (other n));
       }
 
 pub every-play : EveryPlay

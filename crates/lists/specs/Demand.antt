@@ -2,8 +2,8 @@
 use Prim.Native.Nat.{ℕ, _*_, _/_, _%_, _-_, _≤_}
 use mathlib.Core.Path.{_≡_}
 use mathlib.Core.List.{List, _∷_}
-use lib.ListN.{length}
-use lib.IntN.{ℤ}
+use lib.ListN.{length, replicate}
+use lib.IntN.{ℤ, pos}
 use Rattle.laris.specs.declared.Answer.{Answer}
 use Rattle.laris.specs.declared.Checked.the-variants.{Passed}
 use Rattle.laris.specs.Fields.{componentsOf, externalsOf}
@@ -33,12 +33,15 @@ pub record Held (s : List ℕ) (events : List ℤ) (a : Answer) (st answers : Li
   -- every internal name that waits or is armed has one reaction in its element's chart
   pub reactions : OneReaction s st
 
-pub record Demand (s : List ℕ) (events : List ℤ) (a : Answer) (st answers : List ℤ) : Type 0 where
+pub record Demand (s : List ℕ) (events room : List ℤ) (a : Answer) (st answers : List ℤ) : Type 0 where
   -- start gives 0 or 6 to 10, with at most a limit's steps for each bound element
   pub start : OneOf 6 (a .number)
   pub startWithin : a .steps ≤ (componentsOf s - externalsOf s) * limitOf s
   pub list : a .number ≡ 0 → Held s events a st answers
+  -- after another start the state "is all zeros", and the room for answers is untouched
+  pub zeros : (a .number ≡ 0 → ⊥) → st ≡ replicate (stateLength s) (pos 0)
+  pub untouched : (a .number ≡ 0 → ⊥) → answers ≡ room
 
 -- for every sheet that check passes, all events and every state and room of fitting length, and whatever meets the contract of `play`
 abbrev pub EveryPlay : Type 0
-EveryPlay = (s : List ℕ) (events lent spare room : List ℤ) → checkOf s ≡ Passed → length lent ≡ stateLength s → length spare ≡ stateLength s → length events % 9 ≡ 0 → length room ≡ 10 * (length events / 9) → (a : Answer) (st answers : List ℤ) → listed a st answers ≡ listCall s events lent spare room → Demand s events a st answers
+EveryPlay = (s : List ℕ) (events lent spare room : List ℤ) → checkOf s ≡ Passed → length lent ≡ stateLength s → length spare ≡ stateLength s → length events % 9 ≡ 0 → length room ≡ 10 * (length events / 9) → (a : Answer) (st answers : List ℤ) → listed a st answers ≡ listCall s events lent spare room → Demand s events room a st answers
