@@ -2,7 +2,7 @@
 use laris::Checked;
 ghost use mathlib.Core.Path.{_≡_};
 ghost use Rattle.sheet.specs.Sheet.{directoryOf};
-ghost use Rattle.laris.specs.Check.{shape, checkOf};
+ghost use Rattle.laris.specs.Check.{shape, checkOf, checkNumber, checkCall};
 
 // Whether the sheet has the shape.
 fn shape_holds(sheet: &[u8], directory: &[usize; 16]) -> bool
@@ -32,9 +32,9 @@ fn shape_holds(sheet: &[u8], directory: &[usize; 16]) -> bool
     trees::nodes_fit(sheet, directory)
 }
 
-// What check answers for any bytes.
+// What check answers for any bytes, and with it the paper's number.
 pub fn check(sheet: &[u8]) -> Checked
-    ensures { λ r. ⌜ r ≡ checkOf (now (sheet .entry)) ⌝ }
+    ensures { λ r. ⌜ (r ≡ checkOf (now (sheet .entry))) × (checkNumber r ≡ checkCall (now (sheet .entry))) ⌝ }
 {
     let directory = reader::directory(sheet);
     if !shape_holds(sheet, &directory) {

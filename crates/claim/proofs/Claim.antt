@@ -1,24 +1,32 @@
 -- The claim, from the promise of the machine.
-use Prim.Native.Nat.{ℕ}
+use Prim.Native.Nat.{ℕ, _*_, _-_, _≤_}
 use mathlib.Core.Path.{_≡_, refl, sym, ap, subst, _∙_}
 use mathlib.Core.List.{List, [], _∷_}
 use mathlib.Core.Bool.{Bool, true, false}
-use lib.ListN.{length, replicate, length-replicate}
+use native.Mathlib.Omega.{arith}
+use lib.ListN.{length, length-map}
 use lib.Dec.{eqb}
-use lib.IntN.{ℤ, pos}
-use borrow.Author.Tests.{eq-eqb}
+use lib.IntN.{ℤ}
+use borrow.Author.Tests.{eqb-true, eqb-false}
+use Rattle.sheet.specs.Names.{bindings}
+use Rattle.sheet.specs.Sheet.{countOf}
 use Rattle.laris.specs.declared.Answer.{Answer}
 use Rattle.laris.specs.declared.Checked.the-variants.{Passed}
+use Rattle.laris.specs.Fields.{componentsOf, externalsOf}
 use Rattle.laris.specs.State.{stateLength}
 use Rattle.laris.specs.Valid.{OfSheet}
-use Rattle.laris.specs.Play.{Outcome, ended, stuck, isEvent, startCall, eventCall}
+use Rattle.laris.specs.Play.{Outcome, ended, stuck, limitOf, isEvent, eventCall}
 use Rattle.laris.specs.Check.{checkOf}
-use Rattle.laris.specs.Lists.{Played, played, thenPlayed, afterAnswer, goesOn, eventsOf, playOf, StartGives, EventGives, EventsGive}
+use Rattle.laris.specs.Lists.{Played, played, nowhere, thenPlayed, afterAnswer, goesOn, eventsOf, playOf, EventGives}
+use Rattle.passed.proofs.Records.{elements-bound}
 use Rattle.states.proofs.Parts.{of-content}
-use Rattle.turns.proofs.Laws.{start-is, event-malformed, event-happens}
+use Rattle.turns.proofs.Laws.{event-malformed, event-happens}
 use Rattle.promise.specs.Promise.{StartKept, EventKept, ListKept}
-use Rattle.promise.proofs.Promise.{on-kept, promise}
-use Rattle.claim.specs.Claim.{Held, EveryList}
+use Rattle.promise.proofs.Promise.{on-kept, list-kept, promise}
+use Rattle.claim.specs.Claim.{Engine, Meets, Call, AllLent, eventsCalled, calledFrom, runOfEngine, Claim, EveryList}
+use Rattle.claim.proofs.Limit.{start-within}
+use Rattle.claim.proofs.Zeros.{start-zeros}
+use Rattle.claim.proofs.Runs.{Bounded, events-bounded, play-is}
 
 answerOf : Answer → Outcome → Answer
 answerOf d (ended a st) = a
@@ -28,51 +36,105 @@ same-answer : (a b : Answer) (st st′ : List ℤ) → ended a st ≡ ended b st
 unfolding answerOf
 same-answer a b st st′ e = ap (answerOf a) e
 
+-- ---- whatever was lent, the answer and the state that goes on are those of the machine's own list
+
 module _ (s : List ℕ) (ok : checkOf s ≡ Passed) where
-  -- whatever was lent, the answer and the state that goes on are those of the machine's own list
-  module _ (st lent ev : List ℤ) (o : OfSheet s st) (l : length lent ≡ stateLength s) (a : Answer) (result : List ℤ) (e : EventGives s st lent ev a result) where
+  module _ (st lent ev : List ℤ) (o : OfSheet s st) (l : length lent ≡ stateLength s) (a : Answer) (result : List ℤ) (g : EventGives s st lent ev a result) where
     lent-same : (new : List ℤ) × (ended a new ≡ eventCall s st st ev) × (goesOn a st result ≡ goesOn a st new)
     unfolding goesOn
     lent-same = go (isEvent s ev) refl
       where
         go : (b : Bool) → isEvent s ev ≡ b → (new : List ℤ) × (ended a new ≡ eventCall s st st ev) × (_≡_ {A = List ℤ} (elim (eqb (a .number) 0) [ true ↦ result | false ↦ st ]) (elim (eqb (a .number) 0) [ true ↦ new | false ↦ st ]))
-        go true q = (result, e ∙ event-happens s st lent ev ok (o .whole) l (of-content s st o) q ∙ sym (event-happens s st st ev ok (o .whole) (o .whole) (of-content s st o) q), refl)
+        go true q = (result, g ∙ event-happens s st lent ev ok (o .whole) l (of-content s st o) q ∙ sym (event-happens s st st ev ok (o .whole) (o .whole) (of-content s st o) q), refl)
         go false q =
-            let down = e ∙ event-malformed s st lent ev ok (o .whole) l (of-content s st o) q in
+            let down = g ∙ event-malformed s st lent ev ok (o .whole) l (of-content s st o) q in
             let four = same-answer _ _ _ _ down in
             (st, ap (λ a. ended a st) four ∙ sym (event-malformed s st st ev ok (o .whole) (o .whole) (of-content s st o) q), subst (λ a. _≡_ {A = List ℤ} (elim (eqb (a .number) 0) [ true ↦ result | false ↦ st ]) (elim (eqb (a .number) 0) [ true ↦ st | false ↦ st ])) (sym four) refl)
 
-  list-same : (evs : List (List ℤ)) (answers : List Answer) (st last : List ℤ) → OfSheet s st → EventsGive s st evs answers last → eventsOf s st evs ≡ played answers last
-  unfolding eventsOf thenPlayed afterAnswer
-  list-same [] [] st last o e = ap (played []) (sym e)
-  list-same [] (a ∷ answers) st last o e = absurd e
-  list-same (ev ∷ evs) [] st last o e = absurd e
-  list-same (ev ∷ evs) (a ∷ answers) st last o e =
-      let k = lent-same st (e .0) ev o (e .2) a (e .1) (e .3) in
-      let o′ : OfSheet s (goesOn a st (k .0)) = on-kept s ok st o a (k .0) (subst (EventKept s st) (sym (k .1)) (promise s ok .event st ev o)) in
-      ap (λ w. thenPlayed w (λ a new. afterAnswer a (eventsOf s (goesOn a st new) evs))) (sym (k .1))
-      ∙ ap (λ st. afterAnswer a (eventsOf s st evs)) (sym (k .2))
-      ∙ ap (afterAnswer a) (list-same evs answers (goesOn a st (e .1)) last (subst (OfSheet s) (sym (k .2)) o′) (e .4))
+  module _ (e : Engine) (m : Meets e) where
+    calls-same : (calls : List Call) (st : List ℤ) → OfSheet s st → AllLent s calls → calledFrom e s st calls ≡ eventsOf s st (eventsCalled calls)
+    unfolding calledFrom eventsOf thenPlayed
+    calls-same [] st o l = refl
+    calls-same (c ∷ calls) st o l =
+        let a = e .event s st (c .lent) (c .words) .answer in
+        let k = lent-same st (c .lent) (c .words) o (l .0) a (e .event s st (c .lent) (c .words) .state) (m .event s st (c .lent) (c .words)) in
+        let o′ : OfSheet s (goesOn a st (k .0)) = on-kept s ok st o a (k .0) (subst (EventKept s st) (sym (k .1)) (promise s ok .event st (c .words) o)) in
+        ap (λ new. afterAnswer a (calledFrom e s new calls)) (k .2)
+        ∙ ap (afterAnswer a) (calls-same calls (goesOn a st (k .0)) o′ (l .1))
+        ∙ ap (λ w. thenPlayed w (λ a new. afterAnswer a (eventsOf s (goesOn a st new) (eventsCalled calls)))) (k .1)
 
-  -- start's answer and state don't depend on what was lent
-  start-same : (lent : List ℤ) (a : Answer) (first : List ℤ) → length lent ≡ stateLength s → StartGives s lent a first → ended a first ≡ startCall s (replicate (stateLength s) (pos 0))
-  start-same lent a first l e = e ∙ start-is s lent ok l ∙ sym (start-is s (replicate (stateLength s) (pos 0)) ok (length-replicate (stateLength s) (pos 0)))
+    module _ (lent : List ℤ) (l : length lent ≡ stateLength s) where
+      abbrev a : Answer
+      a = e .start s lent .answer
 
-  machine-same : (lent : List ℤ) (a : Answer) (first : List ℤ) → length lent ≡ stateLength s → StartGives s lent a first → a .number ≡ 0 → (evs : List (List ℤ)) (answers : List Answer) (last : List ℤ) → eventsOf s first evs ≡ played answers last → playOf s evs ≡ played (a ∷ answers) last
-  unfolding playOf thenPlayed afterAnswer
-  machine-same lent a first l e z evs answers last h =
-      ap (λ w. thenPlayed w (λ a st. afterAnswer a (elim (eqb (a .number) 0) as (λ b. Played) [ true ↦ eventsOf s st evs | false ↦ played [] st ]))) (sym (start-same lent a first l e))
-      ∙ ap (λ b. afterAnswer a (elim b as (λ b. Played) [ true ↦ eventsOf s first evs | false ↦ played [] first ])) (eq-eqb _ _ z)
-      ∙ ap (afterAnswer a) h
+      abbrev st : List ℤ
+      st = e .start s lent .state
 
-  held : (a : Answer) (evs : List (List ℤ)) (answers : List Answer) (first last : List ℤ) → playOf s evs ≡ played (a ∷ answers) last → eventsOf s first evs ≡ played answers last → ListKept s (eventsOf s first evs) → Held s a evs answers last
-  held a evs answers first last m h k = let p = subst (ListKept s) h k in record { machine = m; answered = p .0; ofSheet = p .1; reactions = p .2 }
+      kept : StartKept s (ended a st)
+      kept = subst (StartKept s) (sym (m .start s lent)) (promise s ok .start lent l)
+
+      -- what follows start in either run
+      abbrev after : Bool → Played → Played
+      after b p = elim b [ true ↦ p | false ↦ played [] st ]
+
+      machine-same : (evs : List (List ℤ)) → playOf s evs ≡ afterAnswer a (after (eqb (a .number) 0) (eventsOf s st evs))
+      machine-same = play-is s ok lent l a st (m .start s lent)
+
+      start-steps : a .steps ≤ (componentsOf s - externalsOf s) * limitOf s
+      start-steps = let n : countOf s bindings ≡ componentsOf s - externalsOf s = omega (arith, elements-bound s ok) in subst (λ n. a .steps ≤ n * limitOf s) n (start-within s lent .steps a st (sym (m .start s lent)))
+
+      module _ (calls : List Call) (g : AllLent s calls) where
+        -- the two runs, where start's test and the machine's list are known
+        runs-same : (b : Bool) (p : Played) → eqb (a .number) 0 ≡ b → eventsOf s st (eventsCalled calls) ≡ p → (runOfEngine e s lent calls ≡ afterAnswer a (after b p)) × (playOf s (eventsCalled calls) ≡ afterAnswer a (after b p))
+        unfolding runOfEngine
+        runs-same true p q h =
+            let o : OfSheet s st = kept .1 (eqb-true _ _ q) in
+            (ap (λ b. afterAnswer a (elim b as (λ b. Played) [ true ↦ calledFrom e s st calls | false ↦ played [] st ])) q ∙ ap (afterAnswer a) (calls-same calls st o g ∙ h), machine-same (eventsCalled calls) ∙ ap (λ b. afterAnswer a (after b (eventsOf s st (eventsCalled calls)))) q ∙ ap (afterAnswer a) h)
+        runs-same false p q h = (ap (λ b. afterAnswer a (elim b as (λ b. Played) [ true ↦ calledFrom e s st calls | false ↦ played [] st ])) q, machine-same (eventsCalled calls) ∙ ap (λ b. afterAnswer a (after b (eventsOf s st (eventsCalled calls)))) q)
+
+        claim-of : (b : Bool) (p : Played) → eqb (a .number) 0 ≡ b → eventsOf s st (eventsCalled calls) ≡ p → Claim e s lent calls
+        unfolding afterAnswer
+        claim-of true nowhere q h = absurd (subst (ListKept s) h (list-kept s ok (eventsCalled calls) st (kept .1 (eqb-true _ _ q))))
+        claim-of true (played answers last) q h =
+            let z = eqb-true _ _ q in
+            let r = runs-same true (played answers last) q h in
+            let bound : Bounded s (length (eventsCalled calls)) (played answers last) = subst (Bounded s (length (eventsCalled calls))) h (events-bounded s (eventsCalled calls) st) in
+            let k : ListKept s (played answers last) = subst (ListKept s) h (list-kept s ok (eventsCalled calls) st (kept .1 z)) in
+            record {
+              first = a;
+              answers = answers;
+              last = last;
+              run = r .0;
+              machine = r .1;
+              start = kept .0;
+              answered = k .0;
+              each = λ _. bound .0 ∙ length-map calls _;
+              refused = λ n. absurd (n z);
+              zeros = λ n. absurd (n z);
+              within = bound .1;
+              startWithin = start-steps;
+              ofSheet = λ _. k .1;
+              reactions = λ _. k .2;
+            }
+        claim-of false p q h =
+            let n = eqb-false _ _ q in
+            let r = runs-same false p q h in
+            record {
+              first = a;
+              answers = [];
+              last = st;
+              run = r .0;
+              machine = r .1;
+              start = kept .0;
+              answered = tt;
+              each = λ z. absurd (n z);
+              refused = λ _. refl;
+              zeros = start-zeros s ok lent l a st (m .start s lent);
+              within = tt;
+              startWithin = start-steps;
+              ofSheet = λ z. absurd (n z);
+              reactions = λ z. absurd (n z);
+            }
 
 pub every-list : EveryList
-every-list s ok = record {
-  start = λ lent a first l e. subst (StartKept s) (sym e) (promise s ok .start lent l) .0;
-  list = λ lent a first l e z evs answers last g.
-      let o : OfSheet s first = subst (StartKept s) (sym e) (promise s ok .start lent l) .1 z in
-      let h = list-same s ok evs answers first last o g in
-      held s ok a evs answers first last (machine-same s ok lent a first l e z evs answers last h) h (promise s ok .list lent a first (sym e) l z evs);
-}
+every-list e m s ok lent l calls g = claim-of s ok e m lent l calls g _ _ refl refl

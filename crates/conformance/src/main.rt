@@ -92,7 +92,10 @@ fn print_event(a: Answer, result: &[i32]) {
     io::write_all(STDOUT_FILENO, b"\n");
 }
 
-fn answer(r: Checked) -> u64 {
+// The paper's number.
+fn answer(r: Checked) -> u64
+    ensures { λ n. ⌜ n ≡ checkNumber r ⌝ }
+{
     match r {
         Checked::Passed => 0,
         Checked::Shape => 1,

@@ -35,8 +35,12 @@ shape s =
 unfoldable pub checkOf : List ℕ → Checked
 checkOf s = elim (shape s) [ true ↦ elim (static s) [ true ↦ Passed | false ↦ Static ] | false ↦ Shape ]
 
--- the paper's number
+-- the paper's number of an answer
 abbrev pub checkNumber : Checked → ℕ
 checkNumber Passed = 0
 checkNumber Shape = 1
 checkNumber Static = 2
+
+-- "Check gives 0, 1, 2": 1 where the sheet hasn't the shape, 2 where it has it and breaks a static rule
+unfoldable pub checkCall : List ℕ → ℕ
+checkCall s = elim (shape s) [ true ↦ elim (static s) [ true ↦ 0 | false ↦ 2 ] | false ↦ 1 ]

@@ -2,7 +2,7 @@
 use mathlib.Core.List.{List, [], _∷_}
 use mathlib.Core.Bool.{true, false}
 use mathlib.Core.Path.{_≡_}
-use lib.ListN.{length, replicate}
+use lib.ListN.{replicate}
 use lib.Dec.{eqb}
 use lib.IntN.{ℤ, pos}
 use Prim.Native.Nat.{ℕ}
@@ -45,10 +45,3 @@ StartGives s lent a result = ended a result ≡ startCall s lent
 -- event, on an old state
 abbrev pub EventGives : List ℕ → List ℤ → List ℤ → List ℤ → Answer → List ℤ → Type 0
 EventGives s old lent ev a result = ended a result ≡ eventCall s old lent ev
-
--- calls of event for a list of events, one after another, each on the state that the last accepted one left, with any result state lent at its length; they give these answers and leave this state
-abbrev pub EventsGive : List ℕ → List ℤ → List (List ℤ) → List Answer → List ℤ → Type 0
-EventsGive s st [] [] last = last ≡ st
-EventsGive s st [] (a ∷ answers) last = ⊥
-EventsGive s st (ev ∷ evs) [] last = ⊥
-EventsGive s st (ev ∷ evs) (a ∷ answers) last = (lent : List ℤ) × (result : List ℤ) × (length lent ≡ stateLength s) × EventGives s st lent ev a result × EventsGive s (goesOn a st result) evs answers last

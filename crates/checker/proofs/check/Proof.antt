@@ -6,22 +6,22 @@ use borrow.Author.Tests.{not-true, not-false}
 use borrow.Author.Needs.{needs}
 use Rattle.laris.specs.declared.Checked.the-variants.{Passed, Shape, Static}
 use Rattle.laris.specs.Static.{static}
-use Rattle.laris.specs.Check.{shape, checkOf}
+use Rattle.laris.specs.Check.{shape, checkOf, checkCall}
 use Rattle.checker.proofs.check.Statement.{statement}
 use Rattle.checker.proofs.check.Tie as tie
 
 module _ (s : List ℕ) where
-  no-shape : shape s ≡ false → Shape ≡ checkOf s
-  unfolding checkOf
-  no-shape e = rw (checkOf, e) refl
+  no-shape : shape s ≡ false → (Shape ≡ checkOf s) × (1 ≡ checkCall s)
+  unfolding checkOf checkCall
+  no-shape e = (rw (checkOf, e) refl, rw (checkCall, e) refl)
 
-  no-static : shape s ≡ true → static s ≡ false → Static ≡ checkOf s
-  unfolding checkOf
-  no-static e f = rw (checkOf, e, f) refl
+  no-static : shape s ≡ true → static s ≡ false → (Static ≡ checkOf s) × (2 ≡ checkCall s)
+  unfolding checkOf checkCall
+  no-static e f = (rw (checkOf, e, f) refl, rw (checkCall, e, f) refl)
 
-  passes : shape s ≡ true → static s ≡ true → Passed ≡ checkOf s
-  unfolding checkOf
-  passes e f = rw (checkOf, e, f) refl
+  passes : shape s ≡ true → static s ≡ true → (Passed ≡ checkOf s) × (0 ≡ checkCall s)
+  unfolding checkOf checkCall
+  passes e f = (rw (checkOf, e, f) refl, rw (checkCall, e, f) refl)
 
 directory-requires : tie.Need-directory-requires
 directory-requires c κs = search needs

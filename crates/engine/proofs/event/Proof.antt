@@ -26,13 +26,13 @@ directory-requires : tie.Need-directory-requires
 directory-requires c κs = search needs
 
 on-passed-requires : tie.Need-on-passed-requires
-on-passed-requires c κs = (c .before .before .directory .ensures, sym (c .before .before .before .before .before .check .ensures) ∙ c .before .before .before .enum-told3 .given .1)
+on-passed-requires c κs = (c .before .before .directory .ensures, sym (c .before .before .before .before .before .check .ensures .0) ∙ c .before .before .before .enum-told3 .given .1)
 
 returns : tie.Need-returns
-returns c = shape-event _ _ _ _ _ (c .answered .ensures) (sym (c .before .before .before .check .ensures) ∙ c .before .enum-told .given .1)
+returns c = shape-event _ _ _ _ _ (c .answered .ensures) (sym (c .before .before .before .check .ensures .0) ∙ c .before .enum-told .given .1)
 
 returns-2 : tie.Need-returns-2
-returns-2 c = static-event _ _ _ _ _ (c .answered2 .ensures) (sym (c .before .before .before .check .ensures) ∙ c .before .enum-told2 .given .1)
+returns-2 c = static-event _ _ _ _ _ (c .answered2 .ensures) (sym (c .before .before .before .check .ensures .0) ∙ c .before .enum-told2 .given .1)
 
 same-length : tie.Need-same-length
 same-length c = search needs

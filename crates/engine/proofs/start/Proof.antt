@@ -28,13 +28,13 @@ directory-requires : tie.Need-directory-requires
 directory-requires c κs = search needs
 
 start-passed-requires : tie.Need-start-passed-requires
-start-passed-requires c κs = (c .before .before .directory .ensures, sym (c .before .before .before .before .before .check .ensures) ∙ c .before .before .before .enum-told3 .given .1)
+start-passed-requires c κs = (c .before .before .directory .ensures, sym (c .before .before .before .before .before .check .ensures .0) ∙ c .before .before .before .enum-told3 .given .1)
 
 returns : tie.Need-returns
-returns c = ap (λ (a : Answer). ended a (c .before .before .before .before .before .args .result .now)) (c .answered .ensures) ∙ sym (start-shape _ _ (sym (c .before .before .before .check .ensures) ∙ c .before .enum-told .given .1))
+returns c = ap (λ (a : Answer). ended a (c .before .before .before .before .before .args .result .now)) (c .answered .ensures) ∙ sym (start-shape _ _ (sym (c .before .before .before .check .ensures .0) ∙ c .before .enum-told .given .1))
 
 returns-2 : tie.Need-returns-2
-returns-2 c = ap (λ (a : Answer). ended a (c .before .before .before .before .before .args .result .now)) (c .answered2 .ensures) ∙ sym (start-static _ _ (sym (c .before .before .before .check .ensures) ∙ c .before .enum-told2 .given .1))
+returns-2 c = ap (λ (a : Answer). ended a (c .before .before .before .before .before .args .result .now)) (c .answered2 .ensures) ∙ sym (start-static _ _ (sym (c .before .before .before .check .ensures .0) ∙ c .before .enum-told2 .given .1))
 
 same-length : tie.Need-same-length
 same-length c = search needs

@@ -26,13 +26,13 @@ directory-requires : tie.Need-directory-requires
 directory-requires c κs = search needs
 
 play-passed-requires : tie.Need-play-passed-requires
-play-passed-requires c κs = (c .before .directory .ensures, sym (c .before .before .before .before .check .ensures) ∙ c .before .before .enum-told3 .given .1)
+play-passed-requires c κs = (c .before .directory .ensures, sym (c .before .before .before .before .check .ensures .0) ∙ c .before .before .enum-told3 .given .1)
 
 returns : tie.Need-returns
-returns c = shape-answers (c .before .before .before .before .before .args .sheet .now) (sym (c .before .before .before .check .ensures) ∙ c .before .enum-told .given .1)
+returns c = shape-answers (c .before .before .before .before .before .args .sheet .now) (sym (c .before .before .before .check .ensures .0) ∙ c .before .enum-told .given .1)
 
 returns-2 : tie.Need-returns-2
-returns-2 c = static-answers (c .before .before .before .before .before .args .sheet .now) (sym (c .before .before .before .check .ensures) ∙ c .before .enum-told2 .given .1)
+returns-2 c = static-answers (c .before .before .before .before .before .args .sheet .now) (sym (c .before .before .before .check .ensures .0) ∙ c .before .enum-told2 .given .1)
 
 returns-3 : tie.Need-returns-3
 returns-3 c = search needs

@@ -2,7 +2,8 @@ use mathlib.Core.Path.{sym, _∙_}
 use native.Mathlib.Omega.{arith}
 use lib.Seq.{length-take-le}
 use borrow.Author.Needs.{needs}
-use Rattle.runs.proofs.Kept.{begun, start-answers}
+use Rattle.claim.proofs.Kept.{begun}
+use Rattle.runs.proofs.Kept.{start-answers}
 use Rattle.runs.proofs.play_states.Statement.{statement}
 use Rattle.runs.proofs.play_states.Tie as tie
 

@@ -4,7 +4,7 @@ use native.Mathlib.Omega.{arith}
 use lib.ListN.{length}
 use borrow.Author.Needs.{needs}
 use Rattle.turns.specs.Playing.{Playing}
-use Rattle.runs.proofs.Kept.{goes-on}
+use Rattle.claim.proofs.Kept.{goes-on}
 use Rattle.runs.proofs.round.Statement.{statement}
 use Rattle.runs.proofs.round.Tie as tie
 

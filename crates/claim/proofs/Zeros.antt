@@ -1,0 +1,42 @@
+-- "after 6 to 10 its state is all zeros": whatever the sheet, a start of a number other than 0 that was not turned down leaves zeros.
+use Prim.Native.Nat.{ℕ, zero, suc, _+_, _-_}
+use mathlib.Core.Path.{_≡_, refl, sym, subst, _∙_}
+use mathlib.Core.List.{List, []}
+use lib.ListN.{length, replicate}
+use lib.IntN.{ℤ, pos}
+use Rattle.laris.specs.declared.Answer.{Answer}
+use Rattle.laris.specs.declared.Checked.the-variants.{Passed}
+use Rattle.laris.specs.declared.Ran.{Ran}
+use Rattle.laris.specs.declared.Ran.the-variants.{Done, Refused, Stuck}
+use Rattle.laris.specs.Fields.{externalsOf}
+use Rattle.laris.specs.State.{stateLength}
+use Rattle.laris.specs.Play.{Outcome, ended, stuck, limitOf, isInitial, ranBody, elementBody, startNext, startFrom, started, defaultState}
+use Rattle.laris.specs.Check.{checkOf}
+use Rattle.laris.specs.Lists.{StartGives}
+use Rattle.turns.proofs.Laws.{start-is}
+use Rattle.sheet.specs.Names.{bindings}
+use Rattle.sheet.specs.Sheet.{countOf}
+
+module _ (s : List ℕ) where
+  abbrev zeros : List ℤ
+  zeros = replicate (stateLength s) (pos 0)
+
+  -- done, or zeros
+  abbrev Left : Outcome → Type 0
+  Left (ended a st) = (a .number ≡ 0 → ⊥) → st ≡ zeros
+  Left stuck = Unit {0}
+
+  next-left : (k : ℕ) (r : Ran) (st : List ℤ) (K : ℕ → List ℤ → Outcome) → ((j : ℕ) (st : List ℤ) → Left (K j st)) → Left (startNext s k r st K)
+  unfolding startNext
+  next-left k (Done l) st K h = h (k + (limitOf s - l)) st
+  next-left k (Refused n l) st K h = λ _. refl
+  next-left k Stuck st K h = tt
+
+  from-left : (n e k : ℕ) (st : List ℤ) → Left (startFrom s n e k st)
+  unfolding startFrom
+  from-left zero e k st = λ z. absurd (z refl)
+  from-left (suc n) e k st = let w = ranBody s e (elementBody s e isInitial) [] st in next-left k (w .ran) (w .st) (λ k st. startFrom s n (suc e) k st) (λ j st. from-left n (suc e) j st)
+
+  pub start-zeros : checkOf s ≡ Passed → (lent : List ℤ) → length lent ≡ stateLength s → (a : Answer) (st : List ℤ) → StartGives s lent a st → (a .number ≡ 0 → ⊥) → st ≡ replicate (stateLength s) (pos 0)
+  unfolding started
+  start-zeros ok lent l a st g = subst Left (sym (g ∙ start-is s lent ok l)) (from-left (countOf s bindings) (externalsOf s) 0 (defaultState s))

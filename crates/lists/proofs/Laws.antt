@@ -1,0 +1,146 @@
+-- A list in words, event by event.
+use Prim.Native.Nat.{ℕ, suc, _+_, _*_, _-_, _<_, _≤_}
+use mathlib.Core.Path.{_≡_, refl, sym, ap, _∙_}
+use mathlib.Core.List.{List, [], _∷_, _++_, append-assoc, append-nil}
+use mathlib.Core.Bool.{Bool, true, false}
+use native.Mathlib.Omega.{arith}
+use lib.ListN.{length, getD, set, take, drop, length-set, length-append}
+use lib.Seq.{length-take-le, take-all, take-at, sets-eq}
+use lib.Dec.{ltb, eqb}
+use lib.IntN.{ℤ, pos}
+use mir.Syntax.{w32}
+use mir.Val.{toZ}
+use mir.ValLaws.{toZ-pos}
+use Rattle.sheet.specs.declared.Found.the-variants.{Present, Absent}
+use Rattle.sheet.specs.Names.{head, stepLimit}
+use Rattle.sheet.specs.Sheet.{countOf, offsetOf, recordAt, recordOf}
+use Rattle.laris.specs.declared.Telegram.{Telegram}
+use Rattle.laris.specs.declared.Handed.{Handed}
+use Rattle.laris.specs.declared.Handed.the-variants.{Nothing, Outside}
+use Rattle.laris.specs.declared.Answer.{Answer}
+use Rattle.laris.specs.Fields.{numberOr0}
+use Rattle.laris.specs.State.{putWords}
+use Rattle.laris.specs.Play.{ended, limitOf, eventCall}
+use Rattle.laris.specs.Lists.{Played, played, nowhere, thenPlayed, afterAnswer, goesOn, eventsOf, EventGives}
+use Rattle.turns.specs.Playing.{Playing}
+use Rattle.claim.proofs.Limit.{event-within}
+use Rattle.claim.proofs.Kept.{goes-on-is}
+use Rattle.lists.specs.Words.{eventAt, eventsFrom, handedWords, answerWords, answersWords, Written, written, unwritten, inWords}
+
+-- ---- steps fit a word
+
+module _ (s : List ℕ) (bytes : (i : ℕ) → getD s i 0 < 256) where
+  field-small : (b : Bool) (at : ℕ) → numberOr0 (elim b [ true ↦ Present (recordAt s at) | false ↦ Absent ]) stepLimit < 65536
+  unfolding numberOr0 recordAt
+  field-small true at = omega (arith, bytes (at + 6), bytes (at + 6 + 1))
+  field-small false at = omega arith
+
+  limit-small : limitOf s < 65536
+  unfolding limitOf recordOf
+  limit-small = go (eqb (numberOr0 (recordOf s head 0) stepLimit) 0)
+    where
+      go : (b : Bool) → elim b [ true ↦ 10000 | false ↦ numberOr0 (recordOf s head 0) stepLimit ] < 65536
+      go true = omega arith
+      go false = field-small (ltb 0 (countOf s head)) (offsetOf s head + 16 * 0)
+
+  pub steps-small : (old ev : List ℤ) (a : Answer) (st : List ℤ) → EventGives s old old ev a st → a .steps < 2147483648
+  steps-small old ev a st g = omega (arith, limit-small, event-within s old old ev .steps a st (sym g))
+
+-- ---- ten words
+
+eight : (h : Handed) → length (handedWords h) ≡ 8
+unfolding handedWords
+eight Nothing = refl
+eight (Outside t) = refl
+
+ten : (a : Answer) → length (answerWords a) ≡ 10
+ten a = ap (λ n. suc (suc n)) (eight (a .handed))
+
+module _ (l : List ℤ) (at : ℕ) where
+  two-more : (x y : ℤ) (ws : List ℤ) → at + 2 + length ws ≤ length l → putWords (set (set l at x) (at + 1) y) (at + 2) ws ≡ putWords l at (x ∷ y ∷ ws)
+  unfolding putWords
+  two-more x y ws h =
+      let e1 : at + 1 ≡ suc at = omega arith in
+      let e2 : at + 2 ≡ suc (suc at) = omega arith in
+      rw (e1, e2) (sym (sets-eq ws (set (set l at x) (suc at) y) (suc (suc at)) (simp length-set (omega arith))) ∙ sets-eq (x ∷ y ∷ ws) l at (omega arith))
+
+  pub front-put : (ws : List ℤ) (n : ℕ) → at ≤ length l → at + length ws ≡ n → take n (putWords l at ws) ≡ take at l ++ ws
+  unfolding putWords
+  front-put ws n h e = take-at (take at l ++ ws) (drop (at + length ws) l) n (length-append (take at l) ws ∙ ap (λ k. k + length ws) (length-take-le at l h) ∙ e)
+
+pub nothing-words : (h : Handed) → h ≡ Nothing → (pos 0 ∷ pos 0 ∷ pos 0 ∷ pos 0 ∷ pos 0 ∷ pos 0 ∷ pos 0 ∷ pos 0 ∷ []) ≡ handedWords h
+unfolding handedWords
+nothing-words h e = sym (ap handedWords e)
+
+pub outside-words : (h : Handed) (t : Telegram) → h ≡ Outside t → (pos 1 ∷ t .receiver ∷ t .port ∷ t .name ∷ t .d0 ∷ t .d1 ∷ t .d2 ∷ t .d3 ∷ []) ≡ handedWords h
+unfolding handedWords
+outside-words h t e = sym (ap handedWords e)
+
+-- number and steps are stored, then what is handed
+pub answer-put : (l : List ℤ) (at : ℕ) (a : Answer) → at + 10 ≤ length l → a .number < 2147483648 → a .steps < 2147483648 → (l′ ws : List ℤ) → l′ ≡ putWords (set (set l at (toZ w32 (a .number))) (at + 1) (toZ w32 (a .steps))) (at + 2) ws → ws ≡ handedWords (a .handed) → l′ ≡ putWords l at (answerWords a)
+answer-put l at a h n k l′ ws e q =
+    e
+    ∙ ap (λ ws. putWords (set (set l at (toZ w32 (a .number))) (at + 1) (toZ w32 (a .steps))) (at + 2) ws) q
+    ∙ two-more l at (toZ w32 (a .number)) (toZ w32 (a .steps)) (handedWords (a .handed)) (omega (arith, eight (a .handed)))
+    ∙ ap (λ x. putWords l at (x ∷ toZ w32 (a .steps) ∷ handedWords (a .handed))) (toZ-pos w32 (a .number) n)
+    ∙ ap (λ y. putWords l at (pos (a .number) ∷ y ∷ handedWords (a .handed))) (toZ-pos w32 (a .steps) k)
+
+-- ---- a run in words, after words that stand before it
+
+unfoldable pub behind : List ℤ → Written → Written
+behind ws (written vs st) = written (ws ++ vs) st
+behind ws unwritten = unwritten
+
+behind-none : (w : Written) → behind [] w ≡ w
+unfolding behind
+behind-none (written vs st) = refl
+behind-none unwritten = refl
+
+behind-behind : (us vs : List ℤ) (w : Written) → behind us (behind vs w) ≡ behind (us ++ vs) w
+unfolding behind
+behind-behind us vs (written ws st) = ap (λ l. written l st) (sym (append-assoc us vs ws))
+behind-behind us vs unwritten = refl
+
+behind-answer : (a : Answer) (p : Played) → inWords (afterAnswer a p) ≡ behind (answerWords a) (inWords p)
+unfolding behind inWords afterAnswer answersWords
+behind-answer a (played answers st) = refl
+behind-answer a nowhere = refl
+
+module _ (s d : List ℕ) (events : List ℤ) where
+  -- the run from event i of count on
+  abbrev pub rest : ℕ → ℕ → List ℤ → Written
+  rest count i st = inWords (eventsOf s st (eventsFrom events (count - i) i))
+
+  pub no-event-yet : (count : ℕ) (st answers : List ℤ) → inWords (eventsOf s st (eventsFrom events count 0)) ≡ behind (take (10 * 0) answers) (rest count 0 st)
+  no-event-yet count st answers =
+      let e : count ≡ count - 0 = omega arith in
+      sym (behind-none (inWords (eventsOf s st (eventsFrom events count 0)))) ∙ ap (λ n. behind [] (inWords (eventsOf s st (eventsFrom events n 0)))) e
+
+  one-event : (st ev : List ℤ) (evs : List (List ℤ)) (a : Answer) (new : List ℤ) → Playing s d st → EventGives s st st ev a new → inWords (eventsOf s st (ev ∷ evs)) ≡ behind (answerWords a) (inWords (eventsOf s new evs))
+  unfolding eventsOf thenPlayed
+  one-event st ev evs a new p g =
+      ap (λ w. inWords (thenPlayed w (λ a new. afterAnswer a (eventsOf s (goesOn a st new) evs)))) (sym g)
+      ∙ ap (λ st. inWords (afterAnswer a (eventsOf s st evs))) (goes-on-is s d st ev a new p g)
+      ∙ behind-answer a (eventsOf s new evs)
+
+  -- one event more
+  pub event-more : (count i : ℕ) (st answers : List ℤ) (w : Written) → i < count → length answers ≡ 10 * count → Playing s d st → w ≡ behind (take (10 * i) answers) (rest count i st) → (ev : List ℤ) → ev ≡ eventAt events i → (a : Answer) (new : List ℤ) → EventGives s st st ev a new → (answers′ : List ℤ) → answers′ ≡ putWords answers (10 * i) (answerWords a) → w ≡ behind (take (10 * (i + 1)) answers′) (rest count (i + 1) new)
+  unfolding eventsFrom
+  event-more count i st answers w l m p h ev q a new g answers′ e =
+      let n : count - i ≡ suc (count - (i + 1)) = omega arith in
+      let k : suc i ≡ i + 1 = omega arith in
+      let front : take (10 * (i + 1)) answers′ ≡ take (10 * i) answers ++ answerWords a = ap (take (10 * (i + 1))) e ∙ front-put answers (10 * i) (answerWords a) (10 * (i + 1)) (omega arith) (omega (arith, ten a)) in
+      h
+      ∙ ap (λ n. behind (take (10 * i) answers) (inWords (eventsOf s st (eventsFrom events n i)))) n
+      ∙ ap (λ k. behind (take (10 * i) answers) (inWords (eventsOf s st (eventAt events i ∷ eventsFrom events (count - (i + 1)) k)))) k
+      ∙ ap (λ ev. behind (take (10 * i) answers) (inWords (eventsOf s st (ev ∷ eventsFrom events (count - (i + 1)) (i + 1))))) (sym q)
+      ∙ ap (behind (take (10 * i) answers)) (one-event st ev (eventsFrom events (count - (i + 1)) (i + 1)) a new p g)
+      ∙ behind-behind (take (10 * i) answers) (answerWords a) (rest count (i + 1) new)
+      ∙ ap (λ ws. behind ws (rest count (i + 1) new)) (sym front)
+
+  pub all-events : (count i : ℕ) (st answers : List ℤ) (w : Written) → i ≤ count → count ≤ i → length answers ≡ 10 * count → w ≡ behind (take (10 * i) answers) (rest count i st) → written answers st ≡ w
+  unfolding behind eventsFrom eventsOf inWords answersWords
+  all-events count i st answers w l k m h =
+      let n : count - i ≡ 0 = omega arith in
+      let whole : take (10 * i) answers ≡ answers = take-all (10 * i) answers (omega arith) in
+      sym (h ∙ ap (λ n. behind (take (10 * i) answers) (inWords (eventsOf s st (eventsFrom events n i)))) n ∙ ap (λ ws. written ws st) (append-nil (take (10 * i) answers) ∙ whole))
