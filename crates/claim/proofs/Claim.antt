@@ -3,22 +3,18 @@ use Prim.Native.Nat.{ℕ, _*_, _-_, _≤_}
 use mathlib.Core.Path.{_≡_, refl, sym, ap, subst, _∙_}
 use mathlib.Core.List.{List, [], _∷_}
 use mathlib.Core.Bool.{Bool, true, false}
-use native.Mathlib.Omega.{arith}
 use lib.ListN.{length, length-map}
 use lib.Dec.{eqb}
 use lib.IntN.{ℤ}
 use borrow.Author.Tests.{eqb-true, eqb-false}
-use Rattle.sheet.specs.Names.{bindings}
-use Rattle.sheet.specs.Sheet.{countOf}
 use Rattle.laris.specs.declared.Answer.{Answer}
 use Rattle.laris.specs.declared.Checked.the-variants.{Passed}
-use Rattle.laris.specs.Fields.{componentsOf, externalsOf}
+use Rattle.laris.specs.Fields.{elementsOf}
 use Rattle.laris.specs.State.{stateLength}
 use Rattle.laris.specs.Valid.{OfSheet}
 use Rattle.laris.specs.Play.{Outcome, ended, stuck, limitOf, isEvent, eventCall}
 use Rattle.laris.specs.Check.{checkOf}
 use Rattle.laris.specs.Lists.{Played, played, nowhere, thenPlayed, afterAnswer, goesOn, eventsOf, playOf, EventGives}
-use Rattle.passed.proofs.Records.{elements-bound}
 use Rattle.states.proofs.Parts.{of-content}
 use Rattle.turns.proofs.Laws.{event-malformed, event-happens}
 use Rattle.promise.specs.Promise.{StartKept, EventKept, ListKept}
@@ -80,8 +76,8 @@ module _ (s : List ℕ) (ok : checkOf s ≡ Passed) where
       machine-same : (evs : List (List ℤ)) → playOf s evs ≡ afterAnswer a (after (eqb (a .number) 0) (eventsOf s st evs))
       machine-same = play-is s ok lent l a st (m .start s lent)
 
-      start-steps : a .steps ≤ (componentsOf s - externalsOf s) * limitOf s
-      start-steps = let n : countOf s bindings ≡ componentsOf s - externalsOf s = omega (arith, elements-bound s ok) in subst (λ n. a .steps ≤ n * limitOf s) n (start-within s lent .steps a st (sym (m .start s lent)))
+      start-steps : a .steps ≤ elementsOf s * limitOf s
+      start-steps = start-within s lent .steps a st (sym (m .start s lent))
 
       module _ (calls : List Call) (g : AllLent s calls) where
         -- the two runs, where start's test and the machine's list are known

@@ -7,13 +7,11 @@ use native.Mathlib.Nat.{le-refl, suc-mul}
 use native.Mathlib.Omega.{arith}
 use lib.ListN.{length, replicate}
 use lib.Dec.{ltb, eqb}
-use lib.IntN.{ℤ, pos, natAbs}
+use lib.IntN.{ℤ, pos, negsuc}
 use Rattle.sheet.specs.declared.Record.{Record}
 use Rattle.sheet.specs.declared.Found.{Found}
 use Rattle.sheet.specs.declared.Found.the-variants.{Present, Absent}
 use Rattle.sheet.specs.All.{_and_}
-use Rattle.sheet.specs.Names.{bindings}
-use Rattle.sheet.specs.Sheet.{countOf}
 use Rattle.laris.specs.declared.Answer.{Answer}
 use Rattle.laris.specs.declared.Checked.{Checked}
 use Rattle.laris.specs.declared.Checked.the-variants.{Passed, Shape, Static}
@@ -22,13 +20,13 @@ use Rattle.laris.specs.declared.Handed.the-variants.{Nothing, Outside}
 use Rattle.laris.specs.declared.Ran.{Ran}
 use Rattle.laris.specs.declared.Ran.the-variants.{Done, Refused, Stuck}
 use Rattle.laris.specs.declared.Telegram.{Telegram}
-use Rattle.laris.specs.Fields.{holds, externalsOf}
+use Rattle.laris.specs.Fields.{holds, externalsOf, elementsOf}
 use Rattle.laris.specs.Types.{reactsTo}
 use Rattle.laris.specs.Values.{isBelow}
-use Rattle.laris.specs.State.{stateLength, wordOf, waiting, telegramOf, withoutTelegram, appended, Changed, on, off}
+use Rattle.laris.specs.State.{stateLength, wordOf, waiting, telegramOf, withoutTelegram, counted, appended, Changed, on, off, lost}
 use Rattle.laris.specs.Valid.{contentFits}
 use Rattle.laris.specs.Eval.{sameWord}
-use Rattle.laris.specs.Play.{Outcome, ended, stuck, answer, limitOf, isInitial, hasPanic, reactsOn, ranBody, elementBody, eventEnd, bodyEvent, defaultState, startNext, startFrom, started, oldest, goesFrom, innerOf, taking, brought, reacting, panicking, changeEnd, outside, delivered, deliver, corrupt, inner, slicedFrom, slice, isEvent, telegramOfEvent, happens, ifPassed, startCall, eventCall}
+use Rattle.laris.specs.Play.{Outcome, ended, stuck, answer, limitOf, isInitial, hasPanic, reactsOn, ranBody, elementBody, alone, eventEnd, bodyEvent, defaultState, elementsThere, startNext, startFrom, started, oldest, goesFrom, innerOf, taking, brought, reacting, panicking, withNumber, changeEnd, outside, bodiesThere, received, delivered, deliver, corrupt, inner, slice, isEvent, telegramOfEvent, happens, ifPassed, startCall, eventCall}
 use Rattle.laris.specs.Check.{checkOf}
 
 -- an answer has at most m steps
@@ -66,6 +64,12 @@ module _ {m : ℕ} where
   unfolding changeEnd
   change-within old (on st) = at-once 0 Nothing st
   change-within old (off n) = at-once n Nothing old
+  change-within old lost = stops
+
+  number-within : (z : ℤ) (K : ℕ → Outcome) → ((n : ℕ) → Within m (K n)) → Within m (withNumber z K)
+  unfolding withNumber
+  number-within (pos n) K h = h n
+  number-within (negsuc n) K h = stops
 
   passed-within : (k : Checked) (result : List ℤ) (K : List ℤ → Outcome) → Within m (K result) → Within m (ifPassed k result K)
   unfolding ifPassed
@@ -91,28 +95,31 @@ module _ (s : List ℕ) where
 
   panicking-within : (old : List ℤ) (e : ℕ) (st : List ℤ) → Within (limitOf s) (panicking s old e st)
   unfolding panicking
-  panicking-within old e st = body-within old e (elementBody s e hasPanic) [] st
+  panicking-within old e st = body-within old e (alone (elementBody s e hasPanic)) [] st
+
+  received-within : (old : List ℤ) (t : Telegram) (st : List ℤ) (e p n : ℕ) → Within (limitOf s) (received s old t st e p n)
+  unfolding received
+  received-within old t st e p n = found (elementBody s e (reactsOn p n)) (λ b. reacting-within old e (Present b) t st) (branch (bodiesThere s e) (panicking-within old e st) stops)
 
   delivered-within : (old : List ℤ) (t : Telegram) (st : List ℤ) → Within (limitOf s) (delivered s old t st)
   unfolding delivered
   delivered-within old t st =
-      let e = natAbs (t .receiver) in
-      branch (isBelow (t .receiver) (externalsOf s)) (at-once 0 (Outside t) st) (found (elementBody s e (reactsOn (natAbs (t .port)) (natAbs (t .name)))) (λ b. reacting-within old e (Present b) t st) (panicking-within old e st))
+      branch (isBelow (t .receiver) (externalsOf s)) (at-once 0 (Outside t) st)
+      (number-within (t .receiver) _ (λ e. number-within (t .port) _ (λ p. number-within (t .name) _ (λ n. received-within old t st e p n))))
 
   taking-within : (st : List ℤ) (p : Telegram → Bool) (K : Telegram → List ℤ → Outcome) → ((t : Telegram) (st′ : List ℤ) → Within (limitOf s) (K t st′)) → Within (limitOf s) (taking s st p K)
   unfolding taking
-  taking-within st p K k = branch (ltb (oldest s st p) (waiting st)) (k (telegramOf s st (oldest s st p)) (withoutTelegram s st (oldest s st p))) (at-once 5 Nothing st)
+  taking-within st p K k = branch (counted st) (branch (ltb (oldest s st p) (waiting st)) (k (telegramOf s st (oldest s st p)) (withoutTelegram s st (oldest s st p))) (at-once 5 Nothing st)) stops
 
   happens-within : (st ev : List ℤ) → Within (limitOf s) (happens s st ev)
   unfolding happens outside deliver corrupt inner slice
   happens-within st ev =
       let kind = wordOf ev 0 in
-      let e = natAbs (wordOf ev 2) in
       branch (sameWord kind (pos 1)) (change-within st (appended s st (telegramOfEvent ev)))
       (branch (sameWord kind (pos 2)) (taking-within st (goesFrom (wordOf ev 1) (wordOf ev 2)) (delivered s st) (delivered-within st))
-      (branch (sameWord kind (pos 3)) (taking-within st (goesFrom (wordOf ev 1) (wordOf ev 2)) (λ t st′. panicking s st e st′) (λ t st′. panicking-within st e st′))
-      (branch (sameWord kind (pos 4)) (taking-within st (innerOf (wordOf ev 2)) (λ t st′. reacting s st e (elementBody s e (reactsTo (natAbs (t .name)))) t st′) (λ t st′. reacting-within st e (elementBody s e (reactsTo (natAbs (t .name)))) t st′))
-      (change-within st (slicedFrom s (countOf s bindings) (externalsOf s) st)))))
+      (branch (sameWord kind (pos 3)) (taking-within st (goesFrom (wordOf ev 1) (wordOf ev 2)) _ (λ t st′. number-within (wordOf ev 2) _ (λ e. panicking-within st e st′)))
+      (branch (sameWord kind (pos 4)) (taking-within st (innerOf (wordOf ev 2)) _ (λ t st′. number-within (wordOf ev 2) _ (λ e. number-within (t .name) _ (λ n. reacting-within st e (elementBody s e (reactsTo n)) t st′))))
+      (change-within st _))))
 
   pub event-within : (old result ev : List ℤ) → Within (limitOf s) (eventCall s old result ev)
   unfolding eventCall
@@ -136,9 +143,9 @@ module _ (s : List ℕ) where
   from-within zero e k st m h = ends (answer 0 k Nothing) st (omega arith)
   from-within (suc n) e k st m h =
       let q : suc n * limitOf s ≡ n * limitOf s + limitOf s = suc-mul n (limitOf s) in
-      let w = ranBody s e (elementBody s e isInitial) [] st in
+      let w = ranBody s e (alone (elementBody s e isInitial)) [] st in
       next-within m k (w .ran) (w .st) (λ k st. startFrom s n (suc e) k st) (λ j st g. from-within n (suc e) j st m (omega arith)) (omega arith)
 
-  pub start-within : (result : List ℤ) → Within (countOf s bindings * limitOf s) (startCall s result)
+  pub start-within : (result : List ℤ) → Within (elementsOf s * limitOf s) (startCall s result)
   unfolding startCall started
-  start-within result = passed-within (checkOf s) result _ (branch (eqb (length result) (stateLength s)) (from-within (countOf s bindings) (externalsOf s) 0 (defaultState s) (countOf s bindings * limitOf s) (omega arith)) (at-once 3 Nothing result))
+  start-within result = passed-within (checkOf s) result _ (branch (eqb (length result) (stateLength s)) (branch (elementsThere s) (from-within (elementsOf s) (externalsOf s) 0 (defaultState s) (elementsOf s * limitOf s) (omega arith)) stops) (at-once 3 Nothing result))

@@ -2,20 +2,19 @@
 use Prim.Native.Nat.{ℕ, zero, suc, _+_, _-_}
 use mathlib.Core.Path.{_≡_, refl, sym, subst, _∙_}
 use mathlib.Core.List.{List, []}
+use mathlib.Core.Bool.{Bool, true, false}
 use lib.ListN.{length, replicate}
 use lib.IntN.{ℤ, pos}
 use Rattle.laris.specs.declared.Answer.{Answer}
 use Rattle.laris.specs.declared.Checked.the-variants.{Passed}
 use Rattle.laris.specs.declared.Ran.{Ran}
 use Rattle.laris.specs.declared.Ran.the-variants.{Done, Refused, Stuck}
-use Rattle.laris.specs.Fields.{externalsOf}
+use Rattle.laris.specs.Fields.{externalsOf, elementsOf}
 use Rattle.laris.specs.State.{stateLength}
-use Rattle.laris.specs.Play.{Outcome, ended, stuck, limitOf, isInitial, ranBody, elementBody, startNext, startFrom, started, defaultState}
+use Rattle.laris.specs.Play.{Outcome, ended, stuck, limitOf, isInitial, ranBody, elementBody, alone, startNext, startFrom, started, elementsThere, defaultState}
 use Rattle.laris.specs.Check.{checkOf}
 use Rattle.laris.specs.Lists.{StartGives}
 use Rattle.turns.proofs.Laws.{start-is}
-use Rattle.sheet.specs.Names.{bindings}
-use Rattle.sheet.specs.Sheet.{countOf}
 
 module _ (s : List ℕ) where
   abbrev zeros : List ℤ
@@ -35,8 +34,12 @@ module _ (s : List ℕ) where
   from-left : (n e k : ℕ) (st : List ℤ) → Left (startFrom s n e k st)
   unfolding startFrom
   from-left zero e k st = λ z. absurd (z refl)
-  from-left (suc n) e k st = let w = ranBody s e (elementBody s e isInitial) [] st in next-left k (w .ran) (w .st) (λ k st. startFrom s n (suc e) k st) (λ j st. from-left n (suc e) j st)
+  from-left (suc n) e k st = let w = ranBody s e (alone (elementBody s e isInitial)) [] st in next-left k (w .ran) (w .st) (λ k st. startFrom s n (suc e) k st) (λ j st. from-left n (suc e) j st)
 
   pub start-zeros : checkOf s ≡ Passed → (lent : List ℤ) → length lent ≡ stateLength s → (a : Answer) (st : List ℤ) → StartGives s lent a st → (a .number ≡ 0 → ⊥) → st ≡ replicate (stateLength s) (pos 0)
   unfolding started
-  start-zeros ok lent l a st g = subst Left (sym (g ∙ start-is s lent ok l)) (from-left (countOf s bindings) (externalsOf s) 0 (defaultState s))
+  start-zeros ok lent l a st g = subst Left (sym (g ∙ start-is s lent ok l)) (go (elementsThere s))
+    where
+      go : (b : Bool) → Left (elim b [ true ↦ startFrom s (elementsOf s) (externalsOf s) 0 (defaultState s) | false ↦ stuck ])
+      go true = from-left (elementsOf s) (externalsOf s) 0 (defaultState s)
+      go false = tt

@@ -1,5 +1,5 @@
 -- The claim about whole lists of events, of any engine that meets the contracts of start and event.
-use Prim.Native.Nat.{ℕ, _*_, _-_, _≤_}
+use Prim.Native.Nat.{ℕ, _*_, _≤_}
 use mathlib.Core.Path.{_≡_}
 use mathlib.Core.List.{List, [], _∷_, map}
 use mathlib.Core.Bool.{true, false}
@@ -8,7 +8,7 @@ use lib.Dec.{eqb}
 use lib.IntN.{ℤ, pos}
 use Rattle.laris.specs.declared.Answer.{Answer}
 use Rattle.laris.specs.declared.Checked.the-variants.{Passed}
-use Rattle.laris.specs.Fields.{componentsOf, externalsOf}
+use Rattle.laris.specs.Fields.{elementsOf}
 use Rattle.laris.specs.State.{stateLength}
 use Rattle.laris.specs.Valid.{OfSheet}
 use Rattle.laris.specs.Play.{limitOf}
@@ -82,7 +82,7 @@ pub record Claim (e : Engine) (s : List ℕ) (lent : List ℤ) (calls : List Cal
   pub zeros : (first .number ≡ 0 → ⊥) → last ≡ replicate (stateLength s) (pos 0)
   -- no event has more steps than the limit, and start than a limit for each bound element
   pub within : AllWithin (limitOf s) answers
-  pub startWithin : first .steps ≤ (componentsOf s - externalsOf s) * limitOf s
+  pub startWithin : first .steps ≤ elementsOf s * limitOf s
   -- "the state is then of the sheet"
   pub ofSheet : first .number ≡ 0 → OfSheet s last
   -- every internal name that waits or is armed has one reaction in its element's chart

@@ -8,19 +8,17 @@ use lib.Dec.{eqb}
 use lib.IntN.{ℤ}
 use borrow.Author.Tests.{eq-eqb, ne-eqb}
 use Rattle.laris.specs.declared.Answer.{Answer}
-use Rattle.laris.specs.declared.Checked.the-variants.{Passed}
-use Rattle.laris.specs.Fields.{componentsOf, externalsOf}
+use Rattle.laris.specs.Fields.{elementsOf}
 use Rattle.laris.specs.State.{stateLength}
 use Rattle.laris.specs.Valid.{OfSheet}
 use Rattle.laris.specs.Play.{limitOf}
-use Rattle.laris.specs.Check.{checkOf}
 use Rattle.laris.specs.Lists.{played, playOf}
 use Rattle.promise.specs.Promise.{OneOf, OneReaction}
 use Rattle.claim.specs.Claim.{Call, eventsCalled, AllLent, Claim}
 use Rattle.claim.proofs.Claim.{every-list}
 use Rattle.claim.proofs.Machine.{some-engine}
 use Rattle.lists.specs.Words.{eventsFrom, eventsIn, answersWords}
-use Rattle.lists.specs.ListCall.{Listed, listed, unlisted, listOf, listCall}
+use Rattle.lists.specs.ListCall.{Listed, listed, unlisted, listOf}
 use Rattle.lists.specs.Demand.{Demand, EveryPlay}
 use Rattle.lists.proofs.Calls.{whole-list}
 
@@ -70,7 +68,7 @@ module _ (s : List ℕ) (events lent room : List ℤ) (c : Claim (some-engine .0
       let other : (a .number ≡ 0 → ⊥) → c .first .number ≡ 0 → ⊥ = λ n z. n (ap (λ a. a .number) same ∙ z) in
       record {
         start = subst (λ a. OneOf 6 (a .number)) (sym same) (c .start);
-        startWithin = subst (λ a. a .steps ≤ (componentsOf s - externalsOf s) * limitOf s) (sym same) (c .startWithin);
+        startWithin = subst (λ a. a .steps ≤ elementsOf s * limitOf s) (sym same) (c .startWithin);
         list = λ z.
             let y : c .first .number ≡ 0 = sym (ap (λ a. a .number) same) ∙ z in
             record {

@@ -20,7 +20,7 @@ use Rattle.laris.specs.declared.Handed.the-variants.{Nothing, Outside}
 use Rattle.laris.specs.declared.Answer.{Answer}
 use Rattle.laris.specs.Fields.{numberOr0}
 use Rattle.laris.specs.State.{putWords}
-use Rattle.laris.specs.Play.{ended, limitOf, eventCall}
+use Rattle.laris.specs.Play.{limitOf}
 use Rattle.laris.specs.Lists.{Played, played, nowhere, thenPlayed, afterAnswer, goesOn, eventsOf, EventGives}
 use Rattle.turns.specs.Playing.{Playing}
 use Rattle.claim.proofs.Limit.{event-within}

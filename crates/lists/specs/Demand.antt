@@ -1,12 +1,12 @@
 -- "Demand 3 makes one claim about the whole list", said of what playing a list returns.
-use Prim.Native.Nat.{ℕ, _*_, _/_, _%_, _-_, _≤_}
+use Prim.Native.Nat.{ℕ, _*_, _/_, _%_, _≤_}
 use mathlib.Core.Path.{_≡_}
 use mathlib.Core.List.{List, _∷_}
 use lib.ListN.{length, replicate}
 use lib.IntN.{ℤ, pos}
 use Rattle.laris.specs.declared.Answer.{Answer}
 use Rattle.laris.specs.declared.Checked.the-variants.{Passed}
-use Rattle.laris.specs.Fields.{componentsOf, externalsOf}
+use Rattle.laris.specs.Fields.{elementsOf}
 use Rattle.laris.specs.State.{stateLength}
 use Rattle.laris.specs.Valid.{OfSheet}
 use Rattle.laris.specs.Play.{limitOf}
@@ -36,7 +36,7 @@ pub record Held (s : List ℕ) (events : List ℤ) (a : Answer) (st answers : Li
 pub record Demand (s : List ℕ) (events room : List ℤ) (a : Answer) (st answers : List ℤ) : Type 0 where
   -- start gives 0 or 6 to 10, with at most a limit's steps for each bound element
   pub start : OneOf 6 (a .number)
-  pub startWithin : a .steps ≤ (componentsOf s - externalsOf s) * limitOf s
+  pub startWithin : a .steps ≤ elementsOf s * limitOf s
   pub list : a .number ≡ 0 → Held s events a st answers
   -- after another start the state "is all zeros", and the room for answers is untouched
   pub zeros : (a .number ≡ 0 → ⊥) → st ≡ replicate (stateLength s) (pos 0)
