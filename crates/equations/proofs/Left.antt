@@ -11,7 +11,7 @@ use Rattle.sheet.specs.declared.Record.{Record}
 use Rattle.sheet.specs.declared.Found.{Found}
 use Rattle.sheet.specs.declared.Found.the-variants.{Present, Absent}
 use Rattle.sheet.specs.All.{_and_}
-use Rattle.sheet.specs.Names.{declarations, names, nodes, dataOf, chartVariables, bodyParameters, root, operator, Bool-type, Int-type, Component-type, Port-type, Timer-type, isClock, isLiteral, chartParameter, chartVariable, bodyVariable}
+use Rattle.sheet.specs.Names.{declarations, names, nodes, dataOf, bodyParameters, root, operator, Bool-type, Int-type, Component-type, Port-type, Timer-type, isClock, isLiteral, chartParameter, chartVariable, bodyVariable}
 use Rattle.sheet.specs.Sheet.{recordOf}
 use Rattle.laris.specs.declared.Value.{Value}
 use Rattle.laris.specs.declared.Out.{Out}
@@ -19,14 +19,14 @@ use Rattle.laris.specs.declared.Out.the-variants.{Val, Refused, Stuck}
 use Rattle.laris.specs.declared.Ran.{Ran}
 use Rattle.laris.specs.declared.Ran.the-variants as ran
 use Rattle.laris.specs.declared.Telegram.{Telegram}
-use Rattle.laris.specs.Fields.{isField, fieldOf, declaredSo}
+use Rattle.laris.specs.Fields.{isField, fieldOf}
 use Rattle.laris.specs.Forms.{Form, literal, read, unary, binary, clock, skip, assign, externalSend, internalSend, arm, clockAct, call, choice, loop, sequence, unknown, formOf, calledBody}
 use Rattle.laris.specs.Shape.{variablesAt, constantOf}
 use Rattle.laris.specs.Types.{variableAt, clockOf}
 use Rattle.laris.specs.Values.{fits32, isZero, inType}
 use Rattle.laris.specs.State.{Changed, on, off, lost, appended}
-use Rattle.laris.specs.Eval.{Context, andThen, needs, onRecord, intOut, quotient, remainder, dividing, notVal, intVal, binaryVal, literalValue, within, ofType, bodyWords, parameterVal, readAs, readVal, clockVal, evalIn, evalStep, evalF, evalOf}
-use Rattle.laris.specs.Run.{World, goOn, thenOperand, withRecord, provided, Values, given, refused, stuck, before, nextValue, valuesFrom, thenValues, areOf, wordsIn, localsOf, localsThere, append, armed, clockSet, Runs, fewer, inBody, assigned, hasVariable, assignOf, nameValues, externalSendOf, internalSendOf, isVariable, armOf, clockActOf, entered, callOf, choiceOf, runIn, runStep, runF, runOf, world, openCalls}
+use Rattle.laris.specs.Eval.{Context, isVariable, andThen, needs, onRecord, intOut, quotient, remainder, dividing, notVal, intVal, binaryVal, literalValue, within, ofType, bodyWords, parameterVal, readAs, readVal, clockVal, evalIn, evalStep, evalF, evalOf}
+use Rattle.laris.specs.Run.{World, goOn, thenOperand, withRecord, provided, Values, given, refused, stuck, before, nextValue, valuesFrom, thenValues, areOf, wordsIn, localsOf, localsThere, append, armed, clockSet, Runs, fewer, inBody, assigned, hasVariable, assignOf, nameValues, externalSendOf, internalSendOf, armOf, clockActOf, entered, callOf, choiceOf, runIn, runStep, runF, runOf, world, openCalls}
 
 -- ---- expressions
 
@@ -116,7 +116,7 @@ module _ (s : List ℕ) (x : Context) (st lo : List ℤ) where
   clock-in : (op n l : ℕ) → Within (suc l) (clockVal s x st lo op n l)
   unfolding clockVal
   clock-in op n l =
-      needs-in (ltb n (chartVariables (x .chart) .count) and declaredSo s (chartVariables (x .chart) .first + n) isClock) _ (suc l)
+      needs-in (isVariable s x n isClock) _ (suc l)
       (either (eqb op 17) _ _ (suc l) (within-in s _ l) (within-in s _ l))
 
   module _ (f : ℕ → ℕ → Out) (h : (n l : ℕ) → Within l (f n l)) where

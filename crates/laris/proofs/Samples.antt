@@ -17,8 +17,8 @@ use Rattle.laris.specs.Check.{nodesShape, sectionsShape, shape, checkOf,
 use Rattle.laris.specs.Values.{fits32, isBelow, recordBy, isZero, membersOf, inType, defaultOf, hasDefault, isBound, bindingOf, chartOf, firstCell}
 use Rattle.laris.specs.State.{cellAt, placeAt, stateLength, wordOf, waiting, setWaiting, telegramIn, telegramOf, putWords, withTelegram, appended, withoutTelegram}
 use Rattle.laris.specs.Valid.{dataFit, nameFits, reactionAwaits, zeroWords, runningClock, clockCell, cellFits, elementFits, internalFits, externalFits, telegramFits, headFits, cellsFit, waitingFit, unusedZero, contentFits}
-use Rattle.laris.specs.Eval.{val, andThen, needs, onRecord, intOut, quotient, remainder, dividing, notVal, intVal, binaryVal, literalValue, within, ofType, parameterVal, variableAtCell, readAs, readVal, clockWord, clockVal, evalIn, evalStep, evalF, evalOf}
-use Rattle.laris.specs.Run.{goOn, thenOperand, withRecord, provided, before, nextValue, valuesFrom, thenValues, areOf, wordsIn, localAt, listFrom, localsOf, localsThere, append, armed, clockSet, fewer, assigned, hasVariable, assignOf, nameValues, externalSendOf, internalSendOf, isVariable, armOf, clockActOf, entered, callOf, choiceOf, runIn, runStep, runF, runOf}
+use Rattle.laris.specs.Eval.{val, isVariable, andThen, needs, onRecord, intOut, quotient, remainder, dividing, notVal, intVal, binaryVal, literalValue, within, ofType, parameterVal, variableAtCell, readAs, readVal, clockWord, clockVal, evalIn, evalStep, evalF, evalOf}
+use Rattle.laris.specs.Run.{goOn, thenOperand, withRecord, provided, before, nextValue, valuesFrom, thenValues, areOf, wordsIn, localAt, listFrom, localsOf, localsThere, append, armed, clockSet, fewer, assigned, hasVariable, assignOf, nameValues, externalSendOf, internalSendOf, armOf, clockActOf, entered, callOf, choiceOf, runIn, runStep, runF, runOf}
 use Rattle.laris.specs.Play.{Outcome, ended, stuck, answer, limitOf, bodyFrom, bodyWhere, ranBody, elementBody, alone, eventEnd, defaultCell, defaultCells, elementCells, cellsFrom, defaultState, hasHead, elementThere, elementsThere, startNext, startFrom, started, oldestFrom, oldest, taking, sameDeclared, brought, reacting, panicking, withNumber, outside, bodiesThere, received, delivered, deliver, corrupt, inner, thenSlice, fires, ticks, slicedCell, slicedVariable, slicedCells, slicedElement, slicedFrom, changeEnd, slice, restZero, wellFormed, isEvent, happens, ifPassed, startCall, eventCall}
 use Rattle.laris.specs.declared.Out.{Out}
 use Rattle.laris.specs.declared.Out.the-variants.{Val, Refused}

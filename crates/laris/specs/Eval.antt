@@ -126,6 +126,10 @@ pub record Context : Type 0 where
   pub binding : Record
   pub body : Record
 
+-- variable n of the element's chart is there, and its type meets a test
+unfoldable pub isVariable : List ℕ → Context → ℕ → (ℕ → Bool) → Bool
+isVariable s x n p = ltb n (chartVariables (x .chart) .count) and declaredSo s (chartVariables (x .chart) .first + n) p
+
 -- a value of a type, where a type is needed
 unfoldable pub ofType : ℕ → Value → Out → Out
 ofType t x o = needs (eqb (x .kind) t) o
@@ -164,7 +168,7 @@ module _ (s : List ℕ) (x : Context) (st lo : List ℤ) where
 
   unfoldable pub clockVal : ℕ → ℕ → ℕ → Out
   clockVal op n l =
-      needs (ltb n (chartVariables (x .chart) .count) and declaredSo s (chartVariables (x .chart) .first + n) isClock)
+      needs (isVariable s x n isClock)
       (elim (eqb op 17) [ true ↦ within s (val Bool-type (wordOf st (variableAtCell n))) l | false ↦ within s (val Int-type (clockWord n)) l ])
 
   -- ---- a node

@@ -11,7 +11,7 @@ use Rattle.sheet.specs.declared.Found.{Found}
 use Rattle.sheet.specs.declared.Found.the-variants.{Present, Absent}
 use Rattle.sheet.specs.All.{_and_, allBelow}
 use Rattle.sheet.specs.Names
-use Rattle.sheet.specs.Names.{names, nodes, dataOf, chartVariables, bodyParameters, bodyLocals, root, operator, Bool-type, Int-type, Component-type, Port-type, Timer-type, Timeout-type, isClock}
+use Rattle.sheet.specs.Names.{names, nodes, dataOf, bodyParameters, bodyLocals, root, operator, Bool-type, Int-type, Component-type, Port-type, Timer-type, Timeout-type, isClock}
 use Rattle.sheet.specs.Sheet.{recordOf}
 use Rattle.laris.specs.declared.Value.{Value}
 use Rattle.laris.specs.declared.Out.{Out}
@@ -25,7 +25,7 @@ use Rattle.laris.specs.Shape.{variablesAt}
 use Rattle.laris.specs.Types.{variableAt, clockOf}
 use Rattle.laris.specs.Values.{isZero, defaultOf, hasDefault}
 use Rattle.laris.specs.State.{on, off, lost, putWords, appended}
-use Rattle.laris.specs.Eval.{Context, bodyWords, variableAtCell, evalOf}
+use Rattle.laris.specs.Eval.{Context, isVariable, bodyWords, variableAtCell, evalOf}
 
 -- how a statement ended, and the state and the body's variables then
 pub record World : Type 0 where
@@ -196,25 +196,21 @@ module _ (s : List ℕ) (x : Context) where
       provided (areOf s (dataOf n .first) vs) st lo
       (append s (telegram (pos (x .element)) (pos (x .element)) (negsuc 0) (r .f3) (wordsIn vs)) l st lo)))
 
-  -- variable n of the element's chart is there, and its type meets a test
-  unfoldable pub isVariable : ℕ → (ℕ → Bool) → Bool
-  isVariable n p = ltb n (chartVariables (x .chart) .count) and declaredSo s (chartVariables (x .chart) .first + n) p
-
   -- 36 arms a Timeout, 37 a Cycler
   unfoldable pub armOf : Record → ℕ → List ℤ → List ℤ → World
   armOf r l st lo =
       thenOperand (evalOf s x st lo (r .f2) l) st lo (λ period l.
       withRecord (recordOf s names (r .f3)) st lo (λ n.
       thenValues (nameValues n r l st lo) st lo (λ vs l.
-      provided (isVariable (r .f1) (eqb (clockOf (operator r))) and eqb (period .kind) Int-type and areOf s (dataOf n .first) vs) st lo
+      provided (isVariable s x (r .f1) (eqb (clockOf (operator r))) and eqb (period .kind) Int-type and areOf s (dataOf n .first) vs) st lo
       (armed (variableAtCell s x st lo (r .f1)) (clockOf (operator r)) (period .word) (r .f3) (wordsIn vs) l st lo))))
 
   -- 38 start Timer, 39 stop any clock
   unfoldable pub clockActOf : Record → ℕ → List ℤ → List ℤ → World
   clockActOf r l st lo =
       elim (eqb (operator r) 38) [
-        | true ↦ provided (isVariable (r .f1) (eqb Timer-type)) st lo (clockSet (variableAtCell s x st lo (r .f1)) (pos 1) l st lo)
-        | false ↦ provided (isVariable (r .f1) isClock) st lo (clockSet (variableAtCell s x st lo (r .f1)) (pos 0) l st lo)
+        | true ↦ provided (isVariable s x (r .f1) (eqb Timer-type)) st lo (clockSet (variableAtCell s x st lo (r .f1)) (pos 1) l st lo)
+        | false ↦ provided (isVariable s x (r .f1) isClock) st lo (clockSet (variableAtCell s x st lo (r .f1)) (pos 0) l st lo)
       ]
 
   -- "a 17th open call": 9. The called body has variables of its own

@@ -27,9 +27,9 @@ use Rattle.laris.specs.Shape.{variablesAt, sendShape, fieldsShape, treeShape}
 use Rattle.laris.specs.Types.{isOf, isStatement, variableAt, hasClass, internalName, chartVariableType, nameRange, parametersOf, clockOf, dataMatch, lowerType, typeIn, typeOf, assignType, externalType, internalType, armType, clockActType, callType, choiceType, loopType, sequenceType}
 use Rattle.laris.specs.Values.{isZero, firstCell}
 use Rattle.laris.specs.State.{cellAt}
-use Rattle.laris.specs.Eval.{Context, variableAtCell, evalOf}
+use Rattle.laris.specs.Eval.{Context, isVariable, variableAtCell, evalOf}
 use Rattle.laris.specs.Run as run
-use Rattle.laris.specs.Run.{World, world, thenRun, thenOperand, withRecord, provided, Values, nextValue, valuesFrom, thenValues, areOf, wordsIn, telegram, append, armed, clockSet, assigned, assignOf, nameValues, externalSendOf, internalSendOf, isVariable, armOf, clockActOf, entered, callOf, choiceOf, runIn, runOf}
+use Rattle.laris.specs.Run.{World, world, thenRun, thenOperand, withRecord, provided, Values, nextValue, valuesFrom, thenValues, areOf, wordsIn, telegram, append, armed, clockSet, assigned, assignOf, nameValues, externalSendOf, internalSendOf, armOf, clockActOf, entered, callOf, choiceOf, runIn, runOf}
 use Rattle.laris.proofs.Fields.{holds-present, number-present}
 use Rattle.laris.proofs.Types.{lower-type}
 use Rattle.equations.proofs.Left.{ValuesWithin, values-left}

@@ -28,7 +28,7 @@ use Rattle.laris.specs.Static.{constantStatic, constantsStatic, bindingStatic}
 use Rattle.laris.specs.Values.{fits32, isBelow, isZero, inType, isBound, firstCell}
 use Rattle.laris.specs.State.{cellAt, wordOf}
 use Rattle.laris.specs.Valid.{zeroWords, runningClock, clockCell, cellFits}
-use Rattle.laris.specs.Eval.{needs, onRecord, val, notVal, literalValue, within, ofType, Context, onType, bodyWords, parameterVal, variableAtCell, readAs, readVal, clockWord, clockVal, evalIn, evalOf}
+use Rattle.laris.specs.Eval.{needs, onRecord, val, notVal, literalValue, within, ofType, Context, isVariable, onType, bodyWords, parameterVal, variableAtCell, readAs, readVal, clockWord, clockVal, evalIn, evalOf}
 use Rattle.laris.specs.Check.{checkOf}
 use Rattle.laris.proofs.Fields.{holds-present}
 use Rattle.laris.proofs.Types.{type-step, lower-type}
@@ -152,7 +152,7 @@ module _ (s : List ℕ) (ok : checkOf s ≡ Passed) (x : Context) (placed : Plac
         go false q = int-in s (wordOf st (at + 1)) (and-first _ _ (and-second _ _ q))
 
   clock-gives : (op n t l : ℕ) → n < chartVariables (x .chart) .count → isClock (typeAt s (chartVariables (x .chart) .first + n)) ≡ true → elim (eqb op 17) [ true ↦ Bool-type | false ↦ Int-type ] ≡ t → Gives s t (clockVal s x st lo op n l)
-  unfolding clockVal
+  unfolding clockVal isVariable
   clock-gives op n t l h c e = met s t _ _ (and-true _ _ (lt-ltb _ _ h) (declared-so s _ isClock (chart-variable-declared s ok _ _ (placed .element .chart) n h) ∙ c)) (go (eqb op 17) e)
     where
       go : (b : Bool) → elim b [ true ↦ Bool-type | false ↦ Int-type ] ≡ t → Gives s t (elim b [ true ↦ within s (val Bool-type (wordOf st (variableAtCell s x st lo n))) l | false ↦ within s (val Int-type (clockWord s x st lo n)) l ])

@@ -32,8 +32,8 @@ use Rattle.laris.specs.Static.{bodyStatic}
 use Rattle.laris.specs.Values.{isZero, inType, chartOf, firstCell}
 use Rattle.laris.specs.State.{cellAt}
 use Rattle.laris.specs.Valid.{nameFits, reactionAwaits, OfSheet}
-use Rattle.laris.specs.Eval.{Context, bodyWords, variableAtCell, evalOf}
-use Rattle.laris.specs.Run.{World, valuesFrom, thenValues, areOf, wordsIn, datum, localsOf, armed, clockSet, inBody, assigned, hasVariable, assignOf, nameValues, externalSendOf, internalSendOf, isVariable, armOf, clockActOf, entered, callOf, choiceOf, runIn, runOf, openCalls}
+use Rattle.laris.specs.Eval.{Context, isVariable, bodyWords, variableAtCell, evalOf}
+use Rattle.laris.specs.Run.{World, valuesFrom, thenValues, areOf, wordsIn, datum, localsOf, armed, clockSet, inBody, assigned, hasVariable, assignOf, nameValues, externalSendOf, internalSendOf, armOf, clockActOf, entered, callOf, choiceOf, runIn, runOf, openCalls}
 use Rattle.laris.specs.Check.{checkOf}
 use Rattle.laris.proofs.Fields.{number-present}
 use Rattle.laris.proofs.Types.{lower-type}
