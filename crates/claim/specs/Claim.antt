@@ -80,7 +80,7 @@ pub record Claim (e : Engine) (s : List ℕ) (lent : List ℤ) (calls : List Cal
   -- after another start no event was played, and "its state is all zeros"
   pub refused : (first .number ≡ 0 → ⊥) → answers ≡ []
   pub zeros : (first .number ≡ 0 → ⊥) → last ≡ replicate (stateLength s) (pos 0)
-  -- no event has more steps than the limit, and start than a limit for each bound element
+  -- an event has at most as many steps as the limit, start at most a limit for each bound element
   pub within : AllWithin (limitOf s) answers
   pub startWithin : first .steps ≤ elementsOf s * limitOf s
   -- "the state is then of the sheet"

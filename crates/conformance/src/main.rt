@@ -11,7 +11,9 @@ use laris::Handed;
 use libc::STDIN_FILENO;
 use libc::STDOUT_FILENO;
 ghost use Prim.Native.Nat.{_+_, _≤_};
+ghost use mathlib.Core.Path.{_≡_};
 ghost use lib.ListN.{length};
+ghost use Rattle.laris.specs.Check.{checkNumber};
 
 // The longest sheet, state and event that it takes.
 const SHEET: usize = 70000;
