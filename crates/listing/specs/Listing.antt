@@ -5,7 +5,6 @@ use lib.IntN.{ℤ}
 use Rattle.laris.specs.declared.Telegram.{Telegram}
 use Rattle.laris.specs.declared.Handed.{Handed}
 use Rattle.laris.specs.declared.Handed.the-variants.{Nothing, Outside}
-use Rattle.laris.specs.declared.Answer.{Answer}
 use Rattle.text.specs.Decimal.{decimal, signed}
 
 abbrev pub space : List ℕ
@@ -36,5 +35,5 @@ unfoldable pub startLine : ℕ → ℕ → List ℕ
 startLine number steps = (115 ∷ 116 ∷ 97 ∷ 114 ∷ 116 ∷ 32 ∷ []) ++ countsText number steps ++ newline
 
 -- "then for each event its number from 1, answer and steps, and after "to" the receiver, port, name and four data handed outside"
-unfoldable pub eventLine : ℕ → Answer → List ℕ
-eventLine k a = decimal k ++ space ++ countsText (a .number) (a .steps) ++ handedText (a .handed) ++ newline
+unfoldable pub eventLine : ℕ → ℤ → ℤ → Handed → List ℕ
+eventLine k number steps h = decimal k ++ afterText 32 number ++ afterText 32 steps ++ handedText h ++ newline

@@ -1,5 +1,4 @@
 // Answers as text in a buffer, for the programs that print them.
-use laris::Answer;
 use laris::Handed;
 use laris::Telegram;
 ghost use Prim.Native.Nat.{_+_, _≤_};
@@ -60,14 +59,14 @@ pub fn put_start(out: &mut [u8], at: usize, number: u8, steps: u32) -> usize
     text::put(out, b, b'\n')
 }
 
-pub fn put_event(out: &mut [u8], at: usize, k: u64, a: Answer) -> usize
-    requires { ⌜ at + 220 ≤ length (now out) ⌝ }
-    ensures { λ r. ⌜ Put (now (out .entry)) at (eventLine k a) (now (out .exit)) r × (r ≤ at + 220) ⌝ }
+// An event's line, from the words of its answer.
+pub fn put_event(out: &mut [u8], at: usize, k: u64, number: i32, steps: i32, h: Handed) -> usize
+    requires { ⌜ at + 222 ≤ length (now out) ⌝ }
+    ensures { λ r. ⌜ Put (now (out .entry)) at (eventLine k number steps h) (now (out .exit)) r × (r ≤ at + 222) ⌝ }
 {
     let b = text::put_decimal(out, at, k);
-    let c = text::put(out, b, b' ');
-    let d = put_counts(out, c, a.number, a.steps);
-    let h = a.handed;
+    let c = put_after(out, b, b' ', number);
+    let d = put_after(out, c, b' ', steps);
     let e = put_handed(out, d, h);
     text::put(out, e, b'\n')
 }

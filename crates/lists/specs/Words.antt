@@ -1,11 +1,14 @@
 -- Events and answers of a list in words.
 use Prim.Native.Nat.{ℕ, zero, suc, _*_, _/_}
 use mathlib.Core.List.{List, [], _∷_, _++_}
+use mathlib.Core.Bool.{true, false}
 use lib.ListN.{length, take, drop, replicate}
 use lib.IntN.{ℤ, pos}
 use Rattle.laris.specs.declared.Handed.{Handed}
 use Rattle.laris.specs.declared.Handed.the-variants.{Nothing, Outside}
 use Rattle.laris.specs.declared.Answer.{Answer}
+use Rattle.laris.specs.Values.{isZero}
+use Rattle.laris.specs.State.{wordOf, telegramIn}
 use Rattle.laris.specs.Lists.{Played, played, nowhere}
 
 -- ---- events: "An event is nine words"
@@ -27,6 +30,10 @@ eventsIn ws = eventsFrom ws (length ws / 9) 0
 unfoldable pub handedWords : Handed → List ℤ
 handedWords Nothing = replicate 8 (pos 0)
 handedWords (Outside t) = pos 1 ∷ t .receiver ∷ t .port ∷ t .name ∷ t .d0 ∷ t .d1 ∷ t .d2 ∷ t .d3 ∷ []
+
+-- read again from those words: 1 stands where a telegram has its sender
+abbrev pub handedIn : List ℤ → ℕ → Handed
+handedIn ws at = elim (isZero (wordOf ws at)) [ true ↦ Nothing | false ↦ Outside (telegramIn ws at) ]
 
 -- ten words
 abbrev pub answerWords : Answer → List ℤ

@@ -12,7 +12,7 @@ ghost use Rattle.laris.specs.State.{putWords};
 ghost use Rattle.laris.specs.Check.{checkOf};
 ghost use Rattle.laris.specs.Lists.{eventsOf};
 ghost use Rattle.turns.specs.Playing.{Playing};
-ghost use Rattle.lists.specs.Words.{eventsIn, answerWords, written, inWords};
+ghost use Rattle.lists.specs.Words.{eventsIn, answerWords, handedIn, written, inWords};
 ghost use Rattle.lists.specs.ListCall.{listed, listCall};
 
 // An answer in ten words.
@@ -38,6 +38,17 @@ fn put_answer(answers: &mut [i32], at: usize, a: Answer)
             t.d3,
         ),
     }
+}
+
+// What an answer handed outside, by the eight words behind its number and steps.
+pub fn handed_at(answers: &[i32], at: usize) -> Handed
+    requires { ⌜ at + 8 ≤ length (now answers) ⌝ }
+    ensures { λ h. ⌜ h ≡ handedIn (now (answers .entry)) at ⌝ }
+{
+    if answers[at] == 0 {
+        return Handed::Nothing;
+    }
+    Handed::Outside(store::telegram_in(answers, at))
 }
 
 // Plays events, nine words each, on from a state of the sheet, which becomes the one that the list

@@ -13,7 +13,24 @@ ghost use Rattle.laris.specs.Check.{checkOf};
 ghost use Rattle.turns.specs.Playing.{Playing};
 ghost use Rattle.runs.specs.Start.{StartAnswers};
 
-// Plays `count` events, before which `done` were played.
+// Lists `count` answers of ten words each, before which `done` were listed.
+fn list_events(answers: &[i32], count: usize, done: u64, out: &mut [u8], from: usize) -> usize
+    requires { ⌜ (10 * count ≤ length (now answers)) × (done + count < 18446744073709551616) × (length (now out) ≡ 32768) × (from + 222 ≤ 32768) ⌝ }
+    ensures { λ r. ⌜ r + 222 ≤ 32768 ⌝ }
+{
+    let mut at = from;
+    let mut i: usize = 0;
+    while i < count {
+        let k = 10 * i;
+        let h = lists::handed_at(answers, k + 2);
+        let end = listing::put_event(out, at, done + i as u64 + 1, answers[k], answers[k + 1], h);
+        at = text::with_room(STDOUT_FILENO, out, end, 222);
+        i += 1;
+    }
+    at
+}
+
+// Plays `count` events, before which `done` were played, and lists their answers.
 fn round(
     sheet: &[u8],
     directory: &[usize; 16],
@@ -25,20 +42,16 @@ fn round(
     out: &mut [u8],
     from: usize,
 ) -> usize
-    requires { ⌜ Playing (now sheet) (now directory) (now st) × (length (now spare) ≡ length (now st)) × (36 * count ≤ length (now events)) × (done + count < 18446744073709551616) × (length (now out) ≡ 32768) × (from + 220 ≤ 32768) ⌝ }
-    ensures { λ r. ⌜ Playing (now (sheet .entry)) (now (directory .entry)) (now (st .exit)) × (r + 220 ≤ 32768) ⌝ }
+    requires { ⌜ Playing (now sheet) (now directory) (now st) × (length (now spare) ≡ length (now st)) × (36 * count ≤ length (now events)) × (count ≤ 1000) × (done + count < 18446744073709551616) × (length (now out) ≡ 32768) × (from + 222 ≤ 32768) ⌝ }
+    ensures { λ r. ⌜ Playing (now (sheet .entry)) (now (directory .entry)) (now (st .exit)) × (r + 222 ≤ 32768) ⌝ }
 {
-    let mut ev = [0i32; 9];
-    let mut at = from;
-    let mut i: usize = 0;
-    while i < count {
-        words::words(events, 36 * i, &mut ev);
-        let a = engine::next(sheet, directory, st, spare, &ev);
-        let end = listing::put_event(out, at, done + i as u64 + 1, a);
-        at = text::with_room(STDOUT_FILENO, out, end, 220);
-        i += 1;
-    }
-    at
+    let mut words = [0i32; 9000];
+    let mut answers = [0i32; 10000];
+    let n = 9 * count;
+    let m = 10 * count;
+    words::words(events, 0, &mut words[..n]);
+    lists::play_on(sheet, directory, &words[..n], st, spare, &mut answers[..m]);
+    list_events(&answers, count, done, out, from)
 }
 
 // Reads a thousand events, or `left` where these are fewer, and gives how many came whole: fewer only
@@ -64,7 +77,7 @@ fn play_events(
     from: usize,
     most: u64,
 ) -> usize
-    requires { ⌜ Playing (now sheet) (now directory) (now st) × (length (now spare) ≡ length (now st)) × (length (now out) ≡ 32768) × (from + 220 ≤ 32768) ⌝ }
+    requires { ⌜ Playing (now sheet) (now directory) (now st) × (length (now spare) ≡ length (now st)) × (length (now out) ≡ 32768) × (from + 222 ≤ 32768) ⌝ }
     ensures { λ r. ⌜ r ≤ 32768 ⌝ }
 {
     let mut events = [0u8; 36000];
