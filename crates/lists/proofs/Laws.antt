@@ -19,13 +19,14 @@ use Rattle.laris.specs.declared.Handed.{Handed}
 use Rattle.laris.specs.declared.Handed.the-variants.{Nothing, Outside}
 use Rattle.laris.specs.declared.Answer.{Answer}
 use Rattle.laris.specs.Fields.{numberOr0}
-use Rattle.laris.specs.State.{putWords}
+use Rattle.laris.specs.Values.{isZero}
+use Rattle.laris.specs.State.{wordOf, telegramIn, putWords}
 use Rattle.laris.specs.Play.{limitOf}
 use Rattle.laris.specs.Lists.{Played, played, nowhere, thenPlayed, afterAnswer, goesOn, eventsOf, EventGives}
 use Rattle.turns.specs.Playing.{Playing}
 use Rattle.claim.proofs.Limit.{event-within}
 use Rattle.claim.proofs.Kept.{goes-on-is}
-use Rattle.lists.specs.Words.{eventAt, eventsFrom, handedWords, answerWords, answersWords, Written, written, unwritten, inWords}
+use Rattle.lists.specs.Words.{eventAt, eventsFrom, handedWords, handedIn, answerWords, answersWords, Written, written, unwritten, inWords}
 
 -- ---- steps fit a word
 
@@ -144,3 +145,12 @@ module _ (s d : List ℕ) (events : List ℤ) where
       let n : count - i ≡ 0 = omega arith in
       let whole : take (10 * i) answers ≡ answers = take-all (10 * i) answers (omega arith) in
       sym (h ∙ ap (λ n. behind (take (10 * i) answers) (inWords (eventsOf s st (eventsFrom events n i)))) n ∙ ap (λ ws. written ws st) (append-nil (take (10 * i) answers) ∙ whole))
+
+-- ---- what was handed outside, by an answer's words
+
+module _ (ws : List ℤ) (at : ℕ) where
+  pub handed-none : isZero (wordOf ws at) ≡ true → handedIn ws at ≡ Nothing
+  handed-none h = ap (λ b. elim b as (λ b. Handed) [ true ↦ Nothing | false ↦ Outside (telegramIn ws at) ]) h
+
+  pub handed-one : isZero (wordOf ws at) ≡ false → handedIn ws at ≡ Outside (telegramIn ws at)
+  handed-one h = ap (λ b. elim b as (λ b. Handed) [ true ↦ Nothing | false ↦ Outside (telegramIn ws at) ]) h

@@ -45,7 +45,7 @@ pub fn handed_at(answers: &[i32], at: usize) -> Handed
     requires { ⌜ at + 8 ≤ length (now answers) ⌝ }
     ensures { λ h. ⌜ h ≡ handedIn (now (answers .entry)) at ⌝ }
 {
-    if answers[at] == 0 {
+    if tests::zero_at(answers, at) {
         return Handed::Nothing;
     }
     Handed::Outside(store::telegram_in(answers, at))

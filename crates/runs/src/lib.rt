@@ -30,7 +30,8 @@ fn list_events(answers: &[i32], count: usize, done: u64, out: &mut [u8], from: u
     at
 }
 
-// Plays `count` events, before which `done` were played, and lists their answers.
+// Plays `count` events, before which `done` were played, and lists their answers. `words` and
+// `answers` are room for a thousand events and their answers in words.
 fn round(
     sheet: &[u8],
     directory: &[usize; 16],
@@ -38,20 +39,20 @@ fn round(
     spare: &mut [i32],
     events: &[u8],
     count: usize,
+    words: &mut [i32],
+    answers: &mut [i32],
     done: u64,
     out: &mut [u8],
     from: usize,
 ) -> usize
-    requires { ⌜ Playing (now sheet) (now directory) (now st) × (length (now spare) ≡ length (now st)) × (36 * count ≤ length (now events)) × (count ≤ 1000) × (done + count < 18446744073709551616) × (length (now out) ≡ 32768) × (from + 222 ≤ 32768) ⌝ }
+    requires { ⌜ Playing (now sheet) (now directory) (now st) × (length (now spare) ≡ length (now st)) × (36 * count ≤ length (now events)) × (count ≤ 1000) × (length (now words) ≡ 9000) × (length (now answers) ≡ 10000) × (done + count < 18446744073709551616) × (length (now out) ≡ 32768) × (from + 222 ≤ 32768) ⌝ }
     ensures { λ r. ⌜ Playing (now (sheet .entry)) (now (directory .entry)) (now (st .exit)) × (r + 222 ≤ 32768) ⌝ }
 {
-    let mut words = [0i32; 9000];
-    let mut answers = [0i32; 10000];
     let n = 9 * count;
     let m = 10 * count;
     words::words(events, 0, &mut words[..n]);
     lists::play_on(sheet, directory, &words[..n], st, spare, &mut answers[..m]);
-    list_events(&answers, count, done, out, from)
+    list_events(answers, count, done, out, from)
 }
 
 // Reads a thousand events, or `left` where these are fewer, and gives how many came whole: fewer only
@@ -81,11 +82,25 @@ fn play_events(
     ensures { λ r. ⌜ r ≤ 32768 ⌝ }
 {
     let mut events = [0u8; 36000];
+    let mut words = [0i32; 9000];
+    let mut answers = [0i32; 10000];
     let mut at = from;
     let mut done: u64 = 0;
     while done < most {
         let count = read_events(&mut events, most - done);
-        at = round(sheet, directory, st, spare, &events, count, done, out, at);
+        at = round(
+            sheet,
+            directory,
+            st,
+            spare,
+            &events,
+            count,
+            &mut words,
+            &mut answers,
+            done,
+            out,
+            at,
+        );
         if count < 1000 {
             return at;
         }

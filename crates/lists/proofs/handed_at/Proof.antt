@@ -1,30 +1,21 @@
+use mathlib.Core.Path.{sym, ap, _∙_}
 use borrow.Author.Needs.{needs}
+use Rattle.laris.specs.declared.Handed.the-variants.{Outside}
+use Rattle.lists.proofs.Laws.{handed-none, handed-one}
 use Rattle.lists.proofs.handed_at.Statement.{statement}
 use Rattle.lists.proofs.handed_at.Tie as tie
-use Rattle.lists.proofs.handed_at.Reads as reads
-use Rattle.lists.proofs.handed_at.Lts as lts
-use Rattle.store.proofs.telegram_in.Reads as telegram-in-reads
 
--- src/lib.rt:48:8
-mul-if1 : tie.Need-mul-if1
-mul-if1 c = search needs
+zero-at-requires : tie.Need-zero-at-requires
+zero-at-requires c κs = search needs
 
--- src/lib.rt:48:8
-shared-slice-copy-out-if1 : tie.Need-shared-slice-copy-out-if1
-shared-slice-copy-out-if1 c = search needs
-
--- src/lib.rt:49:9
 returns : tie.Need-returns
-returns c = ?
+returns c = sym (handed-none _ _ (sym (c .before .zero-at .ensures) ∙ c .if1 .taken))
 
--- src/lib.rt:51:21
 telegram-in-requires : tie.Need-telegram-in-requires
 telegram-in-requires c κs = search needs
 
--- src/lib.rt:44:1
 returns-2 : tie.Need-returns-2
-returns-2 c = ?
+returns-2 c = ap Outside (c .telegram-in .ensures) ∙ sym (handed-one _ _ (sym (c .before .before .zero-at .ensures) ∙ c .before .if1 .left))
 
 pub handed-at-spec : {M : Type 1} → statement M
-handed-at-spec =
-    tie.close (tie.spec mul-if1 shared-slice-copy-out-if1 returns telegram-in-requires returns-2)
+handed-at-spec = tie.close (tie.spec zero-at-requires returns telegram-in-requires returns-2)

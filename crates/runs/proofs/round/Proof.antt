@@ -1,90 +1,79 @@
-use Prim.Native.Nat.{_+_, _-_, _≤_}
-use mathlib.Core.Path.{_≡_, refl, sym, _∙_}
-use native.Mathlib.Omega.{arith}
-use lib.ListN.{length}
+use mathlib.Core.Path.{sym}
+use lib.Seq.{length-take-le}
 use borrow.Author.Needs.{needs}
-use Rattle.turns.specs.Playing.{Playing}
-use Rattle.claim.proofs.Kept.{goes-on}
+use Rattle.runs.proofs.Room.{words-room, answers-room}
 use Rattle.runs.proofs.round.Statement.{statement}
 use Rattle.runs.proofs.round.Tie as tie
 
-abbrev Inv-loop : tie.InvT-loop
-Inv-loop sheet directory st₀ spare₀ events count done out₀ from ev₀ at₀ i₀ st spare out ev at i = Playing sheet directory st × (length st ≡ length st₀) × (length spare ≡ length spare₀) × (length out ≡ length out₀) × (at + 220 ≤ 32768) × (i ≤ count) × (length ev ≡ 9)
+mul-n : tie.Need-mul-n
+mul-n c = search needs
 
-abbrev μ-loop : tie.MeasureT-loop
-μ-loop sheet directory st₀ spare₀ events count done out₀ from ev₀ at₀ i₀ st spare out ev at i = count - i
+mul-m : tie.Need-mul-m
+mul-m c = search needs
 
-loop-holds : tie.Need-loop-holds Inv-loop μ-loop
-loop-holds c = (c .before .before .before .pre .0, refl, refl, refl, c .before .before .before .pre .5, omega arith, refl)
+slice-relend-prefix-words : tie.Need-slice-relend-prefix-words
+slice-relend-prefix-words c = search needs
 
-mul-words : tie.Need-mul-words Inv-loop μ-loop
-mul-words c = let l = c .loop-test .taken in let p = c .before .before .before .before .before .pre .2 in search needs
+slice-aggregate-words : tie.Need-slice-aggregate-words
+slice-aggregate-words c = sym (length-take-le _ _ (slice-relend-prefix-words (c .before)))
 
-slice-aggregate-words : tie.Need-slice-aggregate-words Inv-loop μ-loop
-slice-aggregate-words c = search needs
+words-requires : tie.Need-words-requires
+words-requires c κs = words-room _ _ _ (c .before .before .before .before .pre .4) (c .before .before .before .before .pre .3) (c .before .before .before .before .pre .2)
 
-words-requires : tie.Need-words-requires Inv-loop μ-loop
-words-requires c κs = let l = c .before .loop-test .taken in let p = c .before .before .before .before .before .before .pre .2 in let e = c .before .before .loop .inv .6 in omega arith
+slice-reshare-prefix-play-on : tie.Need-slice-reshare-prefix-play-on
+slice-reshare-prefix-play-on c = search needs
 
-slice-aggregate-next : tie.Need-slice-aggregate-next Inv-loop μ-loop
-slice-aggregate-next c = search needs
+slice-aggregate-play-on : tie.Need-slice-aggregate-play-on
+slice-aggregate-play-on c = sym (length-take-le _ _ (slice-reshare-prefix-play-on (c .before)))
 
-next-requires : tie.Need-next-requires Inv-loop μ-loop
-next-requires c κs = (c .before .before .before .before .before .before .before .loop .inv .0, c .before .before .before .before .before .before .before .loop .inv .2 ∙ c .before .before .before .before .before .before .before .before .before .before .before .pre .1 ∙ sym (c .before .before .before .before .before .before .before .loop .inv .1))
+slice-relend-prefix-play-on : tie.Need-slice-relend-prefix-play-on
+slice-relend-prefix-play-on c = search needs
 
-add-put-event : tie.Need-add-put-event Inv-loop μ-loop
-add-put-event c = search needs
+slice-aggregate-play-on-2 : tie.Need-slice-aggregate-play-on-2
+slice-aggregate-play-on-2 c = sym (length-take-le _ _ (slice-relend-prefix-play-on (c .before)))
 
-add-put-event-2 : tie.Need-add-put-event-2 Inv-loop μ-loop
-add-put-event-2 c = search needs
+play-on-requires : tie.Need-play-on-requires
+play-on-requires c κs = (c .before .before .before .before .before .before .before .before .before .before .pre .0, c .before .before .before .before .before .before .before .before .before .before .pre .1, answers-room _ _ _ (slice-reshare-prefix-play-on (c .before .before .before .before)) (slice-relend-prefix-play-on (c .before)))
 
-put-event-requires : tie.Need-put-event-requires Inv-loop μ-loop
-put-event-requires c κs = let a = c .before .before .before .before .before .before .before .before .before .before .before .loop .inv .4 in let o = c .before .before .before .before .before .before .before .before .before .before .before .loop .inv .3 in let q = c .before .before .before .before .before .before .before .before .before .before .before .before .before .before .before .pre .4 in omega arith
+list-events-requires : tie.Need-list-events-requires
+list-events-requires c κs = search needs
 
-with-room-requires : tie.Need-with-room-requires Inv-loop μ-loop
-with-room-requires c κs = let a = c .before .before .before .before .before .before .before .before .before .before .before .before .before .before .before .loop .inv .4 in let o = c .before .before .before .before .before .before .before .before .before .before .before .before .before .before .before .loop .inv .3 in let q = c .before .before .before .before .before .before .before .before .before .before .before .before .before .before .before .before .before .before .before .pre .4 in let k = c .before .before .before .put-event .kept .0 in let l = c .before .before .before .put-event .ensures .1 in (omega arith, omega arith)
-
-add-i : tie.Need-add-i Inv-loop μ-loop
-add-i c = search needs
-
-loop-less : tie.Need-loop-less Inv-loop μ-loop
-loop-less c = let l = c .before .before .before .before .before .before .before .before .before .before .before .before .before .before .before .loop-test .taken in omega arith
-
-loop-again : tie.Need-loop-again Inv-loop μ-loop
-loop-again c = let l = c .before .before .before .before .before .before .before .before .before .before .before .before .before .before .before .loop-test .taken in (goes-on (c .before .before .before .before .before .before .before .before .before .before .before .before .before .before .before .before .before .before .before .before .args .sheet .now) (c .before .before .before .before .before .before .before .before .before .before .before .before .before .before .before .before .before .before .before .before .args .directory .now) (c .before .before .before .before .before .before .before .before .before .before .before .before .before .before .before .before .loop .st) (c .before .before .before .before .before .before .before .before .before .before .before .before .before .words .last .1 .1 .0) (c .before .before .before .before .before .before .before .before .next .result) (c .before .before .before .before .before .before .before .before .next .last .1 .1 .0) (c .before .before .before .before .before .before .before .before .before .before .before .before .before .before .before .before .loop .inv .0) (c .before .before .before .before .before .before .before .before .next .ensures), c .before .before .before .before .before .before .before .before .next .kept .1 .1 .0 ∙ c .before .before .before .before .before .before .before .before .before .before .before .before .before .before .before .before .loop .inv .1, c .before .before .before .before .before .before .before .before .next .kept .1 .1 .1 .0 ∙ c .before .before .before .before .before .before .before .before .before .before .before .before .before .before .before .before .loop .inv .2, c .before .before .before .before .put-event .kept .0 ∙ c .before .before .before .before .before .before .before .before .before .before .before .before .before .before .before .before .loop .inv .3, (let r = c .with-room .ensures .1 in let k = c .before .before .before .before .put-event .kept .0 in let o = c .before .before .before .before .before .before .before .before .before .before .before .before .before .before .before .before .loop .inv .3 in let q = c .before .before .before .before .before .before .before .before .before .before .before .before .before .before .before .before .before .before .before .before .pre .4 in omega arith), omega arith, c .before .before .before .before .before .before .before .before .before .before .before .before .before .words .kept .1 .1 .0 ∙ c .before .before .before .before .before .before .before .before .before .before .before .before .before .before .before .before .loop .inv .6)
-
-same-length : tie.Need-same-length Inv-loop μ-loop
+same-length : tie.Need-same-length
 same-length c = search needs
 
-same-length-2 : tie.Need-same-length-2 Inv-loop μ-loop
+same-length-2 : tie.Need-same-length-2
 same-length-2 c = search needs
 
-same-length-3 : tie.Need-same-length-3 Inv-loop μ-loop
+same-length-3 : tie.Need-same-length-3
 same-length-3 c = search needs
 
-returns : tie.Need-returns Inv-loop μ-loop
-returns c = (c .before .loop .inv .0, c .before .loop .inv .4)
+same-length-4 : tie.Need-same-length-4
+same-length-4 c = search needs
+
+same-length-5 : tie.Need-same-length-5
+same-length-5 c = search needs
+
+returns : tie.Need-returns
+returns c = search needs
 
 pub round-spec : {M : Type 1} → statement M
 round-spec =
     tie.close
     (tie.spec
-    Inv-loop
-    μ-loop
-    loop-holds
-    mul-words
+    mul-n
+    mul-m
+    slice-relend-prefix-words
     slice-aggregate-words
     words-requires
-    slice-aggregate-next
-    next-requires
-    add-put-event
-    add-put-event-2
-    put-event-requires
-    with-room-requires
-    add-i
-    loop-less
-    loop-again
+    slice-reshare-prefix-play-on
+    slice-aggregate-play-on
+    slice-relend-prefix-play-on
+    slice-aggregate-play-on-2
+    play-on-requires
+    list-events-requires
     same-length
     same-length-2
     same-length-3
+    same-length-4
+    same-length-5
     returns)
