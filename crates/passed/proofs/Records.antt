@@ -16,7 +16,7 @@ pub use Rattle.sheet.proofs.Sheet.{present-below}
 use Rattle.laris.specs.declared.Checked.{Checked}
 use Rattle.laris.specs.declared.Checked.the-variants.{Passed, Shape, Static}
 use Rattle.laris.specs.Fields.{holds, numberOr0, typeAt, componentsOf, externalsOf, portsOf, elementsOf}
-use Rattle.laris.specs.Shape.{headShape, enumeratedShape, typeExists, declarationShape, nameShape, chartShape, bodyShape, bindingShape, elementsBound, variablesOf, treesShape, recordShape, sectionShape, bodiesCovered}
+use Rattle.laris.specs.Shape.{headShape, enumeratedShape, typeExists, declarationShape, nameShape, chartShape, bodyShape, bindingShape, elementsBound, variablesOf, treesShape, recordShape, sectionShape}
 use Rattle.laris.specs.Static.{nameStatic, chartStatic, bindingStatic, recordStatic, sectionStatic, static}
 use Rattle.laris.specs.Check.{nodesShape, sectionsShape, shape, checkOf, checkNumber}
 use Rattle.laris.proofs.Fields.{holds-present, number-present}
@@ -65,10 +65,6 @@ module _ (s : List ℕ) (ok : checkOf s ≡ Passed) where
   sections : sectionsShape s ≡ true
   unfolding shape
   sections = and-first _ _ (and-second _ _ (and-second _ _ shaped))
-
-  pub bodies-covered : bodiesCovered s ≡ true
-  unfolding shape
-  bodies-covered = and-first _ _ (and-second _ _ (and-second _ _ (and-second _ _ shaped)))
 
   pub elements-bound : externalsOf s + countOf s bindings ≡ componentsOf s
   unfolding shape elementsBound

@@ -58,11 +58,6 @@ ranLeft (Done l) = l
 ranLeft (Refused k l) = l
 ranLeft Stuck = 0
 
-ranNumber : Ran → ℕ
-ranNumber (Done l) = 0
-ranNumber (Refused k l) = k
-ranNumber Stuck = 0
-
 pub data-given : (d : Data) (m : ℕ) → Done m ≡ ranData d → (zs : List ℤ) × (d ≡ given zs m)
 unfolding ranData ranKind ranLeft
 data-given (given zs l) m e = (zs, ap (given zs) (sym (ap ranLeft e)))
@@ -75,7 +70,7 @@ module _ (d : Data) (st lo : List ℤ) (K : List ℤ → ℕ → World) where
   on-given zs m e = ap (λ d. thenData d st lo K) (sym e)
 
 pub data-ends-refused : (d : Data) (st lo : List ℤ) (K : List ℤ → ℕ → World) (k m : ℕ) → Refused k m ≡ ranData d → world (Refused k m) st lo ≡ thenData d st lo K
-unfolding ranData ranKind ranLeft ranNumber thenData
+unfolding ranData ranKind ranLeft thenData
 data-ends-refused (given zs l) st lo K k m e = absurd (let z = ap ranKind e in omega arith)
 data-ends-refused (refused k′ l) st lo K k m e = ap (λ o. world o st lo) e
 data-ends-refused stuck st lo K k m e = absurd (let z = ap ranKind e in omega arith)
