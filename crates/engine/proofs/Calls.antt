@@ -6,18 +6,18 @@ use mathlib.Core.Bool.{true, false}
 use lib.ListN.{length}
 use lib.IntN.{ℤ}
 use Rattle.sheet.specs.Sheet.{directoryOf}
-use Rattle.laris.specs.declared.Answer.{Answer}
-use Rattle.laris.specs.declared.Checked.the-variants.{Passed, Shape, Static}
-use Rattle.laris.specs.declared.Handed.the-variants.{Nothing}
-use Rattle.laris.specs.State.{stateLength}
-use Rattle.laris.specs.Valid.{contentFits, OfSheet}
-use Rattle.laris.specs.Play.{ended, answer, isEvent, happens}
-use Rattle.laris.specs.Check.{checkOf}
-use Rattle.laris.specs.Lists.{EventGives}
-use Rattle.states.proofs.Parts.{of-content, content-of}
-use Rattle.turns.proofs.Laws.{event-shape, event-static, event-old-length, event-result-length, event-content, event-malformed, event-happens}
-use Rattle.turns.specs.Playing.{Playing}
-use Rattle.kinds.proofs.Calls.{down}
+use Rattle.machine.specs.declared.Answer.{Answer}
+use Rattle.sheet_rules.specs.declared.Checked.the-variants.{Passed, Shape, Static}
+use Rattle.machine.specs.declared.Handed.the-variants.{Nothing}
+use Rattle.machine.specs.State.{stateLength}
+use Rattle.machine.specs.Valid.{contentFits, OfSheet}
+use Rattle.machine.specs.Play.{ended, answer, isEvent, happens}
+use Rattle.sheet_rules.specs.Check.{checkOf}
+use Rattle.machine.specs.Lists.{EventGives}
+use Rattle.machine_states.proofs.Parts.{of-content, content-of}
+use Rattle.machine_events.proofs.Laws.{event-shape, event-static, event-old-length, event-result-length, event-content, event-malformed, event-happens}
+use Rattle.machine_events.specs.Playing.{Playing}
+use Rattle.engine_kinds.proofs.Calls.{down}
 
 -- ---- the next event of a list
 

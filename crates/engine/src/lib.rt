@@ -1,15 +1,15 @@
 // Plays: start, one event, and one event after another.
-use bodies::answered;
-use laris::Answer;
-use laris::Checked;
+use engine_bodies::answered;
+use machine::Answer;
+use sheet_rules::Checked;
 ghost use mathlib.Core.Path.{_≡_};
 ghost use lib.ListN.{length};
 ghost use Rattle.sheet.specs.Sheet.{directoryOf};
-ghost use Rattle.laris.specs.declared.Checked.the-variants.{Passed};
-ghost use Rattle.laris.specs.State.{stateLength};
-ghost use Rattle.laris.specs.Check.{checkOf};
-ghost use Rattle.laris.specs.Lists.{StartGives, EventGives};
-ghost use Rattle.turns.specs.Playing.{Playing};
+ghost use Rattle.sheet_rules.specs.declared.Checked.the-variants.{Passed};
+ghost use Rattle.machine.specs.State.{stateLength};
+ghost use Rattle.sheet_rules.specs.Check.{checkOf};
+ghost use Rattle.machine.specs.Lists.{StartGives, EventGives};
+ghost use Rattle.machine_events.specs.Playing.{Playing};
 
 // The next event of a list: the sheet is passed, the state is of it and becomes the state that goes
 // on; `spare` is a second state's room, used where there may be work to undo.
@@ -23,14 +23,14 @@ pub fn next(
     requires { ⌜ Playing (now sheet) (now directory) (now st) × (length (now spare) ≡ length (now st)) ⌝ }
     ensures { λ a. ⌜ EventGives (now (sheet .entry)) (now (st .entry)) (now (st .entry)) (now (ev .entry)) a (now (st .exit)) ⌝ }
 {
-    if !events::is_event(sheet, directory, ev) {
+    if !engine_valid_events::is_event(sheet, directory, ev) {
         return answered(4, 0);
     }
-    let j = kinds::sought(st, ev);
-    if kinds::may_undo(sheet, directory, st, ev, j) {
-        store::copy(st, spare);
+    let j = engine_kinds::sought(st, ev);
+    if engine_kinds::may_undo(sheet, directory, st, ev, j) {
+        engine_store::copy(st, spare);
     }
-    kinds::happened(sheet, directory, spare, st, ev, j)
+    engine_kinds::happened(sheet, directory, spare, st, ev, j)
 }
 
 // An event on any sheet, state and words.
@@ -41,7 +41,7 @@ pub fn event(sheet: &[u8], old: &[i32], result: &mut [i32], ev: &[i32]) -> Answe
         Checked::Shape => answered(1, 0),
         Checked::Static => answered(2, 0),
         Checked::Passed => {
-            let directory = reader::directory(sheet);
+            let directory = sheet_reader::directory(sheet);
             on_passed(sheet, &directory, old, result, ev)
         }
     }
@@ -57,20 +57,20 @@ fn on_passed(
     requires { ⌜ (now directory ≡ directoryOf (now sheet)) × (checkOf (now sheet) ≡ Passed) ⌝ }
     ensures { λ a. ⌜ EventGives (now (sheet .entry)) (now (old .entry)) (now (result .entry)) (now (ev .entry)) a (now (result .exit)) ⌝ }
 {
-    let length = content::state_length(sheet, directory);
+    let length = engine_valid_state::state_length(sheet, directory);
     if old.len() != length {
         return answered(3, 0);
     }
     if result.len() != length {
         return answered(3, 0);
     }
-    if !content::content_fits(sheet, directory, old) {
+    if !engine_valid_state::content_fits(sheet, directory, old) {
         return answered(3, 0);
     }
-    if events::is_event(sheet, directory, ev) {
-        store::copy(old, result);
-        let j = kinds::sought(result, ev);
-        return kinds::happened(sheet, directory, old, result, ev, j);
+    if engine_valid_events::is_event(sheet, directory, ev) {
+        engine_store::copy(old, result);
+        let j = engine_kinds::sought(result, ev);
+        return engine_kinds::happened(sheet, directory, old, result, ev, j);
     }
     answered(4, 0)
 }
@@ -80,7 +80,7 @@ pub fn begin(sheet: &[u8], directory: &[usize; 16], st: &mut [i32]) -> Answer
     requires { ⌜ (now directory ≡ directoryOf (now sheet)) × (checkOf (now sheet) ≡ Passed) × (length (now st) ≡ stateLength (now sheet)) ⌝ }
     ensures { λ a. ⌜ StartGives (now (sheet .entry)) (now (st .entry)) a (now (st .exit)) ⌝ }
 {
-    starts::from_defaults(sheet, directory, st)
+    engine_starts::from_defaults(sheet, directory, st)
 }
 
 // Start on any sheet and state.
@@ -91,7 +91,7 @@ pub fn start(sheet: &[u8], result: &mut [i32]) -> Answer
         Checked::Shape => answered(1, 0),
         Checked::Static => answered(2, 0),
         Checked::Passed => {
-            let directory = reader::directory(sheet);
+            let directory = sheet_reader::directory(sheet);
             start_passed(sheet, &directory, result)
         }
     }
@@ -101,7 +101,7 @@ fn start_passed(sheet: &[u8], directory: &[usize; 16], result: &mut [i32]) -> An
     requires { ⌜ (now directory ≡ directoryOf (now sheet)) × (checkOf (now sheet) ≡ Passed) ⌝ }
     ensures { λ a. ⌜ StartGives (now (sheet .entry)) (now (result .entry)) a (now (result .exit)) ⌝ }
 {
-    if result.len() != content::state_length(sheet, directory) {
+    if result.len() != engine_valid_state::state_length(sheet, directory) {
         return answered(3, 0);
     }
     begin(sheet, directory, result)

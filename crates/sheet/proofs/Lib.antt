@@ -1,2 +1,3 @@
 pub mod All
+pub mod Table
 pub mod Sheet

@@ -1,3 +1,4 @@
 pub mod All
+pub mod Table
 pub mod Sheet
 pub mod Names

@@ -4,9 +4,9 @@ use mathlib.Core.List.{List}
 use Prim.Native.Nat.{ℕ, _-_}
 use borrow.Author.Tests.{not-true, not-false}
 use borrow.Author.Needs.{needs}
-use Rattle.laris.specs.declared.Checked.the-variants.{Passed, Shape, Static}
-use Rattle.laris.specs.Static.{static}
-use Rattle.laris.specs.Check.{shape, checkOf, checkCall}
+use Rattle.sheet_rules.specs.declared.Checked.the-variants.{Passed, Shape, Static}
+use Rattle.sheet_rules.specs.Static.{static}
+use Rattle.sheet_rules.specs.Check.{shape, checkOf, checkCall}
 use Rattle.checker.proofs.check.Statement.{statement}
 use Rattle.checker.proofs.check.Tie as tie
 

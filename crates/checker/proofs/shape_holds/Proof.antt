@@ -8,9 +8,9 @@ use borrow.Author.Needs.{needs}
 use Rattle.sheet.proofs.All.{first-fails, rest-fails, first-holds}
 use Rattle.sheet.specs.Sheet.{countOf, directoryRight}
 use Rattle.sheet.proofs.Sheet.{count-some, count-limit}
-use Rattle.laris.specs.Fields.{fieldOf, fieldAt, componentsOf, externalsOf}
-use Rattle.laris.specs.Shape.{elementsBound}
-use Rattle.laris.specs.Check.{shape}
+use Rattle.sheet_rules.specs.Fields.{fieldOf, fieldAt, componentsOf, externalsOf}
+use Rattle.sheet_rules.specs.Shape.{elementsBound}
+use Rattle.sheet_rules.specs.Check.{shape}
 use Rattle.checker.proofs.shape_holds.Statement.{statement}
 use Rattle.checker.proofs.shape_holds.Tie as tie
 

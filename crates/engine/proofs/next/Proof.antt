@@ -4,8 +4,8 @@ use lib.ListN.{length}
 use borrow.Author.Tests.{not-true, not-false}
 use borrow.Author.Needs.{needs}
 use Rattle.sheet.proofs.All.{true-false}
-use Rattle.turns.proofs.Taken.{nine, kind-from-0}
-use Rattle.queue.proofs.Laws.{laid}
+use Rattle.machine_events.proofs.Taken.{nine, kind-from-0}
+use Rattle.engine_queue.proofs.Laws.{laid}
 use Rattle.engine.proofs.Calls.{malformed-next, happened-next}
 use Rattle.engine.proofs.next.Statement.{statement}
 use Rattle.engine.proofs.next.Tie as tie
@@ -23,13 +23,13 @@ sought-requires : tie.Need-sought-requires
 sought-requires c κs = (laid _ _ (c .before .before .before .before .pre .0 .state), nine _ _ (sym (c .before .before .is-event .ensures) ∙ not-false _ (c .before .if1 .left)), kind-from-0 _ _ (sym (c .before .before .is-event .ensures) ∙ not-false _ (c .before .if1 .left)))
 
 may-undo-requires : tie.Need-may-undo-requires
-may-undo-requires c κs = (c .before .before .before .before .before .before .pre .0, (sym (c .before .before .before .before .is-event .ensures) ∙ not-false _ (c .before .before .before .if1 .left)), c .before .sought .ensures _ (c .before .before .before .before .before .before .pre .0 .state .whole))
+may-undo-requires c κs = (c .before .before .before .before .before .before .pre .0, (sym (c .before .before .before .before .is-event .ensures) ∙ not-false _ (c .before .before .before .if1 .left)), c .before .sought .ensures _ (c .before .before .before .before .before .before .pre .0 .state .whole) (sym (c .before .before .before .before .is-event .ensures) ∙ not-false _ (c .before .before .before .if1 .left)))
 
 copy-requires : tie.Need-copy-requires
 copy-requires c κs = search needs
 
 happened-requires : tie.Need-happened-requires
-happened-requires c κs = (c .before .before .before .before .before .before .before .before .before .before .pre .0, (sym (c .before .before .before .before .before .before .before .before .is-event .ensures) ∙ not-false _ (c .before .before .before .before .before .before .before .if1 .left)), c .before .before .before .before .before .sought .ensures _ (c .before .before .before .before .before .before .before .before .before .before .pre .0 .state .whole), ⊎-elim (λ w. ap length (w .5 ∙ w .3 .ensures)) (λ w. ap length (w .1) ∙ c .before .before .before .before .before .before .before .before .before .before .pre .1) (c .before .before .if2 .came), λ u. ⊎-elim (λ w. w .5 ∙ w .3 .ensures) (λ w. absurd (true-false u (sym (c .before .before .before .may-undo .ensures) ∙ w .0 .left))) (c .before .before .if2 .came))
+happened-requires c κs = (c .before .before .before .before .before .before .before .before .before .before .pre .0, (sym (c .before .before .before .before .before .before .before .before .is-event .ensures) ∙ not-false _ (c .before .before .before .before .before .before .before .if1 .left)), c .before .before .before .before .before .sought .ensures _ (c .before .before .before .before .before .before .before .before .before .before .pre .0 .state .whole) (sym (c .before .before .before .before .before .before .before .before .is-event .ensures) ∙ not-false _ (c .before .before .before .before .before .before .before .if1 .left)), ⊎-elim (λ w. ap length (w .5 ∙ w .3 .ensures)) (λ w. ap length (w .1) ∙ c .before .before .before .before .before .before .before .before .before .before .pre .1) (c .before .before .if2 .came), λ u. ⊎-elim (λ w. w .5 ∙ w .3 .ensures) (λ w. absurd (true-false u (sym (c .before .before .before .may-undo .ensures) ∙ w .0 .left))) (c .before .before .if2 .came))
 
 same-length : tie.Need-same-length
 same-length c = search needs

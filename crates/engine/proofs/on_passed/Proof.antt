@@ -2,8 +2,8 @@ use mathlib.Core.Path.{sym, ap, _∙_}
 use lib.ListN.{length}
 use borrow.Author.Tests.{not-true, not-false}
 use borrow.Author.Needs.{needs}
-use Rattle.turns.proofs.Taken.{nine, kind-from-0}
-use Rattle.queue.proofs.Laws.{laid}
+use Rattle.machine_events.proofs.Taken.{nine, kind-from-0}
+use Rattle.engine_queue.proofs.Laws.{laid}
 use Rattle.engine.proofs.Calls.{old-long, result-long, other-content, malformed-event, happened-event, copy-plays}
 use Rattle.engine.proofs.on_passed.Statement.{statement}
 use Rattle.engine.proofs.on_passed.Tie as tie
@@ -42,7 +42,7 @@ sought-requires : tie.Need-sought-requires
 sought-requires c κs = (laid _ _ (copy-plays _ _ (c .before .before .before .before .before .before .before .before .before .before .before .before .args .result .now) (c .before .before .before .before .before .before .before .before .before .before .before .before .args .ev .now) (c .before .before .before .before .before .before .before .before .before .before .before .before .pre .1) _ (c .before .before .before .before .before .before .before .before .before .before .state-length .ensures) (c .before .before .before .before .before .before .before .before .before .if1 .left) (c .before .before .before .before .before .before .before .before .if2 .left) _ (c .before .before .before .before .before .before .before .before .before .before .before .before .pre .0) (sym (c .before .before .before .before .before .before .before .content-fits .ensures) ∙ not-false _ (c .before .before .before .before .before .before .if3 .left)) _ (c .before .before .copy .ensures) .state), nine _ _ (sym (c .before .before .before .before .before .is-event .ensures) ∙ c .before .before .before .before .if4 .taken), kind-from-0 _ _ (sym (c .before .before .before .before .before .is-event .ensures) ∙ c .before .before .before .before .if4 .taken))
 
 happened-requires : tie.Need-happened-requires
-happened-requires c κs = let p = copy-plays _ _ (c .before .before .before .before .before .before .before .before .before .before .before .before .before .before .args .result .now) (c .before .before .before .before .before .before .before .before .before .before .before .before .before .before .args .ev .now) (c .before .before .before .before .before .before .before .before .before .before .before .before .before .before .pre .1) _ (c .before .before .before .before .before .before .before .before .before .before .before .before .state-length .ensures) (c .before .before .before .before .before .before .before .before .before .before .before .if1 .left) (c .before .before .before .before .before .before .before .before .before .before .if2 .left) _ (c .before .before .before .before .before .before .before .before .before .before .before .before .before .before .pre .0) (sym (c .before .before .before .before .before .before .before .before .before .content-fits .ensures) ∙ not-false _ (c .before .before .before .before .before .before .before .before .if3 .left)) _ (c .before .before .before .before .copy .ensures) in (p, (sym (c .before .before .before .before .before .before .before .is-event .ensures) ∙ c .before .before .before .before .before .before .if4 .taken), c .before .sought .ensures _ (p .state .whole), ap length (sym (c .before .before .before .before .copy .ensures)), λ u. sym (c .before .before .before .before .copy .ensures))
+happened-requires c κs = let p = copy-plays _ _ (c .before .before .before .before .before .before .before .before .before .before .before .before .before .before .args .result .now) (c .before .before .before .before .before .before .before .before .before .before .before .before .before .before .args .ev .now) (c .before .before .before .before .before .before .before .before .before .before .before .before .before .before .pre .1) _ (c .before .before .before .before .before .before .before .before .before .before .before .before .state-length .ensures) (c .before .before .before .before .before .before .before .before .before .before .before .if1 .left) (c .before .before .before .before .before .before .before .before .before .before .if2 .left) _ (c .before .before .before .before .before .before .before .before .before .before .before .before .before .before .pre .0) (sym (c .before .before .before .before .before .before .before .before .before .content-fits .ensures) ∙ not-false _ (c .before .before .before .before .before .before .before .before .if3 .left)) _ (c .before .before .before .before .copy .ensures) in (p, (sym (c .before .before .before .before .before .before .before .is-event .ensures) ∙ c .before .before .before .before .before .before .if4 .taken), c .before .sought .ensures _ (p .state .whole) (sym (c .before .before .before .before .before .before .before .is-event .ensures) ∙ c .before .before .before .before .before .before .if4 .taken), ap length (sym (c .before .before .before .before .copy .ensures)), λ u. sym (c .before .before .before .before .copy .ensures))
 
 same-length : tie.Need-same-length
 same-length c = search needs

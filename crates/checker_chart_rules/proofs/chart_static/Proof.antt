@@ -1,0 +1,56 @@
+use mathlib.Core.Path.{sym, _∙_}
+use borrow.Author.Tests.{eq-eqb, ne-eqb, not-true, not-false}
+use borrow.Author.Needs.{needs}
+use Rattle.sheet.proofs.All.{first-fails, rest-fails, first-holds}
+use Rattle.sheet_rules.specs.Static.{chartStatic}
+use Rattle.checker_chart_rules.proofs.chart_static.Statement.{statement}
+use Rattle.checker_chart_rules.proofs.chart_static.Tie as tie
+
+cast-if2 : tie.Need-cast-if2
+cast-if2 c = search needs
+
+cast-if3 : tie.Need-cast-if3
+cast-if3 c = search needs
+
+no-clocks-requires : tie.Need-no-clocks-requires
+no-clocks-requires c κs = search needs
+
+returns : tie.Need-returns
+unfolding chartStatic
+returns c = (first-fails _ _ (sym (c .before .no-clocks .ensures) ∙ not-true _ (c .if1 .taken)), c .before .before .before .before .before .pre .1)
+
+bodies-with-requires : tie.Need-bodies-with-requires
+bodies-with-requires c κs = search needs
+
+returns-2 : tie.Need-returns-2
+unfolding chartStatic
+returns-2 c = (rest-fails _ _ (first-fails _ _ (ne-eqb _ _ (λ e. c .if2 .taken (c .before .bodies-with .ensures ∙ e)))), c .before .before .before .before .before .before .before .pre .1)
+
+bodies-with-requires-2 : tie.Need-bodies-with-requires-2
+bodies-with-requires-2 c κs = search needs
+
+returns-3 : tie.Need-returns-3
+unfolding chartStatic
+returns-3 c = (rest-fails _ _ (rest-fails _ _ (first-fails _ _ (ne-eqb _ _ (λ e. c .if3 .taken (c .before .bodies-with2 .ensures ∙ e))))), c .before .before .before .before .before .before .before .before .before .pre .1)
+
+bodies-static-requires : tie.Need-bodies-static-requires
+bodies-static-requires c κs = search needs
+
+returns-4 : tie.Need-returns-4
+unfolding chartStatic
+returns-4 c = (first-holds _ _ _ (sym (c .before .before .before .before .before .before .before .before .before .no-clocks .ensures) ∙ not-false _ (c .before .before .before .before .before .before .before .before .if1 .left)) (first-holds _ _ _ (eq-eqb _ _ (sym (c .before .before .before .before .before .before .before .bodies-with .ensures) ∙ c .before .before .before .before .before .before .if2 .left)) (first-holds _ _ _ (eq-eqb _ _ (sym (c .before .before .before .before .before .bodies-with2 .ensures) ∙ c .before .before .before .before .if3 .left)) (c .bodies-static .ensures .0))), c .bodies-static .ensures .1)
+
+pub chart-static-spec : {M : Type 1} → statement M
+chart-static-spec =
+    tie.close
+    (tie.spec
+    cast-if2
+    cast-if3
+    no-clocks-requires
+    returns
+    bodies-with-requires
+    returns-2
+    bodies-with-requires-2
+    returns-3
+    bodies-static-requires
+    returns-4)

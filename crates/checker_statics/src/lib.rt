@@ -1,0 +1,84 @@
+// The static rules beside the types of nodes.
+use sheet::Found;
+use sheet::Range;
+use sheet::Record;
+ghost use mathlib.Core.Path.{_≡_};
+ghost use Rattle.sheet.specs.Sheet.{directoryOf};
+ghost use Rattle.sheet_rules.specs.Static.{nameStatic, recordStatic, sectionStatic, static};
+ghost use Rattle.checker_reactions.specs.Entries.{Ready};
+
+fn name_static(sheet: &[u8], directory: &[usize; 16], r: Record) -> bool
+    requires { ⌜ now directory ≡ directoryOf (now sheet) ⌝ }
+    ensures { λ x. ⌜ x ≡ nameStatic (now (sheet .entry)) r ⌝ }
+{
+    let g = Range {
+        first: r.f0 as usize,
+        count: r.f1 as usize,
+    };
+    checker_roles::no_clocks(sheet, directory, g)
+}
+
+fn record_static(
+    sheet: &[u8],
+    directory: &[usize; 16],
+    table: &mut [u16; 4096],
+    last: &mut [u16; 4096],
+    previous: &mut [u16; 4096],
+    k: usize,
+    r: Record,
+) -> bool
+    requires { ⌜ now directory ≡ directoryOf (now sheet) ⌝ }
+    requires { ⌜ Ready (now sheet) (now table) (now last) (now previous) ⌝ }
+    ensures { λ x. ⌜ (x ≡ recordStatic (now (sheet .entry)) k r) × Ready (now (sheet .entry)) (now (table .exit)) (now (last .exit)) (now (previous .exit)) ⌝ }
+{
+    match k {
+        3 => name_static(sheet, directory, r),
+        4 => checker_chart_rules::chart_static(sheet, directory, table, last, previous, r),
+        7 => checker_constants::binding_static(sheet, directory, r),
+        _ => true,
+    }
+}
+
+fn section_static(
+    sheet: &[u8],
+    directory: &[usize; 16],
+    table: &mut [u16; 4096],
+    last: &mut [u16; 4096],
+    previous: &mut [u16; 4096],
+    k: usize,
+) -> bool
+    requires { ⌜ now directory ≡ directoryOf (now sheet) ⌝ }
+    requires { ⌜ Ready (now sheet) (now table) (now last) (now previous) ⌝ }
+    ensures { λ x. ⌜ (x ≡ sectionStatic (now (sheet .entry)) k) × Ready (now (sheet .entry)) (now (table .exit)) (now (last .exit)) (now (previous .exit)) ⌝ }
+{
+    let count = sheet_reader::count_in(directory, k);
+    let mut i: usize = 0;
+    while i < count {
+        let Found::Present(r) = sheet_reader::read(sheet, directory, k, i) else {
+            return false;
+        };
+        if !record_static(sheet, directory, table, last, previous, k, r) {
+            return false;
+        }
+        i += 1;
+    }
+    true
+}
+
+// Whether every static rule holds.
+pub fn rules_hold(sheet: &[u8], directory: &[usize; 16]) -> bool
+    requires { ⌜ now directory ≡ directoryOf (now sheet) ⌝ }
+    ensures { λ x. ⌜ x ≡ static (now (sheet .entry)) ⌝ }
+{
+    let mut table = [0u16; 4096];
+    let mut last = [0u16; 4096];
+    let mut previous = [0u16; 4096];
+    let mut k: usize = 0;
+    while k < 8 {
+        if !section_static(sheet, directory, &mut table, &mut last, &mut previous, k) {
+            return false;
+        }
+        k += 1;
+    }
+    true
+}

@@ -1,0 +1,109 @@
+// The shape of the trees of nodes.
+use sheet::Found;
+use sheet::Record;
+ghost use mathlib.Core.Path.{_≡_};
+ghost use Rattle.sheet.specs.Sheet.{directoryOf};
+ghost use Rattle.sheet_rules.specs.Forms.{formOf};
+ghost use Rattle.sheet_rules.specs.Shape.{fieldsShape, treeShape, treesShape};
+ghost use Rattle.sheet_rules.specs.Check.{nodesShape};
+
+// What the fields of a node number exists, and fields not named are 0.
+fn fields_fit(sheet: &[u8], directory: &[usize; 16], c: Record, b: Record, r: Record) -> bool
+    requires { ⌜ now directory ≡ directoryOf (now sheet) ⌝ }
+    ensures { λ x. ⌜ x ≡ fieldsShape (now (sheet .entry)) c b r (formOf (r .f0)) ⌝ }
+{
+    let op = r.f0;
+    match op {
+        1..=6 => checker_bindings::literal_fits(sheet, directory, r),
+        7 => checker_nodes::variable_fits(c, b, r, 3),
+        8 => sheet_fields::zero_from(r, 2),
+        9..=16 => sheet_fields::zero_from(r, 3),
+        17..=18 => checker_nodes::clock_fits(c, r),
+        32 => sheet_fields::zero_from(r, 1),
+        33 => checker_nodes::variable_fits(c, b, r, 4),
+        34 => checker_nodes::send_fits(sheet, directory, r),
+        35 => checker_nodes::internal_fits(sheet, directory, r),
+        36..=37 => checker_nodes::arm_fits(sheet, directory, c, r),
+        38..=39 => checker_nodes::clock_fits(c, r),
+        40 => checker_nodes::call_fits(sheet, directory, c, r),
+        41 => sheet_fields::zero_from(r, 4),
+        42..=43 => sheet_fields::zero_from(r, 3),
+        _ => false,
+    }
+}
+
+// The tree of a node has at most that many levels, and each node of it fits its chart and body.
+fn tree_fits(
+    sheet: &[u8],
+    directory: &[usize; 16],
+    c: Record,
+    b: Record,
+    levels: usize,
+    n: usize,
+) -> bool
+    requires { ⌜ now directory ≡ directoryOf (now sheet) ⌝ }
+    ensures { λ x. ⌜ x ≡ treeShape (now (sheet .entry)) c b levels n ⌝ }
+{
+    if levels == 0 {
+        return false;
+    }
+    let Found::Present(r) = sheet_reader::read(sheet, directory, 6, n) else {
+        return false;
+    };
+    if !fields_fit(sheet, directory, c, b, r) {
+        return false;
+    }
+    let o = sheet_fields::operands(sheet, directory, c, r);
+    let count = o.count + o.tail;
+    let mut j: usize = 0;
+    while j < count {
+        let m = sheet_fields::operand(r, o, j);
+        if n <= m {
+            return false;
+        }
+        if !tree_fits(sheet, directory, c, b, levels - 1, m) {
+            return false;
+        }
+        j += 1;
+    }
+    true
+}
+
+// The trees of the bodies of chart c.
+fn trees_fit(sheet: &[u8], directory: &[usize; 16], c: Record) -> bool
+    requires { ⌜ now directory ≡ directoryOf (now sheet) ⌝ }
+    ensures { λ x. ⌜ x ≡ treesShape (now (sheet .entry)) c ⌝ }
+{
+    let first = c.f4 as usize;
+    let count = c.f5 as usize;
+    let mut j: usize = 0;
+    while j < count {
+        let Found::Present(b) = sheet_reader::read(sheet, directory, 5, first + j) else {
+            return false;
+        };
+        if !tree_fits(sheet, directory, c, b, 64, b.f7 as usize) {
+            return false;
+        }
+        j += 1;
+    }
+    true
+}
+
+// The trees of every chart's bodies.
+pub fn nodes_fit(sheet: &[u8], directory: &[usize; 16]) -> bool
+    requires { ⌜ now directory ≡ directoryOf (now sheet) ⌝ }
+    ensures { λ x. ⌜ x ≡ nodesShape (now (sheet .entry)) ⌝ }
+{
+    let count = sheet_reader::count_in(directory, 4);
+    let mut k: usize = 0;
+    while k < count {
+        let Found::Present(c) = sheet_reader::read(sheet, directory, 4, k) else {
+            return false;
+        };
+        if !trees_fit(sheet, directory, c) {
+            return false;
+        }
+        k += 1;
+    }
+    true
+}

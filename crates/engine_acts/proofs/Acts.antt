@@ -1,0 +1,135 @@
+-- What the acts of a statement come to.
+use Prim.Native.Nat.{ℕ, zero, suc, _+_, _*_, _-_, _<_, _≤_}
+use mathlib.Core.Path.{_≡_, refl, sym, subst}
+use mathlib.Core.List.{List, _∷_}
+use mathlib.Core.Bool.{Bool, true, false, not}
+use native.Mathlib.Omega.{arith}
+use native.Mathlib.Decide.{ℕ-discrete}
+use lib.ListN.{length, set, replicate}
+use lib.Dec.{eqb}
+use lib.IntN.{ℤ, pos, negsuc}
+use lib.Signed.{leZ, ltZ}
+use mir.Syntax.{w32}
+use mir.Val.{SFits, ofZ, toZ}
+use borrow.Author.Tests.{le-ltb, eq-eqb, ne-eqb, le-leb}
+use Rattle.sheet.specs.declared.Record.{Record}
+use Rattle.sheet.specs.Names.{bodyParameters, bodyLocals, chartVariables}
+use Rattle.machine_passed.proofs.Charts.{element-chart}
+use Rattle.machine_states.proofs.Kept.{cell-in-state}
+use Rattle.machine.specs.declared.Ran.the-variants.{Done, Refused, Stuck}
+use Rattle.sheet_rules.specs.declared.Checked.the-variants.{Passed}
+use Rattle.sheet_rules.specs.Forms.{assign, clockAct, arm}
+use Rattle.sheet_rules.specs.Shape.{variablesAt}
+use Rattle.sheet_rules.specs.Types.{clockOf}
+use Rattle.machine.specs.Values.{firstCell}
+use Rattle.machine.specs.State.{cellAt, placeAt, stateLength, putWords}
+use Rattle.machine.specs.Valid.{OfSheet}
+use Rattle.sheet_rules.specs.Check.{checkOf}
+use Rattle.machine.specs.Eval.{Context, boolWord, variableAtCell}
+use Rattle.machine.specs.Run.{world, armed, clockSet, assigned, runOf}
+use Rattle.machine_passed.proofs.Records.{variables-limit}
+use Rattle.machine_sound.proofs.Locals.{few}
+use Rattle.engine_ints.proofs.Range.{back}
+use Rattle.engine_ready.specs.Ready.{firstCellIn, contextAt, Running, Ready}
+use Rattle.engine_ready.specs.Words.{fourWords}
+use Rattle.engine_ready.proofs.Statements.{assign-inside, act-inside, arm-inside, started-word, stopped-word}
+use Rattle.engine_sending.specs.Visit.{Visit}
+use Rattle.engine_acts.specs.Armed.{armedValue}
+
+-- ---- a value to a variable
+
+module _ (s : List ℕ) (x : Context) (place n : ℕ) (z : ℤ) (l : ℕ) (st lo : List ℤ) where
+  pub to-chart : place ≡ 1 → (c : ℕ) → c ≡ firstCell s (x .element) → world (Done l) (set st (8 + 8 * (c + n)) z) lo ≡ assigned s x place n z l st lo
+  unfolding assigned variableAtCell cellAt
+  to-chart e c q = rw (e, q) refl
+
+  pub to-body : place ≡ 2 → world (Done l) st (set lo n z) ≡ assigned s x place n z l st lo
+  unfolding assigned
+  to-body e = rw e refl
+
+  pub to-none : (place ≡ 1 → ⊥) → (place ≡ 2 → ⊥) → world Stuck st lo ≡ assigned s x place n z l st lo
+  unfolding assigned
+  to-none a b = rw (assigned, ne-eqb place 1 a, ne-eqb place 2 b) refl
+
+-- ---- where things are
+
+module _ (s w : List ℕ) (run : Running s w) where
+  -- the words of the element's variable j
+  module _ (st lo : List ℤ) (ready : Ready s w st lo) (j : ℕ) (h : j < chartVariables (contextAt s w .chart) .count) where
+    pub cell-inside : 8 + 8 * (firstCellIn w + j) + 8 ≤ length st
+    unfolding cellAt contextAt
+    cell-inside =
+        let x = contextAt s w in
+        rw (run .cell) (cell-in-state s st (ready .state) (x .element) (x .chart) (element-chart s (x .element) (x .binding) (x .chart) (run .placed .element)) j h)
+
+-- "Elements have at most 512 variables together"
+pub state-short : (s : List ℕ) (st : List ℤ) → checkOf s ≡ Passed → OfSheet s st → length st ≤ 5128
+unfolding stateLength placeAt
+state-short s st ok o = omega (arith, variables-limit s ok, o .whole)
+
+module _ (s w : List ℕ) (st lo : List ℤ) (n : ℕ) (r : Record) where
+  module _ (v : Visit s w st lo n r assign) where
+    inside : r .f2 < variablesAt (contextAt s w .chart) (contextAt s w .body) (r .f1)
+    inside = assign-inside s w st lo (v .ready) n r (v .there) (v .statement) (v .form)
+
+    pub assign-cell : r .f1 ≡ 1 → 8 + 8 * (firstCellIn w + r .f2) < length st
+    unfolding variablesAt
+    assign-cell e = let h = cell-inside s w (v .ready .running) st lo (v .ready) (r .f2) (subst (λ p. r .f2 < variablesAt (contextAt s w .chart) (contextAt s w .body) p) e inside) in omega arith
+
+    pub assign-local : r .f1 ≡ 2 → r .f2 < 16
+    unfolding variablesAt
+    assign-local e = let h : r .f2 < bodyParameters (contextAt s w .body) .count + bodyLocals (contextAt s w .body) .count = subst (λ p. r .f2 < variablesAt (contextAt s w .chart) (contextAt s w .body) p) e inside in omega (arith, few s (v .ready .running .passed) (contextAt s w) (v .ready .running .placed))
+
+  -- ---- clocks
+
+  pub act-cell : (v : Visit s w st lo n r clockAct) → 8 + 8 * (firstCellIn w + r .f1) + 8 ≤ length st
+  act-cell v = cell-inside s w (v .ready .running) st lo (v .ready) (r .f1) (act-inside s w st lo (v .ready) n r (v .there) (v .statement) (v .form))
+
+  pub clock-runs : (v : Visit s w st lo n r clockAct) (depth l : ℕ) → world (Done l) (putWords st (8 + 8 * (firstCellIn w + r .f1)) (boolWord (eqb (r .f0) 38) ∷ replicate 7 (pos 0))) lo ≡ runOf s depth (contextAt s w) n (suc l) st lo
+  unfolding clockSet cellAt contextAt
+  clock-runs v depth l = elim (ℕ-discrete (r .f0) 38) [
+    | yes h ↦ (
+        let q = eq-eqb (r .f0) 38 h in
+        rw (q, v .ready .running .cell) (sym (started-word s w st lo (v .ready) n r (v .there) (v .statement) (v .form) h depth l)))
+    | no h ↦ (
+        let q = ne-eqb (r .f0) 38 h in
+        rw (q, v .ready .running .cell) (sym (stopped-word s w st lo (v .ready) n r (v .there) (v .statement) (v .form) h depth l)))
+  ]
+
+  pub arm-cell : (v : Visit s w st lo n r arm) → 8 + 8 * (firstCellIn w + r .f1) + 8 ≤ length st
+  arm-cell v = cell-inside s w (v .ready .running) st lo (v .ready) (r .f1) (arm-inside s w st lo (v .ready) n r (v .there) (v .statement) (v .form))
+
+-- ---- arming
+
+pub value-timeout : (op : ℕ) (period : ℤ) → op ≡ 36 → period ≡ armedValue (clockOf op) period
+unfolding clockOf
+value-timeout op period e = rw (clockOf, eq-eqb op 36 e) refl
+
+pub value-cycler : (op : ℕ) (period : ℤ) → (op ≡ 36 → ⊥) → pos 0 ≡ armedValue (clockOf op) period
+unfolding clockOf
+value-cycler op period n = rw (clockOf, ne-eqb op 36 n) (go (eqb op 37))
+  where
+    go : (b : Bool) → pos 0 ≡ armedValue (elim b [ true ↦ 6 | false ↦ 4 ]) period
+    go true = refl
+    go false = refl
+
+pub value-back : (t : ℕ) (period z : ℤ) → SFits w32 period → z ≡ armedValue t period → toZ w32 (ofZ w32 z) ≡ armedValue t period
+value-back t period z h e = rw e (go (eqb t 5))
+  where
+    go : (b : Bool) → toZ w32 (ofZ w32 (elim b [ true ↦ period | false ↦ pos 0 ])) ≡ elim b [ true ↦ period | false ↦ pos 0 ]
+    go true = back h
+    go false = refl
+
+below-one : (period : ℤ) (b : Bool) → ltZ period (pos 1) ≡ b → leZ (pos 1) period ≡ not b
+below-one (pos zero) b e = rw (sym e) refl
+below-one (pos (suc n)) b e = rw (sym e, le-ltb (suc n) 1 (omega arith)) (le-leb 1 (suc n) (omega arith))
+below-one (negsuc n) b e = rw (sym e) refl
+
+module _ (cell t : ℕ) (period : ℤ) (name : ℕ) (zs : List ℤ) (l : ℕ) (st lo : List ℤ) where
+  pub armed-not : ltZ period (pos 1) ≡ true → world (Refused 7 l) st lo ≡ armed cell t period name zs l st lo
+  unfolding armed
+  armed-not e = rw (armed, below-one period true e) refl
+
+  pub armed-so : ltZ period (pos 1) ≡ false → world (Done l) (putWords st cell (pos 1 ∷ armedValue t period ∷ period ∷ pos name ∷ fourWords zs)) lo ≡ armed cell t period name zs l st lo
+  unfolding armed
+  armed-so e = rw (armed, below-one period false e) refl

@@ -1,0 +1,111 @@
+use Prim.Native.Nat.{_+_, _*_, _<_, _≤_}
+use mathlib.Core.Path.{refl, sym, ap, _∙_}
+use native.Mathlib.Omega.{arith}
+use lib.ListN.{getD, length}
+use lib.IntN.{pos}
+use borrow.Author.Needs.{needs}
+use Rattle.engine_store.proofs.Laws.{given}
+use Rattle.machine.specs.declared.Ran.the-variants.{Done}
+use Rattle.machine.specs.Run.{world}
+use Rattle.engine_ints.proofs.Range.{back}
+use Rattle.machine.specs.State.{cellAt}
+use Rattle.sheet_rules.specs.Types.{clockOf}
+use Rattle.engine_ready.proofs.Statements.{arm-data}
+use Rattle.engine_sending.proofs.Sends.{four-data, data-given, on-given, data-ends-refused, data-ends-stuck}
+use Rattle.engine_acts.proofs.Acts.{state-short, armed-not, armed-so, value-back, arm-cell}
+use Rattle.engine_acts.proofs.arm_with.Statement.{statement}
+use Rattle.engine_acts.proofs.arm_with.Tie as tie
+
+cast-t17 : tie.Need-cast-t17
+cast-t17 c = search needs
+
+cast-t18 : tie.Need-cast-t18
+cast-t18 c = search needs
+
+gather-requires : tie.Need-gather-requires
+gather-requires c κs = (c .before .before .before .before .before .pre .0, c .before .before .before .before .before .pre .1 .ready, arm-data _ _ _ _ (c .before .before .before .before .before .pre .1 .ready) _ _ (c .before .before .before .before .before .pre .1 .there) (c .before .before .before .before .before .pre .1 .statement) (c .before .before .before .before .before .pre .1 .form) _ (c .before .before .before .before .before .pre .2), four-data _ _ (c .before .before .before .before .before .pre .1 .ready .running) _ _ (c .before .before .before .before .before .pre .2), refl)
+
+enum-known-o : tie.Need-enum-known-o
+enum-known-o c = search needs
+
+same-length : tie.Need-same-length
+same-length c = search needs
+
+returns : tie.Need-returns
+returns c = let d = data-given _ _ (sym (c .before .before .o .given .1) ∙ c .before .before .before .before .gather .ensures .1) in armed-not _ (clockOf (c .before .before .before .before .before .before .before .before .before .before .args .r .f0)) _ (c .before .before .before .before .before .before .before .before .before .before .args .r .f3) (d .0) _ _ _ (rw (back (c .before .before .before .before .before .before .before .before .before .before .fits .period)) at (c .if1 .taken)) ∙ on-given _ _ _ _ _ _ (d .1)
+
+element-copy-out-put-clock : tie.Need-element-copy-out-put-clock
+element-copy-out-put-clock c = search needs
+
+cast-put-clock : tie.Need-cast-put-clock
+cast-put-clock c = search needs
+
+add-put-clock : tie.Need-add-put-clock
+add-put-clock c = let h : 8 + 8 * (getD (c .before .before .before .before .before .before .before .before .before .before .before .before .before .args .context .now) 1 0 + c .before .before .before .before .before .before .before .before .before .before .before .before .before .args .r .f1) + 8 ≤ length (c .before .before .before .before .before .before .before .before .before .before .before .before .before .args .st .now) = arm-cell _ _ _ _ _ _ (c .before .before .before .before .before .before .before .before .before .before .before .before .before .pre .1) in let k : length (c .before .before .before .before .before .before .before .before .before .before .before .before .before .args .st .now) ≤ 5128 = state-short _ _ (c .before .before .before .before .before .before .before .before .before .before .before .before .before .pre .1 .ready .running .passed) (c .before .before .before .before .before .before .before .before .before .before .before .before .before .pre .1 .ready .state) in let g : getD (c .before .before .before .before .before .before .before .before .before .before .before .before .before .args .context .now) 1 0 + c .before .before .before .before .before .before .before .before .before .before .before .before .before .args .r .f1 < 18446744073709551616 = omega arith in record { fits = g }
+
+mul-put-clock : tie.Need-mul-put-clock
+mul-put-clock c = let h : 8 + 8 * (getD (c .before .before .before .before .before .before .before .before .before .before .before .before .before .args .context .now) 1 0 + c .before .before .before .before .before .before .before .before .before .before .before .before .before .args .r .f1) + 8 ≤ length (c .before .before .before .before .before .before .before .before .before .before .before .before .before .args .st .now) = arm-cell _ _ _ _ _ _ (c .before .before .before .before .before .before .before .before .before .before .before .before .before .pre .1) in let k : length (c .before .before .before .before .before .before .before .before .before .before .before .before .before .args .st .now) ≤ 5128 = state-short _ _ (c .before .before .before .before .before .before .before .before .before .before .before .before .before .pre .1 .ready .running .passed) (c .before .before .before .before .before .before .before .before .before .before .before .before .before .pre .1 .ready .state) in let g : 8 * (getD (c .before .before .before .before .before .before .before .before .before .before .before .before .before .args .context .now) 1 0 + c .before .before .before .before .before .before .before .before .before .before .before .before .before .args .r .f1) < 18446744073709551616 = omega arith in record { fits = g }
+
+add-put-clock-2 : tie.Need-add-put-clock-2
+add-put-clock-2 c = let h : 8 + 8 * (getD (c .before .before .before .before .before .before .before .before .before .before .before .before .before .args .context .now) 1 0 + c .before .before .before .before .before .before .before .before .before .before .before .before .before .args .r .f1) + 8 ≤ length (c .before .before .before .before .before .before .before .before .before .before .before .before .before .args .st .now) = arm-cell _ _ _ _ _ _ (c .before .before .before .before .before .before .before .before .before .before .before .before .before .pre .1) in let k : length (c .before .before .before .before .before .before .before .before .before .before .before .before .before .args .st .now) ≤ 5128 = state-short _ _ (c .before .before .before .before .before .before .before .before .before .before .before .before .before .pre .1 .ready .running .passed) (c .before .before .before .before .before .before .before .before .before .before .before .before .before .pre .1 .ready .state) in let g : 8 + 8 * (getD (c .before .before .before .before .before .before .before .before .before .before .before .before .before .args .context .now) 1 0 + c .before .before .before .before .before .before .before .before .before .before .before .before .before .args .r .f1) < 18446744073709551616 = omega arith in record { fits = g }
+
+first-value-requires : tie.Need-first-value-requires
+first-value-requires c κs = search needs
+
+cast-put-clock-2 : tie.Need-cast-put-clock-2
+cast-put-clock-2 c = search needs
+
+put-clock-requires : tie.Need-put-clock-requires
+put-clock-requires c κs = arm-cell _ _ _ _ _ _ (c .before .before .before .before .before .before .before .before .before .before .before .before .before .before .before .before .pre .1)
+
+enum-known-o-2 : tie.Need-enum-known-o-2
+enum-known-o-2 c = search needs
+
+enum-told : tie.Need-enum-told
+enum-told c = search needs
+
+same-length-2 : tie.Need-same-length-2
+same-length-2 c = search needs
+
+returns-2 : tie.Need-returns-2
+unfolding cellAt
+returns-2 c = let d = data-given _ _ (sym (c .before .before .before .before .before .before .before .before .before .before .o .given .1) ∙ c .before .before .before .before .before .before .before .before .before .before .before .before .gather .ensures .1) in let f = c .before .before .before .before .before .before .before .before .before .before .before .before .gather .ensures .2 _ _ (d .1) in let k : c .before .before .before .before .before .before .before .before .before .before .before .before .before .before .before .before .before .before .args .r .f3 < 65536 = c .before .before .before .struct-known4 .given .1 .1 .1 .0 .fits in ap (λ st. world (Done (c .before .before .before .before .before .before .before .before .before .before .o .given .0 .0)) st (c .before .before .before .before .before .before .before .before .before .before .before .before .before .before .before .before .before .before .args .lo .now)) (rw (value-back (clockOf (c .before .before .before .before .before .before .before .before .before .before .before .before .before .before .before .before .before .before .args .r .f0)) _ _ (c .before .before .before .before .before .before .before .before .before .before .before .before .before .before .before .before .before .before .fits .period) (rw (back (c .before .before .before .before .before .before .before .before .before .before .before .before .before .before .before .before .before .before .fits .period)) at (c .before .before .before .before .first-value .ensures)), back (c .before .before .before .before .before .before .before .before .before .before .before .before .before .before .before .before .before .before .fits .period), given (pos (c .before .before .before .before .before .before .before .before .before .before .before .before .before .before .before .before .before .before .args .r .f3)) (omega arith), f) at (c .before .put-clock .ensures)) ∙ armed-so _ (clockOf (c .before .before .before .before .before .before .before .before .before .before .before .before .before .before .before .before .before .before .args .r .f0)) _ (c .before .before .before .before .before .before .before .before .before .before .before .before .before .before .before .before .before .before .args .r .f3) (d .0) _ _ _ (rw (back (c .before .before .before .before .before .before .before .before .before .before .before .before .before .before .before .before .before .before .fits .period)) at (c .before .before .before .before .before .before .before .before .if1 .left)) ∙ on-given _ _ _ _ _ _ (d .1)
+
+same-length-3 : tie.Need-same-length-3
+same-length-3 c = search needs
+
+returns-3 : tie.Need-returns-3
+returns-3 c = data-ends-refused _ _ _ _ _ _ (sym (c .before .o2 .given .1) ∙ c .before .before .before .gather .ensures .1)
+
+same-length-4 : tie.Need-same-length-4
+same-length-4 c = search needs
+
+returns-4 : tie.Need-returns-4
+returns-4 c = data-ends-stuck _ _ _ _ (sym (c .enum-told .given .1) ∙ c .before .before .gather .ensures .1)
+
+pub arm-with-spec : {M : Type 1} → statement M
+arm-with-spec =
+    tie.close
+    (tie.spec
+    cast-t17
+    cast-t18
+    gather-requires
+    enum-known-o
+    same-length
+    returns
+    element-copy-out-put-clock
+    cast-put-clock
+    add-put-clock
+    mul-put-clock
+    add-put-clock-2
+    first-value-requires
+    cast-put-clock-2
+    put-clock-requires
+    enum-known-o-2
+    enum-told
+    same-length-2
+    returns-2
+    same-length-3
+    returns-3
+    same-length-4
+    returns-4)

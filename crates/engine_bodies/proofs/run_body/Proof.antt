@@ -1,0 +1,109 @@
+use mathlib.Core.Path.{sym, ap, _∙_}
+use native.Mathlib.Omega.{arith}
+use Prim.Native.Nat.{_-_}
+use borrow.Author.Needs.{needs}
+use Rattle.engine_expressions.proofs.Places.{not-absent}
+use Rattle.engine_bodies.proofs.Laws.{externals-is, not-external, few-elements, binding-there, chart-there, body-there, few-parameters, few-variables, ready, root-statement, body-ran}
+use Rattle.engine_bodies.proofs.run_body.Statement.{statement}
+use Rattle.engine_bodies.proofs.run_body.Tie as tie
+
+field-at-requires : tie.Need-field-at-requires
+field-at-requires c κs = search needs
+
+sub-i : tie.Need-sub-i
+sub-i c = let x = externals-is _ _ (c .field-at .ensures .0) in let l = not-external _ (c .before .before .pre .1) _ _ _ (c .before .before .pre .3) in omega arith
+
+read-requires : tie.Need-read-requires
+read-requires c κs = search needs
+
+enum-known-binding : tie.Need-enum-known-binding
+enum-known-binding c = search needs
+
+enum-told : tie.Need-enum-told
+enum-told c = search needs
+
+returns : tie.Need-returns
+returns c = absurd (not-absent _ _ (binding-there _ (c .before .before .before .before .before .pre .1) _ _ _ (c .before .before .before .before .before .pre .3) _ (ap (λ x. c .before .before .before .before .before .args .e - x) (externals-is _ _ (c .before .before .before .field-at .ensures .0)))) (sym (c .before .before .read .ensures) ∙ c .enum-told .given .1))
+
+cast-read : tie.Need-cast-read
+cast-read c = search needs
+
+read-requires-2 : tie.Need-read-requires-2
+read-requires-2 c κs = search needs
+
+enum-known-chart : tie.Need-enum-known-chart
+enum-known-chart c = search needs
+
+enum-told-2 : tie.Need-enum-told-2
+enum-told-2 c = search needs
+
+returns-2 : tie.Need-returns-2
+returns-2 c = absurd (not-absent _ _ (chart-there _ (c .before .before .before .before .before .before .before .before .before .before .pre .1) _ _ _ (c .before .before .before .before .before .before .before .before .before .before .pre .3) _ (ap (λ x. c .before .before .before .before .before .before .before .before .before .before .args .e - x) (externals-is _ _ (c .before .before .before .before .before .before .before .before .field-at .ensures .0))) _ (sym (c .before .before .before .before .before .before .before .read .ensures) ∙ c .before .before .before .before .before .binding .given .1)) (sym (c .before .before .read2 .ensures) ∙ c .enum-told2 .given .1))
+
+read-requires-3 : tie.Need-read-requires-3
+read-requires-3 c κs = search needs
+
+enum-known-body : tie.Need-enum-known-body
+enum-known-body c = search needs
+
+enum-told-3 : tie.Need-enum-told-3
+enum-told-3 c = search needs
+
+returns-3 : tie.Need-returns-3
+returns-3 c = absurd (not-absent _ _ (body-there _ (c .before .before .before .before .before .before .before .before .before .before .before .before .before .before .pre .1) _ _ _ (c .before .before .before .before .before .before .before .before .before .before .before .before .before .before .pre .3)) (sym (c .before .before .read3 .ensures) ∙ c .enum-told3 .given .1))
+
+first-cell-requires : tie.Need-first-cell-requires
+first-cell-requires c κs = (c .before .before .before .before .before .before .before .before .before .before .before .before .before .before .before .pre .0, (let l = few-elements _ (c .before .before .before .before .before .before .before .before .before .before .before .before .before .before .before .pre .1) _ _ _ (c .before .before .before .before .before .before .before .before .before .before .before .before .before .before .before .pre .3) in omega arith))
+
+cast-run : tie.Need-cast-run
+cast-run c = search needs
+
+cast-t19 : tie.Need-cast-t19
+cast-t19 c = search needs
+
+fresh-locals-requires : tie.Need-fresh-locals-requires
+fresh-locals-requires c κs = (c .before .before .before .before .before .before .before .before .before .before .before .before .before .before .before .before .before .before .pre .0, few-parameters _ (c .before .before .before .before .before .before .before .before .before .before .before .before .before .before .before .before .before .before .pre .1) _ _ _ (c .before .before .before .before .before .before .before .before .before .before .before .before .before .before .before .before .before .before .pre .3) _ (ap (λ x. c .before .before .before .before .before .before .before .before .before .before .before .before .before .before .before .before .before .before .args .e - x) (externals-is _ _ (c .before .before .before .before .before .before .before .before .before .before .before .before .before .before .before .before .field-at .ensures .0))) _ (sym (c .before .before .before .before .before .before .before .before .before .before .before .before .before .before .before .read .ensures) ∙ c .before .before .before .before .before .before .before .before .before .before .before .before .before .binding .given .1) _ _ (sym (c .before .before .before .before .before .before .before .before .before .before .read2 .ensures) ∙ c .before .before .before .before .before .before .before .before .chart .given .1) (sym (c .before .before .before .before .before .before .read3 .ensures) ∙ c .before .before .before .before .body .given .1), few-variables _ (c .before .before .before .before .before .before .before .before .before .before .before .before .before .before .before .before .before .before .pre .1) _ _ _ (c .before .before .before .before .before .before .before .before .before .before .before .before .before .before .before .before .before .before .pre .3) _ (ap (λ x. c .before .before .before .before .before .before .before .before .before .before .before .before .before .before .before .before .before .before .args .e - x) (externals-is _ _ (c .before .before .before .before .before .before .before .before .before .before .before .before .before .before .before .before .field-at .ensures .0))) _ (sym (c .before .before .before .before .before .before .before .before .before .before .before .before .before .before .before .read .ensures) ∙ c .before .before .before .before .before .before .before .before .before .before .before .before .before .binding .given .1) _ _ (sym (c .before .before .before .before .before .before .before .before .before .before .read2 .ensures) ∙ c .before .before .before .before .before .before .before .before .chart .given .1) (sym (c .before .before .before .before .before .before .read3 .ensures) ∙ c .before .before .before .before .body .given .1))
+
+limit-requires : tie.Need-limit-requires
+limit-requires c κs = c .before .before .before .before .before .before .before .before .before .before .before .before .before .before .before .before .before .before .before .pre .0
+
+cast-run-2 : tie.Need-cast-run-2
+cast-run-2 c = search needs
+
+run-requires : tie.Need-run-requires
+run-requires c κs = (c .before .before .before .before .before .before .before .before .before .before .before .before .before .before .before .before .before .before .before .before .before .before .before .before .pre .0, ready _ (c .before .before .before .before .before .before .before .before .before .before .before .before .before .before .before .before .before .before .before .before .before .before .before .before .pre .1) _ _ _ (c .before .before .before .before .before .before .before .before .before .before .before .before .before .before .before .before .before .before .before .before .before .before .before .before .pre .3) _ (ap (λ x. c .before .before .before .before .before .before .before .before .before .before .before .before .before .before .before .before .before .before .before .before .before .before .before .before .args .e - x) (externals-is _ _ (c .before .before .before .before .before .before .before .before .before .before .before .before .before .before .before .before .before .before .before .before .before .before .field-at .ensures .0))) _ (sym (c .before .before .before .before .before .before .before .before .before .before .before .before .before .before .before .before .before .before .before .before .before .read .ensures) ∙ c .before .before .before .before .before .before .before .before .before .before .before .before .before .before .before .before .before .before .before .binding .given .1) _ _ (sym (c .before .before .before .before .before .before .before .before .before .before .before .before .before .before .before .before .read2 .ensures) ∙ c .before .before .before .before .before .before .before .before .before .before .before .before .before .before .chart .given .1) (sym (c .before .before .before .before .before .before .before .before .before .before .before .before .read3 .ensures) ∙ c .before .before .before .before .before .before .before .before .before .before .body .given .1) _ (c .before .before .before .before .before .before .before .before .first-cell .ensures) _ _ (c .before .before .before .before .before .before .before .before .before .before .before .before .before .before .before .before .before .before .before .before .before .before .before .before .pre .2) (c .before .before .before .before .before .fresh-locals .ensures), root-statement _ (c .before .before .before .before .before .before .before .before .before .before .before .before .before .before .before .before .before .before .before .before .before .before .before .before .pre .1) _ _ _ (c .before .before .before .before .before .before .before .before .before .before .before .before .before .before .before .before .before .before .before .before .before .before .before .before .pre .3) _ (ap (λ x. c .before .before .before .before .before .before .before .before .before .before .before .before .before .before .before .before .before .before .before .before .before .before .before .before .args .e - x) (externals-is _ _ (c .before .before .before .before .before .before .before .before .before .before .before .before .before .before .before .before .before .before .before .before .before .before .field-at .ensures .0))) _ (sym (c .before .before .before .before .before .before .before .before .before .before .before .before .before .before .before .before .before .before .before .before .before .read .ensures) ∙ c .before .before .before .before .before .before .before .before .before .before .before .before .before .before .before .before .before .before .before .binding .given .1) _ _ (sym (c .before .before .before .before .before .before .before .before .before .before .before .before .before .before .before .before .read2 .ensures) ∙ c .before .before .before .before .before .before .before .before .before .before .before .before .before .before .chart .given .1) (sym (c .before .before .before .before .before .before .before .before .before .before .before .before .read3 .ensures) ∙ c .before .before .before .before .before .before .before .before .before .before .body .given .1) _ (c .before .before .before .before .before .before .before .before .first-cell .ensures), omega arith)
+
+same-length : tie.Need-same-length
+same-length c = search needs
+
+returns-4 : tie.Need-returns-4
+returns-4 c = body-ran _ (c .before .before .before .before .before .before .before .before .before .before .before .before .before .before .before .before .before .before .before .before .before .before .before .before .before .before .pre .1) _ _ _ (c .before .before .before .before .before .before .before .before .before .before .before .before .before .before .before .before .before .before .before .before .before .before .before .before .before .before .pre .3) _ (ap (λ x. c .before .before .before .before .before .before .before .before .before .before .before .before .before .before .before .before .before .before .before .before .before .before .before .before .before .before .args .e - x) (externals-is _ _ (c .before .before .before .before .before .before .before .before .before .before .before .before .before .before .before .before .before .before .before .before .before .before .before .before .field-at .ensures .0))) _ (sym (c .before .before .before .before .before .before .before .before .before .before .before .before .before .before .before .before .before .before .before .before .before .before .before .read .ensures) ∙ c .before .before .before .before .before .before .before .before .before .before .before .before .before .before .before .before .before .before .before .before .before .binding .given .1) _ _ (sym (c .before .before .before .before .before .before .before .before .before .before .before .before .before .before .before .before .before .before .read2 .ensures) ∙ c .before .before .before .before .before .before .before .before .before .before .before .before .before .before .before .before .chart .given .1) (sym (c .before .before .before .before .before .before .before .before .before .before .before .before .before .before .read3 .ensures) ∙ c .before .before .before .before .before .before .before .before .before .before .before .before .body .given .1) _ (c .before .before .before .before .before .before .before .before .before .before .first-cell .ensures) _ _ _ _ _ _ (c .before .before .before .before .before .before .before .fresh-locals .ensures) (c .before .before .before .before .before .before .limit .ensures .0) (c .before .run .ensures .1)
+
+pub run-body-spec : {M : Type 1} → statement M
+run-body-spec =
+    tie.close
+    (tie.spec
+    field-at-requires
+    sub-i
+    read-requires
+    enum-known-binding
+    enum-told
+    returns
+    cast-read
+    read-requires-2
+    enum-known-chart
+    enum-told-2
+    returns-2
+    read-requires-3
+    enum-known-body
+    enum-told-3
+    returns-3
+    first-cell-requires
+    cast-run
+    cast-t19
+    fresh-locals-requires
+    limit-requires
+    cast-run-2
+    run-requires
+    same-length
+    returns-4)

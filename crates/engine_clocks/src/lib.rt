@@ -1,0 +1,91 @@
+// A time slice: clocks in state order, one pass.
+use sheet::Found;
+use sheet::Record;
+ghost use mathlib.Core.Path.{_≡_};
+ghost use Prim.Native.Nat.{_+_, _<_, _≤_};
+ghost use Rattle.sheet.specs.Names.{bindings, chartVariables};
+ghost use Rattle.sheet.specs.Sheet.{directoryOf, countOf};
+ghost use Rattle.sheet_rules.specs.declared.Checked.the-variants.{Passed};
+ghost use Rattle.sheet_rules.specs.Fields.{typeAt, externalsOf};
+ghost use Rattle.sheet_rules.specs.Check.{checkOf};
+ghost use Rattle.machine.specs.State.{cellAt};
+ghost use Rattle.machine.specs.Valid.{OfSheet};
+ghost use Rattle.machine.specs.Play.{slicedCell, slicedCells, slicedFrom};
+ghost use Rattle.engine_queue.specs.Changed.{changedTo};
+ghost use Rattle.engine_clocks.specs.Cells.{Cell, Cells};
+
+// "stopped ones passed over": a word that is 0 needs no look at its type.
+fn slice_cell(
+    sheet: &[u8],
+    directory: &[usize; 16],
+    st: &mut [i32],
+    e: usize,
+    d: usize,
+    i: usize,
+) -> u8
+    requires { ⌜ (now directory ≡ directoryOf (now sheet)) × (e < 64) × (i < 512) × Cell (now sheet) e (typeAt (now sheet) d) (now st) i ⌝ }
+    ensures { λ n. ⌜ slicedCell (now (sheet .entry)) e (typeAt (now (sheet .entry)) d) (cellAt i) (now (st .entry)) ≡ changedTo n (now (st .exit)) ⌝ }
+{
+    let at = 8 + 8 * i;
+    if st[at] == 0 {
+        return 0;
+    }
+    let t = sheet_types::type_at(sheet, directory, d);
+    if t == 4 {
+        return engine_ticks::tick_timer(st, at);
+    }
+    if t == 5 {
+        return engine_ticks::tick_timeout(st, e, at);
+    }
+    if t == 6 {
+        return engine_ticks::tick_cycler(st, e, at);
+    }
+    0
+}
+
+// The clocks of element e, whose first cell is given.
+fn slice_cells(
+    sheet: &[u8],
+    directory: &[usize; 16],
+    st: &mut [i32],
+    e: usize,
+    c: Record,
+    cell: usize,
+) -> u8
+    requires { ⌜ (now directory ≡ directoryOf (now sheet)) × (e < 64) × (cell + chartVariables c .count ≤ 512) × Cells (now sheet) e c (now st) cell ⌝ }
+    ensures { λ n. ⌜ slicedCells (now (sheet .entry)) e (chartVariables c .count) (chartVariables c .first) cell (now (st .entry)) ≡ changedTo n (now (st .exit)) ⌝ }
+{
+    let count = c.f3 as usize;
+    let mut j: usize = 0;
+    while j < count {
+        let n = slice_cell(sheet, directory, st, e, c.f2 as usize + j, cell + j);
+        if n != 0 {
+            return n;
+        }
+        j += 1;
+    }
+    0
+}
+
+// A slice: 0 with the state after it, or 6 or 8 with a state that is of no use.
+pub fn slice(sheet: &[u8], directory: &[usize; 16], st: &mut [i32]) -> u8
+    requires { ⌜ (now directory ≡ directoryOf (now sheet)) × (checkOf (now sheet) ≡ Passed) × OfSheet (now sheet) (now st) ⌝ }
+    ensures { λ n. ⌜ slicedFrom (now (sheet .entry)) (countOf (now (sheet .entry)) bindings) (externalsOf (now (sheet .entry))) (now (st .entry)) ≡ changedTo n (now (st .exit)) ⌝ }
+{
+    let first = sheet_fields::field_at(sheet, directory, 0, 0, 1);
+    let count = sheet_reader::count_in(directory, 7);
+    let mut cell: usize = 0;
+    let mut i: usize = 0;
+    while i < count {
+        let Found::Present(c) = engine_defaults::chart_bound(sheet, directory, i) else {
+            return 4;
+        };
+        let n = slice_cells(sheet, directory, st, first + i, c, cell);
+        if n != 0 {
+            return n;
+        }
+        cell += c.f3 as usize;
+        i += 1;
+    }
+    0
+}

@@ -1,0 +1,93 @@
+use Prim.Native.Nat.{_-_, _≤_}
+use mathlib.Core.Path.{_≡_, refl, sym, ap, _∙_}
+use native.Mathlib.Omega.{arith}
+use lib.ListN.{length, length-replicate}
+use lib.IntN.{pos}
+use borrow.Author.Needs.{needs}
+use Rattle.sheet.specs.Sheet.{countOf}
+use Rattle.sheet_rules.specs.Fields.{sumBelow}
+use Rattle.sheet_rules.specs.Shape.{variablesBound}
+use Rattle.machine.specs.State.{cellAt, placeAt, stateLength}
+use Rattle.machine_passed.proofs.Records.{variables-limit}
+use Rattle.engine_defaults.proofs.State.{bound-there, bound-inside, bound-next, Filled, filled-none, filled-more, filled-all}
+use Rattle.engine_defaults.proofs.default_state.Statement.{statement}
+use Rattle.engine_defaults.proofs.default_state.Tie as tie
+
+abbrev Inv-loop : tie.InvT-loop
+Inv-loop sheet directory st₀ count cell₀ i₀ st cell i = (i ≤ count) × (count ≡ countOf sheet 7) × (length st ≡ stateLength sheet) × (cell ≡ sumBelow i (variablesBound sheet)) × Filled sheet st cell i
+
+abbrev μ-loop : tie.MeasureT-loop
+μ-loop sheet directory st₀ count cell₀ i₀ st cell i = count - i
+
+zero-requires : tie.Need-zero-requires Inv-loop μ-loop
+zero-requires c κs = search needs
+
+count-in-requires : tie.Need-count-in-requires Inv-loop μ-loop
+count-in-requires c κs = search needs
+
+loop-holds : tie.Need-loop-holds Inv-loop μ-loop
+unfolding sumBelow
+loop-holds c = (omega arith, c .count-in .ensures _ (c .before .before .before .before .before .pre .0), ap length (c .before .before .zero .ensures) ∙ length-replicate _ (pos 0) ∙ c .before .before .before .before .before .pre .2, refl, filled-none _ (c .before .before .before .before .before .pre .1) _ _ (c .before .before .before .before .before .pre .2) (c .before .before .zero .ensures))
+
+chart-bound-requires : tie.Need-chart-bound-requires Inv-loop μ-loop
+chart-bound-requires c κs = search needs
+
+enum-known-c : tie.Need-enum-known-c Inv-loop μ-loop
+enum-known-c c = search needs
+
+enum-told : tie.Need-enum-told Inv-loop μ-loop
+enum-told c = search needs
+
+same-length : tie.Need-same-length Inv-loop μ-loop
+same-length c = c .before .before .before .before .loop .inv .2 ∙ sym (c .before .before .before .before .before .before .before .before .before .before .pre .2)
+
+returns : tie.Need-returns Inv-loop μ-loop
+returns c = absurd (bound-there _ (c .before .before .before .before .before .before .before .before .before .before .pre .1) _ (let l = c .before .before .before .loop-test .taken in let e = c .before .before .before .before .loop .inv .1 in omega arith) (sym (c .before .before .chart-bound .ensures) ∙ c .enum-told .given .1))
+
+default-cells-requires : tie.Need-default-cells-requires Inv-loop μ-loop
+unfolding cellAt placeAt stateLength
+default-cells-requires c κs = let l = c .before .before .before .before .before .loop-test .taken in let e = c .before .before .before .before .before .before .loop .inv .1 in let i = bound-inside _ (c .before .before .before .before .before .before .before .before .before .before .before .before .pre .1) _ _ (omega arith) (sym (c .before .before .before .before .chart-bound .ensures) ∙ c .before .before .c .given .1) _ (c .before .before .before .before .before .before .loop .inv .3) in let v = variables-limit _ (c .before .before .before .before .before .before .before .before .before .before .before .before .pre .1) in let w = c .before .before .before .before .before .before .loop .inv .2 in (c .before .before .before .before .before .before .before .before .before .before .before .before .pre .0, omega arith, omega arith)
+
+cast-cell : tie.Need-cast-cell Inv-loop μ-loop
+cast-cell c = search needs
+
+add-cell : tie.Need-add-cell Inv-loop μ-loop
+add-cell c = let l = c .before .before .before .before .before .before .before .before .loop-test .taken in let e = c .before .before .before .before .before .before .before .before .before .loop .inv .1 in let i = bound-inside _ (c .before .before .before .before .before .before .before .before .before .before .before .before .before .before .before .pre .1) _ _ (omega arith) (sym (c .before .before .before .before .before .before .before .chart-bound .ensures) ∙ c .before .before .before .before .before .c .given .1) _ (c .before .before .before .before .before .before .before .before .before .loop .inv .3) in let v = variables-limit _ (c .before .before .before .before .before .before .before .before .before .before .before .before .before .before .before .pre .1) in record { fits = omega arith }
+
+add-i : tie.Need-add-i Inv-loop μ-loop
+add-i c = search needs
+
+loop-less : tie.Need-loop-less Inv-loop μ-loop
+loop-less c = search needs
+
+loop-again : tie.Need-loop-again Inv-loop μ-loop
+loop-again c = let l = c .before .before .before .before .before .before .before .before .loop-test .taken in let e = c .before .before .before .before .before .before .before .before .before .loop .inv .1 in (omega arith, e, c .before .st2 .given ∙ c .before .before .before .before .before .before .before .before .before .loop .inv .2, bound-next _ (c .before .before .before .before .before .before .before .before .before .before .before .before .before .before .before .pre .1) _ _ (omega arith) (sym (c .before .before .before .before .before .before .before .chart-bound .ensures) ∙ c .before .before .before .before .before .c .given .1) _ (c .before .before .before .before .before .before .before .before .before .loop .inv .3), filled-more _ (c .before .before .before .before .before .before .before .before .before .before .before .before .before .before .before .pre .1) _ _ _ _ _ (omega arith) (sym (c .before .before .before .before .before .before .before .chart-bound .ensures) ∙ c .before .before .before .before .before .c .given .1) (c .before .before .before .before .before .before .before .before .before .loop .inv .3) (c .before .before .default-cells .ensures) (c .before .before .before .before .before .before .before .before .before .loop .inv .4))
+
+same-length-2 : tie.Need-same-length-2 Inv-loop μ-loop
+same-length-2 c = c .before .loop .inv .2 ∙ sym (c .before .before .before .before .before .before .before .pre .2)
+
+returns-2 : tie.Need-returns-2 Inv-loop μ-loop
+returns-2 c = let e = c .before .loop .inv .1 in let l = c .before .loop .inv .0 in let m = c .loop-test .left in filled-all _ (c .before .before .before .before .before .before .before .pre .1) _ _ _ (omega arith) (omega arith) (c .before .loop .inv .3) (c .before .loop .inv .4)
+
+pub default-state-spec : {M : Type 1} → statement M
+default-state-spec =
+    tie.close
+    (tie.spec
+    Inv-loop
+    μ-loop
+    zero-requires
+    count-in-requires
+    loop-holds
+    chart-bound-requires
+    enum-known-c
+    enum-told
+    same-length
+    returns
+    default-cells-requires
+    cast-cell
+    add-cell
+    add-i
+    loop-less
+    loop-again
+    same-length-2
+    returns-2)

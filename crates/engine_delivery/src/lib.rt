@@ -1,0 +1,115 @@
+// A telegram that an event took goes to its receiver: it is handed outside, or a body of a bound
+// element runs.
+use engine_bodies::answered;
+use machine::Answer;
+use machine::Handed;
+use machine::Telegram;
+use sheet::Found;
+ghost use mathlib.Core.Bool.{true, false};
+ghost use mathlib.Core.Path.{_≡_};
+ghost use lib.IntN.{natAbs};
+ghost use lib.ListN.{length};
+ghost use Rattle.machine.specs.declared.Handed.the-variants.{Outside};
+ghost use Rattle.sheet_rules.specs.Fields.{externalsOf};
+ghost use Rattle.sheet_rules.specs.Types.{reactsTo};
+ghost use Rattle.machine.specs.Values.{isBelow, isBound};
+ghost use Rattle.machine.specs.Valid.{isInternal, telegramFits};
+ghost use Rattle.machine.specs.Play.{ended, answer, elementBody, reacting, panicking, delivered};
+ghost use Rattle.machine_events.specs.Playing.{Playing};
+
+// The panic body of element e, whose chart is c.
+pub fn panicked(
+    sheet: &[u8],
+    directory: &[usize; 16],
+    old: &[i32],
+    st: &mut [i32],
+    e: usize,
+) -> Answer
+    requires { ⌜ Playing (now sheet) (now directory) (now st) × (length (now old) ≡ length (now st)) × (isBound (now sheet) e ≡ true) ⌝ }
+    ensures { λ a. ⌜ ended a (now (st .exit)) ≡ panicking (now (sheet .entry)) (now (old .entry)) e (now (st .entry)) ⌝ }
+{
+    let Found::Present(c) = engine_valid_values::chart_of(sheet, directory, e) else {
+        return answered(4, 0);
+    };
+    let j = engine_finders::with_role(sheet, directory, c, 1);
+    let none = [0i32; 4];
+    engine_bodies::event_body(sheet, directory, old, st, e, c.f4 as usize + j, &none)
+}
+
+// A telegram that was removed reaches a bound element.
+fn received(
+    sheet: &[u8],
+    directory: &[usize; 16],
+    old: &[i32],
+    st: &mut [i32],
+    t: Telegram,
+) -> Answer
+    requires { ⌜ Playing (now sheet) (now directory) (now st) × (length (now old) ≡ length (now st)) × (telegramFits (now sheet) t ≡ true) × (isInternal t ≡ false) × (isBelow (t .receiver) (externalsOf (now sheet)) ≡ false) ⌝ }
+    ensures { λ a. ⌜ ended a (now (st .exit)) ≡ delivered (now (sheet .entry)) (now (old .entry)) t (now (st .entry)) ⌝ }
+{
+    let e = engine_valid_words::number(t.receiver);
+    let Found::Present(c) = engine_valid_values::chart_of(sheet, directory, e) else {
+        return answered(4, 0);
+    };
+    let j = engine_finders::reaction_on(
+        sheet,
+        directory,
+        c,
+        engine_valid_words::number(t.port),
+        engine_valid_words::number(t.name),
+    );
+    if j < c.f5 as usize {
+        let brought = [t.d0, t.d1, t.d2, t.d3];
+        return engine_bodies::event_body(sheet, directory, old, st, e, c.f4 as usize + j, &brought);
+    }
+    panicked(sheet, directory, old, st, e)
+}
+
+// Handed outside: no body runs.
+fn handed(t: Telegram) -> Answer
+    ensures { λ a. ⌜ a ≡ answer 0 0 (Outside t) ⌝ }
+{
+    Answer {
+        number: 0,
+        steps: 0,
+        handed: Handed::Outside(t),
+    }
+}
+
+// 2: "If r is external it is handed outside. If bound, the reaction for its port and name runs, or
+// without one the panic body."
+pub fn delivers(
+    sheet: &[u8],
+    directory: &[usize; 16],
+    old: &[i32],
+    st: &mut [i32],
+    t: Telegram,
+) -> Answer
+    requires { ⌜ Playing (now sheet) (now directory) (now st) × (length (now old) ≡ length (now st)) × (telegramFits (now sheet) t ≡ true) × (isInternal t ≡ false) ⌝ }
+    ensures { λ a. ⌜ ended a (now (st .exit)) ≡ delivered (now (sheet .entry)) (now (old .entry)) t (now (st .entry)) ⌝ }
+{
+    if engine_valid_words::is_below(t.receiver, engine_valid_values::externals(sheet, directory)) {
+        return handed(t);
+    }
+    received(sheet, directory, old, st, t)
+}
+
+// 4: an internal telegram that was removed: "its reaction runs"
+pub fn reacts(
+    sheet: &[u8],
+    directory: &[usize; 16],
+    old: &[i32],
+    st: &mut [i32],
+    t: Telegram,
+) -> Answer
+    requires { ⌜ Playing (now sheet) (now directory) (now st) × (length (now old) ≡ length (now st)) × (telegramFits (now sheet) t ≡ true) × (isInternal t ≡ true) ⌝ }
+    ensures { λ a. ⌜ ended a (now (st .exit)) ≡ reacting (now (sheet .entry)) (now (old .entry)) (natAbs (t .receiver)) (elementBody (now (sheet .entry)) (natAbs (t .receiver)) (reactsTo (natAbs (t .name)))) t (now (st .entry)) ⌝ }
+{
+    let e = engine_valid_words::number(t.receiver);
+    let Found::Present(c) = engine_valid_values::chart_of(sheet, directory, e) else {
+        return answered(4, 0);
+    };
+    let j = engine_finders::reaction_to(sheet, directory, c, engine_valid_words::number(t.name));
+    let brought = [t.d0, t.d1, t.d2, t.d3];
+    engine_bodies::event_body(sheet, directory, old, st, e, c.f4 as usize + j, &brought)
+}

@@ -1,0 +1,1 @@
+// Demand 3 of what playing a list returns: a definition and a theorem only.

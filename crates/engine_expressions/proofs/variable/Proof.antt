@@ -1,0 +1,121 @@
+use mathlib.Core.Path.{_≡_, sym, ap, _∙_}
+use native.Mathlib.Omega.{arith}
+use lib.IntN.{ℤ}
+use mir.Syntax.{w32}
+use mir.Val.{ofZ, toZ}
+use borrow.Author.Needs.{needs}
+use Rattle.engine_ints.specs.declared.Work.the-variants.{Word}
+use Rattle.engine_ints.proofs.Range.{back}
+use Rattle.engine_ready.proofs.Expressions.{local-inside, no-other-place}
+use Rattle.engine_expressions.proofs.Places.{not-absent, element-low, variable-here, variable-at, local-at, constant-at, constant-none}
+use Rattle.engine_expressions.proofs.variable.Statement.{statement}
+use Rattle.engine_expressions.proofs.variable.Tie as tie
+
+cast-number : tie.Need-cast-number
+cast-number c = search needs
+
+element-copy-out-read : tie.Need-element-copy-out-read
+element-copy-out-read c = search needs
+
+read-requires : tie.Need-read-requires
+read-requires c κs = search needs
+
+enum-known-b : tie.Need-enum-known-b
+enum-known-b c = search needs
+
+enum-told : tie.Need-enum-told
+enum-told c = search needs
+
+returns : tie.Need-returns
+returns c = absurd (not-absent _ _ (c .before .before .before .before .before .before .before .pre .1 .running .binding) (sym (c .before .before .read .ensures) ∙ c .enum-told .given .1))
+
+add-field : tie.Need-add-field
+add-field c = search needs
+
+field-requires : tie.Need-field-requires
+field-requires c κs = search needs
+
+read-requires-2 : tie.Need-read-requires-2
+read-requires-2 c κs = search needs
+
+enum-known-c : tie.Need-enum-known-c
+enum-known-c c = search needs
+
+enum-told-2 : tie.Need-enum-told-2
+enum-told-2 c = search needs
+
+returns-2 : tie.Need-returns-2
+returns-2 c = constant-none _ _ _ _ (c .before .before .before .before .before .before .before .before .before .before .before .before .pre .1) _ _ (c .before .before .before .before .before .before .before .before .before .before .before .before .pre .3) (c .before .before .before .before .before .before .before .before .before .before .before .before .pre .2) (c .before .before .before .before .before .before .before .before .before .before .before .before .pre .4) (c .before .before .before .before .before .before .before .before .before .match .keys1) _ (sym (c .before .before .before .before .before .before .before .read .ensures) ∙ c .before .before .before .before .before .b .given .1) _ (c .before .before .before .field .ensures .0) (sym (c .before .before .read2 .ensures) ∙ c .enum-told2 .given .1) _
+
+element-copy-out-literal : tie.Need-element-copy-out-literal
+element-copy-out-literal c = search needs
+
+literal-requires : tie.Need-literal-requires
+literal-requires c κs = element-low _ _ _ _ (c .before .before .before .before .before .before .before .before .before .before .before .before .before .before .pre .1)
+
+element-copy-out-t25 : tie.Need-element-copy-out-t25
+element-copy-out-t25 c = search needs
+
+add-t26 : tie.Need-add-t26
+add-t26 c = record { fits = omega (arith, variable-here _ _ _ _ (c .before .before .before .before .pre .1) _ _ (c .before .before .before .before .pre .3) (c .before .before .before .before .pre .2) (c .before .before .before .before .pre .4) (c .before .match .keys2)) }
+
+mul-t27 : tie.Need-mul-t27
+mul-t27 c = record { fits = omega (arith, variable-here _ _ _ _ (c .before .before .before .before .pre .1) _ _ (c .before .before .before .before .pre .3) (c .before .before .before .before .pre .2) (c .before .before .before .before .pre .4) (c .before .match .keys2)) }
+
+add-t28 : tie.Need-add-t28
+add-t28 c = record { fits = omega (arith, variable-here _ _ _ _ (c .before .before .before .before .pre .1) _ _ (c .before .before .before .before .pre .3) (c .before .before .before .before .pre .2) (c .before .before .before .before .pre .4) (c .before .match .keys2)) }
+
+mul-t29 : tie.Need-mul-t29
+mul-t29 c = record { fits = omega (arith, variable-here _ _ _ _ (c .before .before .before .before .pre .1) _ _ (c .before .before .before .before .pre .3) (c .before .before .before .before .pre .2) (c .before .before .before .before .pre .4) (c .before .match .keys2)) }
+
+shared-slice-copy-out-t31 : tie.Need-shared-slice-copy-out-t31
+shared-slice-copy-out-t31 c = omega (arith, variable-here _ _ _ _ (c .before .before .before .before .pre .1) _ _ (c .before .before .before .before .pre .3) (c .before .before .before .before .pre .2) (c .before .before .before .before .pre .4) (c .before .match .keys2))
+
+mul-t32 : tie.Need-mul-t32
+mul-t32 c = search needs
+
+element-copy-out-t35 : tie.Need-element-copy-out-t35
+element-copy-out-t35 c = local-inside _ _ _ _ (c .before .before .before .pre .1) _ _ (c .before .before .before .pre .3) (c .before .before .before .pre .2) (c .before .before .before .pre .4) (c .match .keys3)
+
+returns-3 : tie.Need-returns-3
+returns-3 c = let h : toZ w32 (ofZ w32 (c .literal .result)) ≡ c .literal .result = search needs in ap (λ (z : ℤ). Word z (c .before .before .before .before .before .before .before .before .before .before .before .before .before .before .before .args .left)) (h ∙ c .literal .ensures) ∙ constant-at _ _ _ _ (c .before .before .before .before .before .before .before .before .before .before .before .before .before .before .before .pre .1) _ _ (c .before .before .before .before .before .before .before .before .before .before .before .before .before .before .before .pre .3) (c .before .before .before .before .before .before .before .before .before .before .before .before .before .before .before .pre .2) (c .before .before .before .before .before .before .before .before .before .before .before .before .before .before .before .pre .4) (c .before .before .before .before .before .before .before .before .before .before .before .before .match .keys1) _ (sym (c .before .before .before .before .before .before .before .before .before .before .read .ensures) ∙ c .before .before .before .before .before .before .before .before .b .given .1) _ (c .before .before .before .before .before .before .field .ensures .0) _ (sym (c .before .before .before .before .before .read2 .ensures) ∙ c .before .before .before .c .given .1) _
+
+returns-4 : tie.Need-returns-4
+returns-4 c = ap (λ (z : ℤ). Word z (c .before .before .before .before .before .args .left)) (back (record { sfits = c .t31 .given })) ∙ variable-at _ _ _ _ (c .before .before .before .before .before .pre .1) _ _ (c .before .before .before .before .before .pre .3) (c .before .before .before .before .before .pre .2) (c .before .before .before .before .before .pre .4) (c .before .before .match .keys2) _
+
+returns-5 : tie.Need-returns-5
+returns-5 c = ap (λ (z : ℤ). Word z (c .before .before .before .before .args .left)) (back (record { sfits = c .t35 .given })) ∙ local-at _ _ _ _ (c .before .before .before .before .pre .1) _ _ (c .before .before .before .before .pre .3) (c .before .before .before .before .pre .2) (c .before .before .before .before .pre .4) (c .before .match .keys3) _
+
+returns-6 : tie.Need-returns-6
+returns-6 c = let n = c .match .rest in absurd (no-other-place _ _ _ _ (c .before .before .before .pre .1) _ _ (c .before .before .before .pre .3) (c .before .before .before .pre .2) (c .before .before .before .pre .4) (n .0 .0 .1) (n .0 .1) (n .1))
+
+pub variable-spec : {M : Type 1} → statement M
+variable-spec =
+    tie.close
+    (tie.spec
+    cast-number
+    element-copy-out-read
+    read-requires
+    enum-known-b
+    enum-told
+    returns
+    add-field
+    field-requires
+    read-requires-2
+    enum-known-c
+    enum-told-2
+    returns-2
+    element-copy-out-literal
+    literal-requires
+    element-copy-out-t25
+    add-t26
+    mul-t27
+    add-t28
+    mul-t29
+    shared-slice-copy-out-t31
+    mul-t32
+    element-copy-out-t35
+    returns-3
+    returns-4
+    returns-5
+    returns-6)

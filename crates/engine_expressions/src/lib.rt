@@ -1,0 +1,154 @@
+// What an expression gives.
+use engine_ints::Work;
+use engine_ready::BINDING;
+use engine_ready::ELEMENT;
+use engine_ready::FIRST_CELL;
+use sheet::Found;
+use sheet::Record;
+ghost use mathlib.Core.Path.{_≡_};
+ghost use Prim.Native.Nat.{suc, _<_};
+ghost use Rattle.sheet.specs.declared.Found.the-variants.{Present};
+ghost use Rattle.sheet.specs.Sheet.{directoryOf, recordOf};
+ghost use Rattle.sheet_rules.specs.Forms.{read, formOf};
+ghost use Rattle.machine.specs.Eval.{literalValue, evalOf};
+ghost use Rattle.engine_ints.specs.Work.{workOf, thenWork, binaryWork, notWork};
+ghost use Rattle.engine_ready.specs.Ready.{contextAt, Ready, IsExpression};
+
+// The word that a literal writes down, in element e.
+fn literal(e: usize, r: Record) -> i32
+    requires { ⌜ e < 65536 ⌝ }
+    ensures { λ z. ⌜ z ≡ literalValue e r .word ⌝ }
+{
+    let op = r.f0;
+    match op {
+        1 => r.f1 as i32,
+        2 => engine_words::signed(r.f1 as u32 + 65536 * (r.f2 as u32)),
+        3 => r.f2 as i32,
+        4 => r.f1 as i32,
+        5 => r.f1 as i32,
+        _ => e as i32,
+    }
+}
+
+fn negated(x: Work) -> Work
+    ensures { λ y. ⌜ y ≡ thenWork x notWork ⌝ }
+{
+    match x {
+        Work::Word { word, left } => engine_ints::not(word, left),
+        Work::Refused { number, left } => Work::Refused { number, left },
+        Work::Stuck => Work::Stuck,
+    }
+}
+
+// An operator on a word and what its second operand gives.
+fn combined(op: u16, a: i32, y: Work) -> Work
+    ensures { λ z. ⌜ z ≡ thenWork y (λ b l. binaryWork op a b l) ⌝ }
+{
+    match y {
+        Work::Word { word, left } => engine_ints::binary(op, a, word, left),
+        Work::Refused { number, left } => Work::Refused { number, left },
+        Work::Stuck => Work::Stuck,
+    }
+}
+
+// A variable: place 0 the constant in the element's binding, 1 of the chart, 2 of the body.
+fn variable(
+    sheet: &[u8],
+    directory: &[usize; 16],
+    context: &[usize; 6],
+    st: &[i32],
+    lo: &[i32; 16],
+    n: usize,
+    r: Record,
+    left: u32,
+) -> Work
+    requires { ⌜ (now directory ≡ directoryOf (now sheet)) × Ready (now sheet) (now context) (now st) (now lo) × IsExpression (now sheet) (now context) n × (recordOf (now sheet) 6 n ≡ Present r) × (formOf (r .f0) ≡ read) ⌝ }
+    ensures { λ z. ⌜ z ≡ workOf (evalOf (now (sheet .entry)) (contextAt (now (sheet .entry)) (now (context .entry))) (now (st .entry)) (now (lo .entry)) n (suc left)) ⌝ }
+{
+    let place = r.f1;
+    let number = r.f2 as usize;
+    match place {
+        0 => {
+            let Found::Present(b) = sheet_reader::read(sheet, directory, 7, context[BINDING]) else {
+                return Work::Stuck;
+            };
+            let Found::Present(c) = sheet_reader::read(
+                sheet,
+                directory,
+                6,
+                sheet_fields::field(b, 1 + number),
+            ) else {
+                return Work::Stuck;
+            };
+            Work::Word {
+                word: literal(context[ELEMENT], c),
+                left,
+            }
+        }
+        1 => Work::Word {
+            word: st[8 + 8 * (context[FIRST_CELL] + number)],
+            left,
+        },
+        2 => Work::Word {
+            word: lo[number],
+            left,
+        },
+        _ => Work::Stuck,
+    }
+}
+
+// What node n gives, with that many steps left.
+pub fn eval(
+    sheet: &[u8],
+    directory: &[usize; 16],
+    context: &[usize; 6],
+    st: &[i32],
+    lo: &[i32; 16],
+    n: usize,
+    left: u32,
+) -> Work
+    requires { ⌜ (now directory ≡ directoryOf (now sheet)) × Ready (now sheet) (now context) (now st) (now lo) × IsExpression (now sheet) (now context) n ⌝ }
+    ensures { λ z. ⌜ z ≡ workOf (evalOf (now (sheet .entry)) (contextAt (now (sheet .entry)) (now (context .entry))) (now (st .entry)) (now (lo .entry)) n left) ⌝ }
+{
+    if left == 0 {
+        return Work::Refused {
+            number: 10,
+            left: 0,
+        };
+    }
+    let rest = left - 1;
+    let Found::Present(r) = sheet_reader::read(sheet, directory, 6, n) else {
+        return Work::Stuck;
+    };
+    let op = r.f0;
+    match op {
+        1..=6 => Work::Word {
+            word: literal(context[ELEMENT], r),
+            left: rest,
+        },
+        7 => variable(sheet, directory, context, st, lo, n, r, rest),
+        8 => negated(eval(sheet, directory, context, st, lo, r.f1 as usize, rest)),
+        9..=16 => {
+            let x = eval(sheet, directory, context, st, lo, r.f1 as usize, rest);
+            match x {
+                Work::Word { word, left } => combined(
+                    op,
+                    word,
+                    eval(sheet, directory, context, st, lo, r.f2 as usize, left),
+                ),
+                Work::Refused { number, left } => Work::Refused { number, left },
+                Work::Stuck => Work::Stuck,
+            }
+        }
+        // "17 gives the clock's running word, 18 its value"
+        17 => Work::Word {
+            word: st[8 + 8 * (context[FIRST_CELL] + r.f1 as usize)],
+            left: rest,
+        },
+        18 => Work::Word {
+            word: st[9 + 8 * (context[FIRST_CELL] + r.f1 as usize)],
+            left: rest,
+        },
+        _ => Work::Stuck,
+    }
+}

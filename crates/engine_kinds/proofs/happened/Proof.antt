@@ -1,0 +1,110 @@
+use mathlib.Core.Path.{ap, _∙_}
+use native.Mathlib.Omega.{arith}
+use lib.IntN.{pos, natAbs}
+use lib.Signed.{leZ}
+use borrow.Author.Needs.{needs}
+use Rattle.machine_states.proofs.Parts.{is-counted, waiting-limit}
+use Rattle.machine_events.proofs.Taken.{nine, kind-from-0, as-outside, slice-copied, as-slice, none-happens, takes, taken-fits, taken-plays, taken-long, taken-outer, taken-inner, corrupt-bound, as-deliver, as-corrupt, as-inner}
+use Rattle.machine_events.proofs.Received.{receiver-number}
+use Rattle.engine_store.proofs.Laws.{given}
+use Rattle.engine_queue.proofs.Laws.{laid}
+use Rattle.engine_kinds.proofs.Calls.{down}
+use Rattle.engine_kinds.proofs.happened.Statement.{statement}
+use Rattle.engine_kinds.proofs.happened.Tie as tie
+
+number-at-requires : tie.Need-number-at-requires
+number-at-requires c κs = (omega (arith, nine _ _ (c .before .pre .1)), kind-from-0 _ _ (c .before .pre .1))
+
+sent-outside-requires : tie.Need-sent-outside-requires
+sent-outside-requires c κs = (c .before .before .before .before .pre .0, nine _ _ (c .before .before .before .before .pre .1))
+
+same-length : tie.Need-same-length
+same-length c = search needs
+
+returns : tie.Need-returns
+returns c = as-outside _ _ _ (c .before .before .before .before .before .before .pre .1) _ (c .before .before .before .before .number-at .ensures) (c .before .before .before .if1 .taken) _ (c .before .sent-outside .ensures)
+
+sliced-requires : tie.Need-sliced-requires
+sliced-requires c κs = (c .before .before .before .before .before .pre .0, slice-copied _ _ _ (c .before .before .before .before .before .pre .1) _ (c .before .before .before .number-at .ensures) _ (c .before .before .before .before .before .pre .4) (c .before .if2 .taken))
+
+same-length-2 : tie.Need-same-length-2
+same-length-2 c = search needs
+
+returns-2 : tie.Need-returns-2
+returns-2 c = as-slice _ _ _ (c .before .before .before .before .before .before .before .pre .1) _ (c .before .before .before .before .before .number-at .ensures) _ (c .before .before .before .before .before .before .before .pre .4) (c .before .before .before .if2 .taken) _ (c .before .sliced .ensures)
+
+waiting-count-requires : tie.Need-waiting-count-requires
+waiting-count-requires c κs = laid _ _ (c .before .before .before .before .before .pre .0 .state)
+
+answered-requires : tie.Need-answered-requires
+answered-requires c κs = search needs
+
+same-length-3 : tie.Need-same-length-3
+same-length-3 c = search needs
+
+returns-3 : tie.Need-returns-3
+returns-3 c = down _ 5 0 _ _ (c .answered .ensures) (none-happens _ _ _ (c .before .before .before .before .before .before .before .before .pre .1) _ (c .before .before .before .before .before .before .number-at .ensures) (c .before .before .before .before .before .if1 .left) (c .before .before .before .before .if2 .left) _ (c .before .before .before .before .before .before .before .before .pre .2) (is-counted _ _ (c .before .before .before .before .before .before .before .before .pre .0 .state)) _ (c .before .before .waiting-count .ensures) (c .before .if3 .taken))
+
+telegram-at-requires : tie.Need-telegram-at-requires
+telegram-at-requires c κs = (laid _ _ (c .before .before .before .before .before .before .before .before .pre .0 .state) .long, omega (arith, waiting-limit _ _ (c .before .before .before .before .before .before .before .before .pre .0 .state), c .before .before .waiting-count .ensures, c .before .if3 .left))
+
+remove-requires : tie.Need-remove-requires
+remove-requires c κs = (laid _ _ (c .before .before .before .before .before .before .before .before .before .before .pre .0 .state), omega (arith, c .before .before .before .before .waiting-count .ensures, c .before .before .before .if3 .left))
+
+delivers-requires : tie.Need-delivers-requires
+delivers-requires c κs = let k = takes _ _ _ _ (c .before .before .before .before .before .before .before .before .before .before .before .before .before .before .pre .0) (c .before .before .before .before .before .before .before .before .before .before .before .before .before .before .pre .1) _ (c .before .before .before .before .before .before .before .before .before .before .before .before .number-at .ensures) (c .before .before .before .before .before .before .before .before .before .before .before .if1 .left) (c .before .before .before .before .before .before .before .before .before .before .if2 .left) _ (c .before .before .before .before .before .before .before .before .before .before .before .before .before .before .pre .2) _ (c .before .before .before .before .before .before .before .before .waiting-count .ensures) (c .before .before .before .before .before .before .before .if3 .left) _ (c .before .before .before .before .before .telegram-at .ensures _ (c .before .before .before .before .before .before .before .before .before .before .before .before .before .before .pre .0 .state .whole)) _ (c .before .before .before .remove .ensures _ (c .before .before .before .before .before .before .before .before .before .before .before .before .before .before .pre .0 .state)) in (taken-plays k, taken-long k (c .before .before .before .before .before .before .before .before .before .before .before .before .before .before .args .old .now) (c .before .before .before .before .before .before .before .before .before .before .before .before .before .before .pre .3), taken-fits k, taken-outer k (c .before .match .keys1))
+
+number-requires : tie.Need-number-requires
+number-requires c κs = ap (leZ (pos 0)) (given (c .before .before .before .before .before .before .telegram-at .result .receiver) (c .struct-told .given .1 .0 .1)) ∙ receiver-number _ (c .before .before .before .before .before .before .before .before .before .before .before .before .before .before .before .pre .0 .passed) _ (taken-fits (takes _ _ _ _ (c .before .before .before .before .before .before .before .before .before .before .before .before .before .before .before .pre .0) (c .before .before .before .before .before .before .before .before .before .before .before .before .before .before .before .pre .1) _ (c .before .before .before .before .before .before .before .before .before .before .before .before .before .number-at .ensures) (c .before .before .before .before .before .before .before .before .before .before .before .before .if1 .left) (c .before .before .before .before .before .before .before .before .before .before .before .if2 .left) _ (c .before .before .before .before .before .before .before .before .before .before .before .before .before .before .before .pre .2) _ (c .before .before .before .before .before .before .before .before .before .waiting-count .ensures) (c .before .before .before .before .before .before .before .before .if3 .left) _ (c .before .before .before .before .before .before .telegram-at .ensures _ (c .before .before .before .before .before .before .before .before .before .before .before .before .before .before .before .pre .0 .state .whole)) _ (c .before .before .before .before .remove .ensures _ (c .before .before .before .before .before .before .before .before .before .before .before .before .before .before .before .pre .0 .state))))
+
+panicked-requires : tie.Need-panicked-requires
+panicked-requires c κs = let k = takes _ _ _ _ (c .before .before .before .before .before .before .before .before .before .before .before .before .before .before .before .before .pre .0) (c .before .before .before .before .before .before .before .before .before .before .before .before .before .before .before .before .pre .1) _ (c .before .before .before .before .before .before .before .before .before .before .before .before .before .before .number-at .ensures) (c .before .before .before .before .before .before .before .before .before .before .before .before .before .if1 .left) (c .before .before .before .before .before .before .before .before .before .before .before .before .if2 .left) _ (c .before .before .before .before .before .before .before .before .before .before .before .before .before .before .before .before .pre .2) _ (c .before .before .before .before .before .before .before .before .before .before .waiting-count .ensures) (c .before .before .before .before .before .before .before .before .before .if3 .left) _ (c .before .before .before .before .before .before .before .telegram-at .ensures _ (c .before .before .before .before .before .before .before .before .before .before .before .before .before .before .before .before .pre .0 .state .whole)) _ (c .before .before .before .before .before .remove .ensures _ (c .before .before .before .before .before .before .before .before .before .before .before .before .before .before .before .before .pre .0 .state)) in (taken-plays k, taken-long k (c .before .before .before .before .before .before .before .before .before .before .before .before .before .before .before .before .args .old .now) (c .before .before .before .before .before .before .before .before .before .before .before .before .before .before .before .before .pre .3), corrupt-bound k (c .before .before .before .match .keys2) _ (c .number .ensures ∙ ap natAbs (given (c .before .before .before .before .before .before .before .telegram-at .result .receiver) (c .before .struct-told .given .1 .0 .1))))
+
+reacts-requires : tie.Need-reacts-requires
+reacts-requires c κs = let k = takes _ _ _ _ (c .before .before .before .before .before .before .before .before .before .before .before .before .before .before .pre .0) (c .before .before .before .before .before .before .before .before .before .before .before .before .before .before .pre .1) _ (c .before .before .before .before .before .before .before .before .before .before .before .before .number-at .ensures) (c .before .before .before .before .before .before .before .before .before .before .before .if1 .left) (c .before .before .before .before .before .before .before .before .before .before .if2 .left) _ (c .before .before .before .before .before .before .before .before .before .before .before .before .before .before .pre .2) _ (c .before .before .before .before .before .before .before .before .waiting-count .ensures) (c .before .before .before .before .before .before .before .if3 .left) _ (c .before .before .before .before .before .telegram-at .ensures _ (c .before .before .before .before .before .before .before .before .before .before .before .before .before .before .pre .0 .state .whole)) _ (c .before .before .before .remove .ensures _ (c .before .before .before .before .before .before .before .before .before .before .before .before .before .before .pre .0 .state)) in (taken-plays k, taken-long k (c .before .before .before .before .before .before .before .before .before .before .before .before .before .before .args .old .now) (c .before .before .before .before .before .before .before .before .before .before .before .before .before .before .pre .3), taken-fits k, taken-inner k (c .before .match .rest .0 .1) (c .before .match .rest .1))
+
+same-length-4 : tie.Need-same-length-4
+same-length-4 c = search needs
+
+returns-4 : tie.Need-returns-4
+returns-4 c = as-deliver (takes _ _ _ _ (c .before .before .before .before .before .before .before .before .before .before .before .before .before .before .before .before .pre .0) (c .before .before .before .before .before .before .before .before .before .before .before .before .before .before .before .before .pre .1) _ (c .before .before .before .before .before .before .before .before .before .before .before .before .before .before .number-at .ensures) (c .before .before .before .before .before .before .before .before .before .before .before .before .before .if1 .left) (c .before .before .before .before .before .before .before .before .before .before .before .before .if2 .left) _ (c .before .before .before .before .before .before .before .before .before .before .before .before .before .before .before .before .pre .2) _ (c .before .before .before .before .before .before .before .before .before .before .waiting-count .ensures) (c .before .before .before .before .before .before .before .before .before .if3 .left) _ (c .before .before .before .before .before .before .before .telegram-at .ensures _ (c .before .before .before .before .before .before .before .before .before .before .before .before .before .before .before .before .pre .0 .state .whole)) _ (c .before .before .before .before .before .remove .ensures _ (c .before .before .before .before .before .before .before .before .before .before .before .before .before .before .before .before .pre .0 .state))) _ (c .before .before .before .before .before .before .before .before .before .before .before .before .before .before .before .before .pre .4) _ (c .before .before .before .match .keys1) (c .before .delivers .ensures)
+
+same-length-5 : tie.Need-same-length-5
+same-length-5 c = search needs
+
+returns-5 : tie.Need-returns-5
+returns-5 c = as-corrupt (takes _ _ _ _ (c .before .before .before .before .before .before .before .before .before .before .before .before .before .before .before .before .before .before .pre .0) (c .before .before .before .before .before .before .before .before .before .before .before .before .before .before .before .before .before .before .pre .1) _ (c .before .before .before .before .before .before .before .before .before .before .before .before .before .before .before .before .number-at .ensures) (c .before .before .before .before .before .before .before .before .before .before .before .before .before .before .before .if1 .left) (c .before .before .before .before .before .before .before .before .before .before .before .before .before .before .if2 .left) _ (c .before .before .before .before .before .before .before .before .before .before .before .before .before .before .before .before .before .before .pre .2) _ (c .before .before .before .before .before .before .before .before .before .before .before .before .waiting-count .ensures) (c .before .before .before .before .before .before .before .before .before .before .before .if3 .left) _ (c .before .before .before .before .before .before .before .before .before .telegram-at .ensures _ (c .before .before .before .before .before .before .before .before .before .before .before .before .before .before .before .before .before .before .pre .0 .state .whole)) _ (c .before .before .before .before .before .before .before .remove .ensures _ (c .before .before .before .before .before .before .before .before .before .before .before .before .before .before .before .before .before .before .pre .0 .state))) _ (c .before .before .before .before .before .before .before .before .before .before .before .before .before .before .before .before .before .before .pre .4) _ (c .before .before .before .before .before .match .keys2) _ (c .before .before .number .ensures ∙ ap natAbs (given (c .before .before .before .before .before .before .before .before .before .telegram-at .result .receiver) (c .before .before .before .struct-told .given .1 .0 .1))) (c .before .panicked .ensures)
+
+same-length-6 : tie.Need-same-length-6
+same-length-6 c = search needs
+
+returns-6 : tie.Need-returns-6
+returns-6 c = as-inner (takes _ _ _ _ (c .before .before .before .before .before .before .before .before .before .before .before .before .before .before .before .before .pre .0) (c .before .before .before .before .before .before .before .before .before .before .before .before .before .before .before .before .pre .1) _ (c .before .before .before .before .before .before .before .before .before .before .before .before .before .before .number-at .ensures) (c .before .before .before .before .before .before .before .before .before .before .before .before .before .if1 .left) (c .before .before .before .before .before .before .before .before .before .before .before .before .if2 .left) _ (c .before .before .before .before .before .before .before .before .before .before .before .before .before .before .before .before .pre .2) _ (c .before .before .before .before .before .before .before .before .before .before .waiting-count .ensures) (c .before .before .before .before .before .before .before .before .before .if3 .left) _ (c .before .before .before .before .before .before .before .telegram-at .ensures _ (c .before .before .before .before .before .before .before .before .before .before .before .before .before .before .before .before .pre .0 .state .whole)) _ (c .before .before .before .before .before .remove .ensures _ (c .before .before .before .before .before .before .before .before .before .before .before .before .before .before .before .before .pre .0 .state))) _ (c .before .before .before .before .before .before .before .before .before .before .before .before .before .before .before .before .pre .4) _ (c .before .before .before .match .rest .0 .1) (c .before .before .before .match .rest .1) (c .before .reacts .ensures)
+
+pub happened-spec : {M : Type 1} → statement M
+happened-spec =
+    tie.close
+    (tie.spec
+    number-at-requires
+    sent-outside-requires
+    same-length
+    returns
+    sliced-requires
+    same-length-2
+    returns-2
+    waiting-count-requires
+    answered-requires
+    same-length-3
+    returns-3
+    telegram-at-requires
+    remove-requires
+    delivers-requires
+    number-requires
+    panicked-requires
+    reacts-requires
+    same-length-4
+    returns-4
+    same-length-5
+    returns-5
+    same-length-6
+    returns-6)

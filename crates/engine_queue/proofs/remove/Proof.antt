@@ -1,0 +1,106 @@
+use Prim.Native.Nat.{_+_, _-_, _<_, _≤_}
+use mathlib.Core.Path.{_≡_, refl, _∙_}
+use native.Mathlib.Omega.{arith}
+use lib.IntN.{pos}
+use lib.ListN.{length, length-set, getD, set, replicate}
+use borrow.Author.Needs.{needs}
+use Rattle.machine.specs.State.{wordOf, waiting, putWords}
+use Rattle.engine_store.proofs.Laws.{given}
+use Rattle.engine_queue.proofs.Laws.{waiting-limit}
+use Rattle.engine_queue.proofs.Removed.{Moved, moved-none, moved-more, removed}
+use Rattle.engine_queue.proofs.remove.Statement.{statement}
+use Rattle.engine_queue.proofs.remove.Tie as tie
+
+abbrev Inv-loop : tie.InvT-loop
+Inv-loop st₀ j n end i₀ st i = (i₀ ≤ i) × (i ≤ end) × (length st ≡ length st₀) × Moved st₀ i₀ i st
+
+abbrev μ-loop : tie.MeasureT-loop
+μ-loop st₀ j n end i₀ st i = end - i
+
+waiting-count-requires : tie.Need-waiting-count-requires Inv-loop μ-loop
+waiting-count-requires c κs = c .before .pre .0
+
+sub-n : tie.Need-sub-n Inv-loop μ-loop
+sub-n c = let e = c .waiting-count .ensures in let l = c .before .before .pre .1 in omega arith
+
+place-requires : tie.Need-place-requires Inv-loop μ-loop
+place-requires c κs = (c .before .before .before .pre .0 .long, (let e = c .before .waiting-count .ensures in let l = c .before .before .before .pre .1 in omega (arith, waiting-limit _ (c .before .before .before .pre .0))))
+
+place-requires-2 : tie.Need-place-requires-2 Inv-loop μ-loop
+place-requires-2 c κs = (c .before .before .before .before .before .pre .0 .long, (let l = c .before .before .before .before .before .pre .1 in omega (arith, waiting-limit _ (c .before .before .before .before .before .pre .0))))
+
+loop-holds : tie.Need-loop-holds Inv-loop μ-loop
+loop-holds c = let e = c .before .before .before .before .waiting-count .ensures in let l = c .before .before .before .before .before .before .pre .1 in let p = c .before .before .place .ensures .0 in let q = c .place2 .ensures .0 in (omega arith, omega arith, refl, moved-none _ _)
+
+add-z : tie.Need-add-z Inv-loop μ-loop
+add-z c = let l = c .loop-test .taken in let e = c .before .before .before .before .before .before .waiting-count .ensures in let p = c .before .before .before .before .place .ensures .0 in record { fits = omega (arith, waiting-limit _ (c .before .before .before .before .before .before .before .before .pre .0)) }
+
+mul-z : tie.Need-mul-z Inv-loop μ-loop
+mul-z c = let l = c .loop-test .taken in let e = c .before .before .before .before .before .before .waiting-count .ensures in let p = c .before .before .before .before .place .ensures .0 in let w = c .before .loop .inv .2 in let g = c .before .before .before .before .before .before .before .before .pre .0 .long in let k : c .before .loop .i + 8 < length (c .before .before .before .before .before .before .before .before .args .st .now) = omega (arith, waiting-limit _ (c .before .before .before .before .before .before .before .before .pre .0)) in search needs
+
+slice-copy-out-z : tie.Need-slice-copy-out-z Inv-loop μ-loop
+slice-copy-out-z c = let l = c .loop-test .taken in let e = c .before .before .before .before .before .before .waiting-count .ensures in let p = c .before .before .before .before .place .ensures .0 in let w = c .before .loop .inv .2 in let g = c .before .before .before .before .before .before .before .before .pre .0 .long in omega (arith, waiting-limit _ (c .before .before .before .before .before .before .before .before .pre .0))
+
+mul-z-2 : tie.Need-mul-z-2 Inv-loop μ-loop
+mul-z-2 c = let l = c .before .loop-test .taken in let e = c .before .before .before .before .before .before .before .waiting-count .ensures in let p = c .before .before .before .before .before .place .ensures .0 in let w = c .before .before .loop .inv .2 in let g = c .before .before .before .before .before .before .before .before .before .pre .0 .long in let k : c .before .before .loop .i < length (c .before .before .before .before .before .before .before .before .before .args .st .now) = omega (arith, waiting-limit _ (c .before .before .before .before .before .before .before .before .before .pre .0)) in search needs
+
+slice-set-from-z : tie.Need-slice-set-from-z Inv-loop μ-loop
+slice-set-from-z c = let l = c .before .loop-test .taken in let e = c .before .before .before .before .before .before .before .waiting-count .ensures in let p = c .before .before .before .before .before .place .ensures .0 in let w = c .before .before .loop .inv .2 in let g = c .before .before .before .before .before .before .before .before .before .pre .0 .long in omega (arith, waiting-limit _ (c .before .before .before .before .before .before .before .before .before .pre .0))
+
+add-i : tie.Need-add-i Inv-loop μ-loop
+add-i c = search needs
+
+loop-less : tie.Need-loop-less Inv-loop μ-loop
+loop-less c = let l = c .before .loop-test .taken in omega arith
+
+loop-again : tie.Need-loop-again Inv-loop μ-loop
+unfolding wordOf
+loop-again c =
+    let l = c .before .loop-test .taken in let e = c .before .before .before .before .before .before .before .waiting-count .ensures in let p = c .before .before .before .before .before .place .ensures .0 in let w = c .before .before .loop .inv .2 in let g = c .before .before .before .before .before .before .before .before .before .pre .0 .long in let a = c .before .before .loop .inv .0 in
+    let st = c .before .before .loop .st in let i = c .before .before .loop .i in
+    (omega arith, omega arith, simp length-set w, moved-more (c .before .before .before .before .before .before .before .before .before .args .st .now) st (c .before .before .before .place2 .result) i _ a (omega (arith, waiting-limit _ (c .before .before .before .before .before .before .before .before .before .pre .0))) (given (getD st (i + 8) (pos 0)) (c .z .given)) (c .before .before .loop .inv .3))
+
+put-words-requires : tie.Need-put-words-requires Inv-loop μ-loop
+put-words-requires c κs = let e = c .before .before .before .before .before .before .before .waiting-count .ensures in let p = c .before .before .before .before .before .place .ensures .0 in let w = c .before .before .loop .inv .2 in let g = c .before .before .before .before .before .before .before .before .before .pre .0 .long in let l = c .before .before .before .before .before .before .before .before .before .pre .1 in omega (arith, waiting-limit _ (c .before .before .before .before .before .before .before .before .before .pre .0))
+
+cast-set-word : tie.Need-cast-set-word Inv-loop μ-loop
+cast-set-word c = let e = c .before .before .before .before .before .before .before .before .before .before .waiting-count .ensures in record { sfits = omega (arith, waiting-limit _ (c .before .before .before .before .before .before .before .before .before .before .before .before .pre .0)) }
+
+set-word-requires : tie.Need-set-word-requires Inv-loop μ-loop
+set-word-requires c κs = let q = c .before .st .given in let w = c .before .before .before .before .before .loop .inv .2 in let m = c .before .before .before .before .before .before .before .before .before .before .before .before .pre .0 .long in omega arith
+
+same-length : tie.Need-same-length Inv-loop μ-loop
+same-length c = search needs
+
+returns : tie.Need-returns Inv-loop μ-loop
+returns c = λ s o.
+    let n = c .before .before .before .before .before .before .before .before .before .before .before .before .waiting-count .result - 1 in
+    let e = c .before .before .before .before .before .before .before .before .before .before .before .before .waiting-count .ensures in let here = c .before .before .before .before .before .before .before .before .before .before .before .before .before .before .pre .1 in
+    let k : n ≡ waiting (c .before .before .before .before .before .before .before .before .before .before .before .before .before .before .args .st .now) - 1 = omega arith in
+    let h : c .before .set-word .last .0 ≡ set (putWords (c .before .before .before .before .before .before .before .loop .st) (c .before .before .before .before .before .before .before .before .before .before .place .result) (replicate 8 (pos 0))) 0 (pos n) = rw (c .before .before .before .before .put-words .ensures, given (pos n) (omega (arith, waiting-limit _ (c .before .before .before .before .before .before .before .before .before .before .before .before .before .before .pre .0)))) at (c .before .set-word .ensures) in
+    h ∙ removed s (c .before .before .before .before .before .before .before .before .before .before .before .before .before .before .args .st .now) o (c .before .before .before .before .before .before .before .before .before .before .before .before .before .before .args .j) n (c .before .before .before .before .before .before .before .before .place2 .result) (c .before .before .before .before .before .before .before .before .before .before .place .result) (c .before .before .before .before .before .before .before .loop .i) (c .before .before .before .before .before .before .before .loop .st) here k (c .before .before .before .before .before .before .before .before .place2 .ensures .1 s (o .whole)) (c .before .before .before .before .before .before .before .before .before .before .place .ensures .1 s (o .whole)) (c .before .before .before .before .before .before .before .loop .inv .1) (c .before .before .before .before .before .before .loop-test .left) (c .before .before .before .before .before .before .before .loop .inv .2) (c .before .before .before .before .before .before .before .loop .inv .3)
+
+pub remove-spec : {M : Type 1} → statement M
+remove-spec =
+    tie.close
+    (tie.spec
+    Inv-loop
+    μ-loop
+    waiting-count-requires
+    sub-n
+    place-requires
+    place-requires-2
+    loop-holds
+    add-z
+    mul-z
+    slice-copy-out-z
+    mul-z-2
+    slice-set-from-z
+    add-i
+    loop-less
+    loop-again
+    put-words-requires
+    cast-set-word
+    set-word-requires
+    same-length
+    returns)

@@ -1,0 +1,83 @@
+-- What an engine knows while a body runs.
+use Prim.Native.Nat.{ℕ, _+_, _<_}
+use mathlib.Core.Path.{_≡_}
+use mathlib.Core.List.{List}
+use mathlib.Core.Bool.{true}
+use lib.ListN.{getD}
+use lib.IntN.{ℤ}
+use Rattle.sheet.specs.declared.Record.{Record}
+use Rattle.sheet.specs.declared.Range.{Range}
+use Rattle.sheet.specs.declared.Found.{Found}
+use Rattle.sheet.specs.declared.Found.the-variants.{Present, Absent}
+use Rattle.sheet.specs.Names.{charts, bodies, bindings, chartBodies}
+use Rattle.sheet.specs.Sheet.{recordOf}
+use Rattle.sheet_rules.specs.declared.Typed.the-variants.{Expression, Statement}
+use Rattle.sheet_rules.specs.declared.Checked.the-variants.{Passed}
+use Rattle.sheet_rules.specs.Fields.{fieldOf, typeAt}
+use Rattle.sheet_rules.specs.Shape.{treeShape}
+use Rattle.sheet_rules.specs.Types.{typeOf}
+use Rattle.machine.specs.Values.{firstCell}
+use Rattle.machine.specs.Valid.{OfSheet}
+use Rattle.machine.specs.Eval.{Context, evalOf}
+use Rattle.sheet_rules.specs.Check.{checkOf}
+use Rattle.machine_passed.specs.Places.{Placed, Locals}
+use Rattle.machine_sound.specs.Gives.{Gives}
+
+-- a record, all zero where there is none
+unfoldable pub recordOr0 : Found → Record
+recordOr0 (Present r) = r
+recordOr0 Absent = record { f0 = 0; f1 = 0; f2 = 0; f3 = 0; f4 = 0; f5 = 0; f6 = 0; f7 = 0 }
+
+-- Where a body runs, as six numbers: the element, the cell of its first variable, its binding's number, its chart's, its chart's first body's, the body's.
+abbrev pub elementIn : List ℕ → ℕ
+elementIn w = getD w 0 0
+
+abbrev pub firstCellIn : List ℕ → ℕ
+firstCellIn w = getD w 1 0
+
+abbrev pub bindingIn : List ℕ → ℕ
+bindingIn w = getD w 2 0
+
+abbrev pub chartIn : List ℕ → ℕ
+chartIn w = getD w 3 0
+
+abbrev pub firstBodyIn : List ℕ → ℕ
+firstBodyIn w = getD w 4 0
+
+abbrev pub bodyIn : List ℕ → ℕ
+bodyIn w = getD w 5 0
+
+unfoldable pub contextAt : List ℕ → List ℕ → Context
+contextAt s w = record { element = elementIn w; binding = recordOr0 (recordOf s bindings (bindingIn w)); chart = recordOr0 (recordOf s charts (chartIn w)); body = recordOr0 (recordOf s bodies (bodyIn w)) }
+
+-- the numbers are those of a body of an element on a passed sheet
+pub record Running (s w : List ℕ) : Type 0 where
+  pub passed : checkOf s ≡ Passed
+  pub placed : Placed s (contextAt s w)
+  pub cell : firstCellIn w ≡ firstCell s (elementIn w)
+  pub binding : recordOf s bindings (bindingIn w) ≡ Present (contextAt s w .binding)
+  pub first : firstBodyIn w ≡ chartBodies (contextAt s w .chart) .first
+
+-- a state of the sheet, and the body's variables of their types
+pub record Ready (s w : List ℕ) (st lo : List ℤ) : Type 0 where
+  pub running : Running s w
+  pub state : OfSheet s st
+  pub locals : Locals s (contextAt s w) lo
+
+-- node n is an expression of the body
+pub record IsExpression (s w : List ℕ) (n : ℕ) : Type 0 where
+  pub levels : ℕ
+  pub kind : ℕ
+  pub tree : treeShape s (contextAt s w .chart) (contextAt s w .body) levels n ≡ true
+  pub typed : typeOf s (contextAt s w .chart) (contextAt s w .body) n ≡ Expression kind
+
+-- node n is a statement of the body
+pub record IsStatement (s w : List ℕ) (n : ℕ) : Type 0 where
+  pub levels : ℕ
+  pub tree : treeShape s (contextAt s w .chart) (contextAt s w .body) levels n ≡ true
+  pub typed : typeOf s (contextAt s w .chart) (contextAt s w .body) n ≡ Statement
+
+-- each datum of node record r, for the declarations of a range, is an expression and gives a value of its declared type
+pub record HasData (s w : List ℕ) (st lo : List ℤ) (r : Record) (g : Range) : Type 0 where
+  pub each : (j : ℕ) → j < g .count → IsExpression s w (fieldOf r (4 + j))
+  pub gives : (j m : ℕ) → j < g .count → Gives s (typeAt s (g .first + j)) (evalOf s (contextAt s w) st lo (fieldOf r (4 + j)) m)

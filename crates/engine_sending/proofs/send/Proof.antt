@@ -1,0 +1,93 @@
+use mathlib.Core.Path.{refl, sym, ap, _∙_}
+use native.Mathlib.Omega.{arith}
+use borrow.Author.Needs.{needs}
+use Rattle.machine.specs.Run.{append}
+use Rattle.engine_queue.proofs.Laws.{laid}
+use Rattle.engine_sending.proofs.Sends.{element-small, telegram-made, four-data, data-given, on-given, data-ends-refused, data-ends-stuck}
+use Rattle.engine_sending.proofs.send.Statement.{statement}
+use Rattle.engine_sending.proofs.send.Tie as tie
+
+cast-t17 : tie.Need-cast-t17
+cast-t17 c = search needs
+
+cast-t18 : tie.Need-cast-t18
+cast-t18 c = search needs
+
+gather-requires : tie.Need-gather-requires
+gather-requires c κs = (c .before .before .before .before .before .pre .0, c .before .before .before .before .before .pre .1, c .before .before .before .before .before .pre .2, four-data _ _ (c .before .before .before .before .before .pre .1 .running) _ _ (c .before .before .before .before .before .pre .3), refl)
+
+enum-known-o : tie.Need-enum-known-o
+enum-known-o c = search needs
+
+element-copy-out-t27 : tie.Need-element-copy-out-t27
+element-copy-out-t27 c = search needs
+
+cast-t28 : tie.Need-cast-t28
+cast-t28 c = let h = element-small _ _ (c .before .before .before .before .before .before .before .before .before .before .before .pre .1 .running) in record { sfits = omega arith }
+
+cast-t29 : tie.Need-cast-t29
+cast-t29 c = search needs
+
+array-copy-out-t32 : tie.Need-array-copy-out-t32
+array-copy-out-t32 c = search needs
+
+array-copy-out-t35 : tie.Need-array-copy-out-t35
+array-copy-out-t35 c = search needs
+
+array-copy-out-t38 : tie.Need-array-copy-out-t38
+array-copy-out-t38 c = search needs
+
+array-copy-out-t41 : tie.Need-array-copy-out-t41
+array-copy-out-t41 c = search needs
+
+append-requires : tie.Need-append-requires
+append-requires c κs = laid _ _ (c .before .before .before .before .before .before .before .before .before .before .before .before .before .before .before .before .pre .1 .state)
+
+enum-known-o-2 : tie.Need-enum-known-o-2
+enum-known-o-2 c = search needs
+
+enum-told : tie.Need-enum-told
+enum-told c = search needs
+
+same-length : tie.Need-same-length
+same-length c = search needs
+
+returns : tie.Need-returns
+returns c = let d = data-given _ _ (sym (c .before .before .before .before .before .before .before .before .before .before .o .given .1) ∙ c .before .before .before .before .before .before .before .before .before .before .before .before .gather .ensures .1) in c .before .append .ensures (c .before .before .before .before .before .before .before .before .before .before .before .before .before .before .before .before .before .before .args .sheet .now) (c .before .before .before .before .before .before .before .before .before .before .before .before .before .before .before .before .before .before .args .lo .now) (c .before .before .before .before .before .before .before .before .before .before .before .before .before .before .before .before .before .before .pre .1 .state .whole) ∙ ap (λ t. append (c .before .before .before .before .before .before .before .before .before .before .before .before .before .before .before .before .before .before .args .sheet .now) t (c .before .before .before .before .before .before .before .before .before .before .o .given .0 .0) (c .before .before .before .before .before .before .before .before .before .before .before .before .before .before .before .before .before .before .args .st .now) (c .before .before .before .before .before .before .before .before .before .before .before .before .before .before .before .before .before .before .args .lo .now)) (telegram-made _ _ _ _ _ (d .0) (element-small _ _ (c .before .before .before .before .before .before .before .before .before .before .before .before .before .before .before .before .before .before .pre .1 .running)) (c .before .before .before .before .before .before .before .before .before .before .before .before .before .before .before .before .before .before .fits .receiver) (c .before .before .before .before .before .before .before .before .before .before .before .before .before .before .before .before .before .before .fits .port) (c .before .before .before .before .before .before .struct-known3 .given .1 .1 .1 .0 .fits) (c .before .before .before .before .before .t32 .given) (c .before .before .before .before .t35 .given) (c .before .before .before .t38 .given) (c .before .before .t41 .given) (c .before .before .before .before .before .before .before .before .before .before .before .before .gather .ensures .2 _ _ (d .1))) ∙ on-given _ _ _ _ _ _ (d .1)
+
+same-length-2 : tie.Need-same-length-2
+same-length-2 c = search needs
+
+returns-2 : tie.Need-returns-2
+returns-2 c = data-ends-refused _ _ _ _ _ _ (sym (c .before .o2 .given .1) ∙ c .before .before .before .gather .ensures .1)
+
+same-length-3 : tie.Need-same-length-3
+same-length-3 c = search needs
+
+returns-3 : tie.Need-returns-3
+returns-3 c = data-ends-stuck _ _ _ _ (sym (c .enum-told .given .1) ∙ c .before .before .gather .ensures .1)
+
+pub send-spec : {M : Type 1} → statement M
+send-spec =
+    tie.close
+    (tie.spec
+    cast-t17
+    cast-t18
+    gather-requires
+    enum-known-o
+    element-copy-out-t27
+    cast-t28
+    cast-t29
+    array-copy-out-t32
+    array-copy-out-t35
+    array-copy-out-t38
+    array-copy-out-t41
+    append-requires
+    enum-known-o-2
+    enum-told
+    same-length
+    returns
+    same-length-2
+    returns-2
+    same-length-3
+    returns-3)

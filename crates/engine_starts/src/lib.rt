@@ -1,0 +1,68 @@
+// Start on a passed sheet: the default state, then the initial bodies.
+use engine_bodies::answered;
+use machine::Answer;
+use machine::Ran;
+use sheet::Found;
+ghost use mathlib.Core.Bool.{true};
+ghost use mathlib.Core.List.{[]};
+ghost use mathlib.Core.Path.{_≡_};
+ghost use lib.IntN.{pos};
+ghost use lib.ListN.{length, replicate};
+ghost use Rattle.sheet.specs.Sheet.{directoryOf};
+ghost use Rattle.sheet_rules.specs.declared.Checked.the-variants.{Passed};
+ghost use Rattle.machine.specs.declared.Handed.the-variants.{Nothing};
+ghost use Rattle.machine.specs.Values.{isBound};
+ghost use Rattle.machine.specs.State.{stateLength};
+ghost use Rattle.machine.specs.Play.{ended, answer, isInitial, elementBody, alone, ranBody, started};
+ghost use Rattle.sheet_rules.specs.Check.{checkOf};
+ghost use Rattle.machine_events.specs.Playing.{Playing};
+
+// The initial body of element e.
+fn initial(sheet: &[u8], directory: &[usize; 16], st: &mut [i32], e: usize) -> Ran
+    requires { ⌜ Playing (now sheet) (now directory) (now st) × (isBound (now sheet) e ≡ true) ⌝ }
+    ensures { λ r. ⌜ (r ≡ ranBody (now (sheet .entry)) e (alone (elementBody (now (sheet .entry)) e isInitial)) [] (now (st .entry)) .ran) × (now (st .exit) ≡ ranBody (now (sheet .entry)) e (alone (elementBody (now (sheet .entry)) e isInitial)) [] (now (st .entry)) .st) ⌝ }
+{
+    let Found::Present(c) = engine_valid_values::chart_of(sheet, directory, e) else {
+        return Ran::Stuck;
+    };
+    let j = engine_finders::with_role(sheet, directory, c, 0);
+    let none = [0i32; 4];
+    engine_bodies::run_body(sheet, directory, st, e, c.f4 as usize + j, &none)
+}
+
+// "after 6 to 10 its state is all zeros"
+fn refused(st: &mut [i32], number: u8, steps: u32) -> Answer
+    ensures { λ a. ⌜ (a ≡ answer number steps Nothing) × (now (st .exit) ≡ replicate (length (now (st .entry))) (pos 0)) ⌝ }
+{
+    engine_store::zero(st);
+    answered(number, steps)
+}
+
+// "all defaults, nothing waiting, then the initial bodies in element order"
+pub fn from_defaults(sheet: &[u8], directory: &[usize; 16], st: &mut [i32]) -> Answer
+    requires { ⌜ (now directory ≡ directoryOf (now sheet)) × (checkOf (now sheet) ≡ Passed) × (length (now st) ≡ stateLength (now sheet)) ⌝ }
+    ensures { λ a. ⌜ ended a (now (st .exit)) ≡ started (now (sheet .entry)) ⌝ }
+{
+    engine_defaults::default_state(sheet, directory, st);
+    let first = engine_valid_values::externals(sheet, directory);
+    let count = sheet_reader::count_in(directory, 7);
+    let most = engine_defaults::limit(sheet, directory);
+    let mut steps: u32 = 0;
+    let mut i: usize = 0;
+    while i < count {
+        let r = initial(sheet, directory, st, first + i);
+        match r {
+            Ran::Done { left } => {
+                steps += most - left;
+            }
+            Ran::Refused { number, left } => {
+                return refused(st, number, steps + (most - left));
+            }
+            Ran::Stuck => {
+                return answered(4, 0);
+            }
+        }
+        i += 1;
+    }
+    answered(0, steps)
+}

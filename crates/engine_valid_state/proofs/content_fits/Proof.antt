@@ -1,0 +1,53 @@
+use native.Mathlib.Omega.{arith}
+use borrow.Author.Needs.{needs}
+use Rattle.sheet.proofs.All.{first-fails, rest-fails, first-holds}
+use Rattle.machine.specs.Valid.{contentFits}
+use Rattle.sheet_types.proofs.Laws.{no, so}
+use Rattle.engine_valid_state.proofs.Laws.{places-inside, head-from, head-limit}
+use Rattle.engine_valid_state.proofs.content_fits.Statement.{statement}
+use Rattle.engine_valid_state.proofs.content_fits.Tie as tie
+
+head-fits-requires : tie.Need-head-fits-requires
+head-fits-requires c κs = omega (arith, places-inside (c .before .args .sheet .now) (c .before .args .st .now) (c .before .pre .1))
+
+returns : tie.Need-returns
+unfolding contentFits
+returns c = first-fails _ _ (no (c .before .head-fits .ensures) (c .if1 .taken))
+
+cells-fit-requires : tie.Need-cells-fit-requires
+cells-fit-requires c κs = search needs
+
+returns-2 : tie.Need-returns-2
+unfolding contentFits
+returns-2 c = rest-fails _ _ (first-fails _ _ (no (c .before .cells-fit .ensures) (c .if2 .taken)))
+
+number-at-requires : tie.Need-number-at-requires
+number-at-requires c κs = (omega (arith, places-inside (c .before .before .before .before .before .args .sheet .now) (c .before .before .before .before .before .args .st .now) (c .before .before .before .before .before .pre .1)), head-from _ (so (c .before .before .before .head-fits .ensures) (c .before .before .if1 .left)))
+
+waiting-fit-requires : tie.Need-waiting-fit-requires
+waiting-fit-requires c κs = (c .before .before .before .before .before .before .pre .0, c .before .before .before .before .before .before .pre .1, head-limit _ _ (so (c .before .before .before .before .head-fits .ensures) (c .before .before .before .if1 .left)) (c .number-at .ensures), c .number-at .ensures)
+
+returns-3 : tie.Need-returns-3
+unfolding contentFits
+returns-3 c = rest-fails _ _ (rest-fails _ _ (first-fails _ _ (no (c .before .waiting-fit .ensures) (c .if3 .taken))))
+
+unused-zero-requires : tie.Need-unused-zero-requires
+unused-zero-requires c κs = (omega (arith, places-inside (c .before .before .before .before .before .before .before .before .args .sheet .now) (c .before .before .before .before .before .before .before .before .args .st .now) (c .before .before .before .before .before .before .before .before .pre .1)), head-limit _ _ (so (c .before .before .before .before .before .before .head-fits .ensures) (c .before .before .before .before .before .if1 .left)) (c .before .before .number-at .ensures), c .before .before .number-at .ensures)
+
+returns-4 : tie.Need-returns-4
+unfolding contentFits
+returns-4 c = first-holds _ _ _ (so (c .before .before .before .before .before .before .before .head-fits .ensures) (c .before .before .before .before .before .before .if1 .left)) (first-holds _ _ _ (so (c .before .before .before .before .before .cells-fit .ensures) (c .before .before .before .before .if2 .left)) (first-holds _ _ _ (so (c .before .before .waiting-fit .ensures) (c .before .if3 .left)) (c .unused-zero .ensures _ (c .before .before .before .before .before .before .before .before .before .pre .1))))
+
+pub content-fits-spec : {M : Type 1} → statement M
+content-fits-spec =
+    tie.close
+    (tie.spec
+    head-fits-requires
+    returns
+    cells-fit-requires
+    returns-2
+    number-at-requires
+    waiting-fit-requires
+    returns-3
+    unused-zero-requires
+    returns-4)

@@ -1,0 +1,28 @@
+use mathlib.Core.Path.{_∙_}
+use borrow.Author.Needs.{needs}
+use Rattle.engine_valid_values.proofs.Laws.{too-low, too-high, binding-there}
+use Rattle.engine_valid_values.proofs.binding_of.Statement.{statement}
+use Rattle.engine_valid_values.proofs.binding_of.Tie as tie
+
+externals-requires : tie.Need-externals-requires
+externals-requires c κs = search needs
+
+returns : tie.Need-returns
+returns c = too-low _ _ _ (c .before .externals .ensures .0) (c .if1 .taken)
+
+components-requires : tie.Need-components-requires
+components-requires c κs = search needs
+
+returns-2 : tie.Need-returns-2
+returns-2 c = too-high _ _ _ (c .before .components .ensures .0) (c .if2 .taken)
+
+read-requires : tie.Need-read-requires
+read-requires c κs = search needs
+
+returns-3 : tie.Need-returns-3
+returns-3 c = c .read .ensures ∙ binding-there _ _ _ _ (c .before .before .before .before .externals .ensures .0) (c .before .before .components .ensures .0) (c .before .before .before .if1 .left) (c .before .if2 .left)
+
+pub binding-of-spec : {M : Type 1} → statement M
+binding-of-spec =
+    tie.close
+    (tie.spec externals-requires returns components-requires returns-2 read-requires returns-3)

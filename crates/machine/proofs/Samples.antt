@@ -1,0 +1,232 @@
+-- Samples about the machine: the paper's starred ones, and what samples are made of.
+use Prim.Native.Nat.{ℕ, zero, suc, _+_, _*_, _-_}
+use mathlib.Core.List.{List, [], _∷_, _++_}
+use mathlib.Core.Path.{_≡_, refl}
+use lib.ListN.{replicate}
+use lib.IntN.{ℤ, pos, negsuc}
+use Rattle.sheet.specs.All.{_and_}
+use Rattle.sheet.specs.Table.{lookUp}
+use Rattle.sheet_rules.specs.Forms.{binaryOf}
+use Rattle.sheet_rules.proofs.Samples.{sheetOf, rec3, rec6, body, check, assigning}
+use Rattle.machine.specs.Values.{fits32, isBelow, recordBy, isZero, membersOf, inDataType, inType, defaultIn, defaultOf, hasDefault, isBound, bindingOf, chartOf, firstCell}
+use Rattle.machine.specs.State.{cellAt, placeAt, stateLength, wordOf, waiting, setWaiting, telegramIn, telegramOf, putWords, withTelegram, appended, withoutTelegram}
+use Rattle.machine.specs.Valid.{dataFit, nameFits, reactionAwaits, zeroWords, runningClock, clockCell, cellFits, elementFits, internalFits, externalFits, telegramFits, headFits, cellsFit, waitingFit, unusedZero, contentFits}
+use Rattle.machine.specs.Eval.{val, isVariable, andThen, needs, onRecord, intOut, quotient, remainder, dividing, notVal, onInts, combined, binaryVal, written, literalValue, within, ofType, parameterVal, variableAtCell, readAs, readVal, clockWord, clockVal, evalIn, evalStep, evalF, evalOf}
+use Rattle.machine.specs.Run.{goOn, thenOperand, withRecord, provided, before, nextValue, valuesFrom, thenValues, areOf, wordsIn, localAt, listFrom, localsOf, localsThere, append, armed, clockSet, fewer, assigned, hasVariable, assignOf, nameValues, externalSendOf, internalSendOf, armOf, clockActOf, entered, callOf, choiceOf, runIn, runStep, runF, runOf}
+use Rattle.machine.specs.Kinds.{kindOf}
+use Rattle.machine.specs.Play.{Outcome, ended, stuck, answer, limitOf, bodyFrom, bodyWhere, ranBody, elementBody, alone, eventEnd, defaultCell, defaultCells, elementCells, cellsFrom, defaultState, hasHead, elementThere, elementsThere, startNext, startFrom, started, oldestFrom, oldest, taking, sameDeclared, brought, reacting, panicking, withNumber, outside, bodiesThere, received, delivered, deliver, corrupt, inner, thenSlice, fires, ticks, slicedCell, slicedVariable, slicedCells, slicedElement, slicedFrom, changeEnd, slice, restZero, wellFormed, isEvent, happensAs, happens, ifPassed, startCall, eventCall}
+use Rattle.machine.specs.declared.Out.{Out}
+use Rattle.machine.specs.declared.Out.the-variants.{Val, Refused}
+use Rattle.machine.specs.declared.Handed.the-variants.{Nothing}
+
+-- ---- Int: operator 15 div, 16 mod, with l steps left
+
+unfoldable pub int : ℤ → ℕ → Out
+int z l = Val (val 1 z) l
+
+-- an operator on two Ints
+unfoldable pub on-ints : ℕ → ℤ → ℤ → ℕ → Out
+unfolding _and_ fits32 isZero needs intOut quotient remainder dividing binaryOf lookUp onInts combined binaryVal
+on-ints op a b l = binaryVal op (val 1 a) (val 1 b) l
+
+pub seven-div-two : (l : ℕ) → on-ints 15 (negsuc 6) (pos 2) l ≡ int (negsuc 2) l
+unfolding on-ints int
+seven-div-two l = refl
+
+pub seven-mod-two : (l : ℕ) → on-ints 16 (negsuc 6) (pos 2) l ≡ int (negsuc 0) l
+unfolding on-ints int
+seven-mod-two l = refl
+
+pub least-div-minus-one : (l : ℕ) → on-ints 15 (negsuc 2147483647) (negsuc 0) l ≡ Refused 6 l
+unfolding on-ints
+least-div-minus-one l = refl
+
+pub least-mod-minus-one : (l : ℕ) → on-ints 16 (negsuc 2147483647) (negsuc 0) l ≡ int (pos 0) l
+unfolding on-ints int
+least-mod-minus-one l = refl
+
+pub mod-zero : (l : ℕ) → on-ints 16 (pos 7) (pos 0) l ≡ Refused 6 l
+unfolding on-ints
+mod-zero l = refl
+
+-- ---- start and events, with every definition open
+
+unfoldable pub start : List (List ℕ) → Outcome
+unfolding check fits32 isBelow recordBy isZero membersOf inDataType inType defaultIn defaultOf hasDefault isBound bindingOf chartOf firstCell cellAt placeAt stateLength wordOf waiting setWaiting telegramIn telegramOf putWords withTelegram appended withoutTelegram dataFit nameFits reactionAwaits zeroWords runningClock clockCell cellFits elementFits internalFits externalFits telegramFits headFits cellsFit waitingFit unusedZero contentFits andThen needs onRecord intOut quotient remainder dividing notVal onInts combined binaryVal written literalValue within ofType parameterVal variableAtCell readAs readVal clockWord clockVal evalIn evalStep evalF evalOf goOn thenOperand withRecord provided before nextValue valuesFrom thenValues areOf wordsIn localAt listFrom localsOf localsThere append armed clockSet fewer assigned hasVariable assignOf nameValues externalSendOf internalSendOf isVariable armOf clockActOf entered callOf choiceOf runIn runStep runF runOf limitOf bodyFrom bodyWhere ranBody elementBody alone eventEnd defaultCell defaultCells elementCells cellsFrom defaultState hasHead elementThere elementsThere startNext startFrom started oldestFrom oldest taking sameDeclared brought reacting panicking withNumber outside bodiesThere received delivered deliver corrupt inner thenSlice fires ticks slicedCell slicedVariable slicedCells slicedElement slicedFrom changeEnd slice restZero wellFormed kindOf isEvent happensAs happens ifPassed startCall eventCall
+start ss = startCall (sheetOf ss) (replicate (stateLength (sheetOf ss)) (pos 0))
+
+-- the machine alone, without the tests of sheet, state and event that a call makes before
+unfoldable pub event : List (List ℕ) → List ℤ → List ℤ → Outcome
+unfolding start
+event ss st ev = happens (sheetOf ss) st ev
+
+-- what is answered, without a telegram handed outside
+unfoldable pub answered : ℕ → ℕ → List ℤ → Outcome
+answered number steps st = ended (answer number steps Nothing) st
+
+-- kind, s and r; the other words are 0, which also is port 0 and name 0 of an Outside
+unfoldable pub words : ℕ → ℕ → ℕ → List ℤ
+words kind sender receiver = pos kind ∷ pos sender ∷ pos receiver ∷ replicate 6 (pos 0)
+
+-- A play is start, then events, each on the state that the last one left. A row for each: the answer's number, its steps, and how many telegrams wait then
+unfoldable pub row : ℕ → ℕ → ℕ → List ℕ
+row number steps count = number ∷ steps ∷ count ∷ []
+
+heard : Outcome → (List ℤ → List (List ℕ)) → List (List ℕ)
+heard (ended a st) K = row (a .number) (a .steps) (waiting st) ∷ K st
+heard stuck K = []
+
+playFrom : List (List ℕ) → List (List ℤ) → List ℤ → List (List ℕ)
+playFrom ss [] st = []
+playFrom ss (ev ∷ evs) st = heard (event ss st ev) (playFrom ss evs)
+
+unfoldable pub play : List (List ℕ) → List (List ℤ) → List (List ℕ)
+unfolding start event row heard playFrom words
+play ss evs = heard (start ss) (playFrom ss evs)
+
+-- ---- clocks
+
+-- one bound element with a clock of a type; its initial body arms it by an operator with a period and internal name 0, to which it reacts
+unfoldable pub arming : ℕ → ℕ → ℕ → List (List ℕ)
+arming type op period =
+    rec3 3 2 2
+    ∷ []
+    ∷ rec3 type 0 0
+    ∷ rec3 0 0 1
+    ∷ rec6 0 0 0 1 0 3
+    ∷ (body 0 0 1 ++ body 1 0 2 ++ body 3 0 3)
+    ∷ (rec3 2 period 0 ++ rec3 op 0 0 ++ rec3 32 0 0 ++ rec3 32 0 0)
+    ∷ rec3 0 0 0
+    ∷ []
+
+unfoldable pub timeout : ℕ → List (List ℕ)
+timeout period = arming 5 36 period
+
+unfoldable pub cycler : ℕ → List (List ℕ)
+cycler period = arming 6 37 period
+
+unfoldable pub slices : ℕ → List (List ℤ)
+slices n = replicate n (words 5 0 0)
+
+-- "Timeout 1 fires on the first slice; period 0: 7." It stops then, and Timeout 2 doesn't fire early
+pub timeout-one : play (timeout 1) (slices 2) ≡ row 0 2 0 ∷ row 0 0 1 ∷ row 0 0 1 ∷ []
+unfolding play timeout arming slices
+timeout-one = refl
+
+timeout-two : play (timeout 2) (slices 3) ≡ row 0 2 0 ∷ row 0 0 0 ∷ row 0 0 1 ∷ row 0 0 1 ∷ []
+unfolding play timeout arming slices
+timeout-two = refl
+
+pub timeout-zero : play (timeout 0) [] ≡ row 7 2 0 ∷ []
+unfolding play timeout arming
+timeout-zero = refl
+
+-- "Cycler 3 fires on slices 1, 4, 7."
+pub cycler-three : play (cycler 3) (slices 7) ≡ row 0 2 0 ∷ row 0 0 1 ∷ row 0 0 1 ∷ row 0 0 1 ∷ row 0 0 2 ∷ row 0 0 2 ∷ row 0 0 2 ∷ row 0 0 3 ∷ []
+unfolding play cycler arming slices
+cycler-three = refl
+
+-- ---- the limit: "A two-node body: limit 2 done; limit 1 gives 10, steps 1."
+
+pub limit-two : start (assigning 1 2) ≡ answered 0 2 (replicate 8 (pos 0) ++ pos 1 ∷ replicate 1031 (pos 0))
+unfolding start assigning answered
+limit-two = refl
+
+pub limit-one : start (assigning 1 1) ≡ answered 10 1 (replicate 1040 (pos 0))
+unfolding start assigning answered
+limit-one = refl
+
+-- ---- a full list
+
+unfoldable pub copies : ℕ → List ℤ → List ℤ
+copies zero ws = []
+copies (suc n) ws = ws ++ copies n ws
+
+-- a state in which n telegrams wait: its cells, the telegrams
+unfoldable pub waits : ℕ → List ℤ → List ℤ → List ℤ
+waits n cells telegrams = pos n ∷ replicate 7 (pos 0) ++ cells ++ telegrams ++ replicate (8 * (128 - n)) (pos 0)
+
+-- a telegram of external name 0 on port 0
+unfoldable pub sent : ℕ → ℕ → List ℤ
+sent sender receiver = pos sender ∷ pos receiver ∷ replicate 6 (pos 0)
+
+-- so many of them wait at element 2
+unfoldable pub atTwo : ℕ → List ℤ
+atTwo n = waits n [] (copies n (sent 0 2))
+
+-- one bound element that reacts to external name 0 on port 0; nodes from 2 on are given, with the reaction's root
+unfoldable pub reacts : List ℕ → ℕ → List (List ℕ)
+reacts nodes root =
+    rec3 3 2 2
+    ∷ []
+    ∷ []
+    ∷ rec3 0 0 0
+    ∷ rec6 0 0 0 0 0 3
+    ∷ (body 0 0 0 ++ body 1 0 1 ++ body 2 0 root)
+    ∷ (rec3 32 0 0 ++ rec3 32 0 0 ++ nodes)
+    ∷ rec3 0 0 0
+    ∷ []
+
+-- name 0 to Log on port 0; the send is node n + 2
+unfoldable pub sends : ℕ → List ℕ
+sends n = rec3 4 0 0 ++ rec3 5 0 0 ++ rec3 34 n (n + 1)
+
+unfoldable pub once : List (List ℕ)
+once = reacts (sends 2) 4
+
+unfoldable pub twice : List (List ℕ)
+twice = reacts (sends 2 ++ sends 5 ++ rec3 43 4 7) 8
+
+-- "127 waiting, Outside: 0; 128: 8."
+outside-127 : event once (atTwo 127) (words 1 0 2) ≡ answered 0 0 (atTwo 128)
+unfolding event answered words once reacts sends copies waits sent atTwo
+outside-127 = refl
+
+pub outside-128 : event once (atTwo 128) (words 1 0 2) ≡ answered 8 0 (atTwo 128)
+unfolding event answered words once reacts sends copies waits sent atTwo
+outside-128 = refl
+
+-- "128 waiting, Deliver to a reaction sending once: 0; twice: 8."
+pub deliver-once : event once (atTwo 128) (words 2 0 2) ≡ answered 0 3 (waits 128 [] (copies 127 (sent 0 2) ++ sent 2 0))
+unfolding event answered words once reacts sends copies waits sent atTwo
+deliver-once = refl
+
+-- nothing of the refused body's work is kept
+deliver-twice : event twice (atTwo 128) (words 2 0 2) ≡ answered 8 7 (atTwo 128)
+unfolding event answered words twice reacts sends copies waits sent atTwo
+deliver-twice = refl
+
+-- the same of a clock that fires
+fired : List ℤ
+fired = pos 2 ∷ pos 2 ∷ negsuc 0 ∷ replicate 5 (pos 0)
+
+aboutToFire : List ℤ
+aboutToFire = pos 1 ∷ pos 1 ∷ pos 1 ∷ replicate 5 (pos 0)
+
+slice-127 : event (timeout 1) (waits 127 aboutToFire (copies 127 fired)) (words 5 0 0) ≡ answered 0 0 (waits 128 (replicate 8 (pos 0)) (copies 128 fired))
+unfolding event answered words timeout arming copies waits fired aboutToFire
+slice-127 = refl
+
+slice-128 : event (timeout 1) (waits 128 aboutToFire (copies 128 fired)) (words 5 0 0) ≡ answered 8 0 (waits 128 aboutToFire (copies 128 fired))
+unfolding event answered words timeout arming copies waits fired aboutToFire
+slice-128 = refl
+
+-- ---- to oneself: an internal telegram has its reaction, never the panic body; one sent by operator 34 is external
+
+-- the initial body sends internal name 1, then external name 0 to itself on port 0; the reaction to name 1 has three nodes, the panic body one
+selfish : List (List ℕ)
+selfish =
+    rec3 3 2 2
+    ∷ []
+    ∷ []
+    ∷ (rec3 0 0 0 ++ rec3 0 0 1)
+    ∷ rec6 0 0 0 0 0 3
+    ∷ (body 0 0 4 ++ body 1 0 5 ++ body 3 1 8)
+    ∷ (rec6 35 0 0 1 0 0 ++ rec3 6 0 0 ++ rec3 5 0 0 ++ rec3 34 1 2 ++ rec3 43 0 3 ++ rec3 32 0 0 ++ rec3 32 0 0 ++ rec3 32 0 0 ++ rec3 43 6 7)
+    ∷ rec3 0 0 0
+    ∷ []
+
+-- Inner twice, then a Deliver, for which there is no reaction
+to-oneself : play selfish (words 4 0 2 ∷ words 4 0 2 ∷ words 2 2 2 ∷ []) ≡ row 0 5 2 ∷ row 0 3 1 ∷ row 5 0 1 ∷ row 0 1 0 ∷ []
+unfolding play selfish
+to-oneself = refl

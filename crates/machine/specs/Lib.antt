@@ -1,0 +1,8 @@
+pub mod Values
+pub mod State
+pub mod Valid
+pub mod Eval
+pub mod Run
+pub mod Kinds
+pub mod Play
+pub mod Lists

@@ -1,0 +1,73 @@
+-- The state's words: head, a cell for each variable, 128 places for telegrams.
+use Prim.Native.Nat.{ℕ, _+_, _*_, _-_}
+use mathlib.Core.List.{List, [], _∷_, _++_}
+use mathlib.Core.Bool.{Bool, true, false}
+use lib.ListN.{length, getD, take, drop, set, replicate}
+use lib.Dec.{ltb}
+use lib.IntN.{ℤ, pos, natAbs}
+use Rattle.machine.specs.declared.Telegram.{Telegram}
+use Rattle.sheet_rules.specs.Shape.{variablesOf}
+use Rattle.machine.specs.Values.{isBelow}
+
+-- ---- where things lie: "8 head words ..; 8 words per variable ..; 128 telegram places of 8 words"
+
+abbrev pub places : ℕ
+places = 128
+
+unfoldable pub cellAt : ℕ → ℕ
+cellAt i = 8 + 8 * i
+
+unfoldable pub placeAt : List ℕ → ℕ → ℕ
+placeAt s j = 8 + 8 * variablesOf s + 8 * j
+
+unfoldable pub stateLength : List ℕ → ℕ
+stateLength s = placeAt s places
+
+unfoldable pub wordOf : List ℤ → ℕ → ℤ
+wordOf st i = getD st i (pos 0)
+
+-- ---- "the number of waiting telegrams"
+
+unfoldable pub waiting : List ℤ → ℕ
+waiting st = natAbs (wordOf st 0)
+
+unfoldable pub setWaiting : List ℤ → ℕ → List ℤ
+setWaiting st n = set st 0 (pos n)
+
+-- ---- "A telegram: sender, receiver, port (−1 if internal), name, four data."
+
+unfoldable pub telegramIn : List ℤ → ℕ → Telegram
+telegramIn st at = record { sender = wordOf st at; receiver = wordOf st (at + 1); port = wordOf st (at + 2); name = wordOf st (at + 3); d0 = wordOf st (at + 4); d1 = wordOf st (at + 5); d2 = wordOf st (at + 6); d3 = wordOf st (at + 7) }
+
+-- the waiting telegram numbered j, "oldest first"
+unfoldable pub telegramOf : List ℕ → List ℤ → ℕ → Telegram
+telegramOf s st j = telegramIn st (placeAt s j)
+
+abbrev pub wordsOf : Telegram → List ℤ
+wordsOf t = t .sender ∷ t .receiver ∷ t .port ∷ t .name ∷ t .d0 ∷ t .d1 ∷ t .d2 ∷ t .d3 ∷ []
+
+-- words from a place on, put in the place of as many
+unfoldable pub putWords : List ℤ → ℕ → List ℤ → List ℤ
+putWords st at ws = take at st ++ ws ++ drop (at + length ws) st
+
+-- "Sends append": the telegram after the last one that waits
+unfoldable pub withTelegram : List ℕ → List ℤ → Telegram → List ℤ
+withTelegram s st t = setWaiting (putWords st (placeAt s (waiting st)) (wordsOf t)) (waiting st + 1)
+
+-- what a change of the state comes to: the new state, or the number of its refusal; or the machine is stuck
+pub data Changed : Type 0 where
+  on : List ℤ → Changed
+  off : ℕ → Changed
+  lost : Changed
+
+-- the state's first word is a number of telegrams that can wait
+abbrev pub counted : List ℤ → Bool
+counted st = isBelow (wordOf st 0) (places + 1)
+
+-- "128 telegrams wait and one more is appended": 8. Sends, Outside and slices all append by this
+unfoldable pub appended : List ℕ → List ℤ → Telegram → Changed
+appended s st t = elim (counted st) [ true ↦ elim (ltb (waiting st) places) [ true ↦ on (withTelegram s st t) | false ↦ off 8 ] | false ↦ lost ]
+
+-- telegram j "is removed, later ones close up"; "unused ones zero"
+unfoldable pub withoutTelegram : List ℕ → List ℤ → ℕ → List ℤ
+withoutTelegram s st j = setWaiting (take (placeAt s j) st ++ drop (placeAt s (j + 1)) st ++ replicate 8 (pos 0)) (waiting st - 1)

@@ -1,0 +1,136 @@
+-- The claim, from the promise of the machine.
+use Prim.Native.Nat.{ℕ, _*_, _-_, _≤_}
+use mathlib.Core.Path.{_≡_, refl, sym, ap, subst, _∙_}
+use mathlib.Core.List.{List, [], _∷_}
+use mathlib.Core.Bool.{Bool, true, false}
+use lib.ListN.{length, length-map}
+use lib.Dec.{eqb}
+use lib.IntN.{ℤ}
+use borrow.Author.Tests.{eqb-true, eqb-false}
+use Rattle.machine.specs.declared.Answer.{Answer}
+use Rattle.sheet_rules.specs.declared.Checked.the-variants.{Passed}
+use Rattle.sheet_rules.specs.Fields.{elementsOf}
+use Rattle.machine.specs.State.{stateLength}
+use Rattle.machine.specs.Valid.{OfSheet}
+use Rattle.machine.specs.Play.{Outcome, ended, stuck, limitOf, isEvent, eventCall}
+use Rattle.sheet_rules.specs.Check.{checkOf}
+use Rattle.machine.specs.Lists.{Played, played, nowhere, thenPlayed, afterAnswer, goesOn, eventsOf, playOf, EventGives}
+use Rattle.machine_states.proofs.Parts.{of-content}
+use Rattle.machine_events.proofs.Laws.{event-malformed, event-happens}
+use Rattle.machine_promise.specs.Promise.{StartKept, EventKept, ListKept}
+use Rattle.machine_promise.proofs.Promise.{on-kept, list-kept, promise}
+use Rattle.machine_claim.specs.Claim.{Engine, Meets, Call, AllLent, eventsCalled, calledFrom, runOfEngine, Claim, EveryList}
+use Rattle.machine_claim.proofs.Limit.{start-within}
+use Rattle.machine_claim.proofs.Zeros.{start-zeros}
+use Rattle.machine_claim.proofs.Runs.{Bounded, events-bounded, play-is}
+
+answerOf : Answer → Outcome → Answer
+answerOf d (ended a st) = a
+answerOf d stuck = d
+
+same-answer : (a b : Answer) (st st′ : List ℤ) → ended a st ≡ ended b st′ → a ≡ b
+unfolding answerOf
+same-answer a b st st′ e = ap (answerOf a) e
+
+-- ---- whatever was lent, the answer and the state that goes on are those of the machine's own list
+
+module _ (s : List ℕ) (ok : checkOf s ≡ Passed) where
+  module _ (st lent ev : List ℤ) (o : OfSheet s st) (l : length lent ≡ stateLength s) (a : Answer) (result : List ℤ) (g : EventGives s st lent ev a result) where
+    lent-same : (new : List ℤ) × (ended a new ≡ eventCall s st st ev) × (goesOn a st result ≡ goesOn a st new)
+    unfolding goesOn
+    lent-same = go (isEvent s ev) refl
+      where
+        go : (b : Bool) → isEvent s ev ≡ b → (new : List ℤ) × (ended a new ≡ eventCall s st st ev) × (_≡_ {A = List ℤ} (elim (eqb (a .number) 0) [ true ↦ result | false ↦ st ]) (elim (eqb (a .number) 0) [ true ↦ new | false ↦ st ]))
+        go true q = (result, g ∙ event-happens s st lent ev ok (o .whole) l (of-content s st o) q ∙ sym (event-happens s st st ev ok (o .whole) (o .whole) (of-content s st o) q), refl)
+        go false q =
+            let down = g ∙ event-malformed s st lent ev ok (o .whole) l (of-content s st o) q in
+            let four = same-answer _ _ _ _ down in
+            (st, ap (λ a. ended a st) four ∙ sym (event-malformed s st st ev ok (o .whole) (o .whole) (of-content s st o) q), subst (λ a. _≡_ {A = List ℤ} (elim (eqb (a .number) 0) [ true ↦ result | false ↦ st ]) (elim (eqb (a .number) 0) [ true ↦ st | false ↦ st ])) (sym four) refl)
+
+  module _ (e : Engine) (m : Meets e) where
+    calls-same : (calls : List Call) (st : List ℤ) → OfSheet s st → AllLent s calls → calledFrom e s st calls ≡ eventsOf s st (eventsCalled calls)
+    unfolding calledFrom eventsOf thenPlayed
+    calls-same [] st o l = refl
+    calls-same (c ∷ calls) st o l =
+        let a = e .event s st (c .lent) (c .words) .answer in
+        let k = lent-same st (c .lent) (c .words) o (l .0) a (e .event s st (c .lent) (c .words) .state) (m .event s st (c .lent) (c .words)) in
+        let o′ : OfSheet s (goesOn a st (k .0)) = on-kept s ok st o a (k .0) (subst (EventKept s st) (sym (k .1)) (promise s ok .event st (c .words) o)) in
+        ap (λ new. afterAnswer a (calledFrom e s new calls)) (k .2)
+        ∙ ap (afterAnswer a) (calls-same calls (goesOn a st (k .0)) o′ (l .1))
+        ∙ ap (λ w. thenPlayed w (λ a new. afterAnswer a (eventsOf s (goesOn a st new) (eventsCalled calls)))) (k .1)
+
+    module _ (lent : List ℤ) (l : length lent ≡ stateLength s) where
+      abbrev a : Answer
+      a = e .start s lent .answer
+
+      abbrev st : List ℤ
+      st = e .start s lent .state
+
+      kept : StartKept s (ended a st)
+      kept = subst (StartKept s) (sym (m .start s lent)) (promise s ok .start lent l)
+
+      -- what follows start in either run
+      abbrev after : Bool → Played → Played
+      after b p = elim b [ true ↦ p | false ↦ played [] st ]
+
+      machine-same : (evs : List (List ℤ)) → playOf s evs ≡ afterAnswer a (after (eqb (a .number) 0) (eventsOf s st evs))
+      machine-same = play-is s ok lent l a st (m .start s lent)
+
+      start-steps : a .steps ≤ elementsOf s * limitOf s
+      start-steps = start-within s lent .steps a st (sym (m .start s lent))
+
+      module _ (calls : List Call) (g : AllLent s calls) where
+        -- the two runs, where start's test and the machine's list are known
+        runs-same : (b : Bool) (p : Played) → eqb (a .number) 0 ≡ b → eventsOf s st (eventsCalled calls) ≡ p → (runOfEngine e s lent calls ≡ afterAnswer a (after b p)) × (playOf s (eventsCalled calls) ≡ afterAnswer a (after b p))
+        unfolding runOfEngine
+        runs-same true p q h =
+            let o : OfSheet s st = kept .1 (eqb-true _ _ q) in
+            (ap (λ b. afterAnswer a (elim b as (λ b. Played) [ true ↦ calledFrom e s st calls | false ↦ played [] st ])) q ∙ ap (afterAnswer a) (calls-same calls st o g ∙ h), machine-same (eventsCalled calls) ∙ ap (λ b. afterAnswer a (after b (eventsOf s st (eventsCalled calls)))) q ∙ ap (afterAnswer a) h)
+        runs-same false p q h = (ap (λ b. afterAnswer a (elim b as (λ b. Played) [ true ↦ calledFrom e s st calls | false ↦ played [] st ])) q, machine-same (eventsCalled calls) ∙ ap (λ b. afterAnswer a (after b (eventsOf s st (eventsCalled calls)))) q)
+
+        claim-of : (b : Bool) (p : Played) → eqb (a .number) 0 ≡ b → eventsOf s st (eventsCalled calls) ≡ p → Claim e s lent calls
+        unfolding afterAnswer
+        claim-of true nowhere q h = absurd (subst (ListKept s) h (list-kept s ok (eventsCalled calls) st (kept .1 (eqb-true _ _ q))))
+        claim-of true (played answers last) q h =
+            let z = eqb-true _ _ q in
+            let r = runs-same true (played answers last) q h in
+            let bound : Bounded s (length (eventsCalled calls)) (played answers last) = subst (Bounded s (length (eventsCalled calls))) h (events-bounded s (eventsCalled calls) st) in
+            let k : ListKept s (played answers last) = subst (ListKept s) h (list-kept s ok (eventsCalled calls) st (kept .1 z)) in
+            record {
+              first = a;
+              answers = answers;
+              last = last;
+              run = r .0;
+              machine = r .1;
+              start = kept .0;
+              answered = k .0;
+              each = λ _. bound .0 ∙ length-map calls _;
+              refused = λ n. absurd (n z);
+              zeros = λ n. absurd (n z);
+              within = bound .1;
+              startWithin = start-steps;
+              ofSheet = λ _. k .1;
+              reactions = λ _. k .2;
+            }
+        claim-of false p q h =
+            let n = eqb-false _ _ q in
+            let r = runs-same false p q h in
+            record {
+              first = a;
+              answers = [];
+              last = st;
+              run = r .0;
+              machine = r .1;
+              start = kept .0;
+              answered = tt;
+              each = λ z. absurd (n z);
+              refused = λ _. refl;
+              zeros = start-zeros s ok lent l a st (m .start s lent);
+              within = tt;
+              startWithin = start-steps;
+              ofSheet = λ z. absurd (n z);
+              reactions = λ z. absurd (n z);
+            }
+
+pub every-list : EveryList
+every-list e m s ok lent l calls g = claim-of s ok e m lent l calls g _ _ refl refl

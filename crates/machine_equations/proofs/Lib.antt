@@ -1,0 +1,4 @@
+pub mod Left
+pub mod Eval
+pub mod Run
+pub mod EventKinds

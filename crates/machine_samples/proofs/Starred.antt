@@ -1,0 +1,82 @@
+-- The paper's starred samples, as one table of theorems: those that are proved beside the definitions, where edits of these are refused, and two whole calls with 127 and 128 waiting, whose tests of all places take seconds.
+use Prim.Native.Nat.{ℕ}
+use mathlib.Core.List.{List, [], _∷_, _++_}
+use mathlib.Core.Path.{_≡_, refl}
+use lib.ListN.{length, replicate}
+use lib.IntN.{ℤ, pos, negsuc}
+use Rattle.sheet_rules.proofs.Samples as rules
+use Rattle.sheet_rules.proofs.Samples.{sheetOf, check, assigning, sending}
+use Rattle.machine.specs.declared.Out.the-variants.{Refused}
+use Rattle.machine.specs.Play.{Outcome, eventCall}
+use Rattle.machine.proofs.Samples as machine
+use Rattle.machine.proofs.Samples.{int, on-ints, start, event, answered, words, row, play, timeout, cycler, slices, waits, sent, copies, atTwo, reacts, sends, once, twice}
+
+-- "−7 div 2 = −3; −7 mod 2 = −1." Operator 15 div, 16 mod, with l steps left
+seven-div-two : (l : ℕ) → on-ints 15 (negsuc 6) (pos 2) l ≡ int (negsuc 2) l
+seven-div-two = machine.seven-div-two
+
+seven-mod-two : (l : ℕ) → on-ints 16 (negsuc 6) (pos 2) l ≡ int (negsuc 0) l
+seven-mod-two = machine.seven-mod-two
+
+-- "−2,147,483,648 div −1: 6; mod −1: 0."
+least-div-minus-one : (l : ℕ) → on-ints 15 (negsuc 2147483647) (negsuc 0) l ≡ Refused 6 l
+least-div-minus-one = machine.least-div-minus-one
+
+least-mod-minus-one : (l : ℕ) → on-ints 16 (negsuc 2147483647) (negsuc 0) l ≡ int (pos 0) l
+least-mod-minus-one = machine.least-mod-minus-one
+
+-- "7 mod 0: 6."
+mod-zero : (l : ℕ) → on-ints 16 (pos 7) (pos 0) l ≡ Refused 6 l
+mod-zero = machine.mod-zero
+
+-- "Timeout 1 fires on the first slice; period 0: 7." A row for start and for each event: number, steps, how many wait then
+timeout-one : play (timeout 1) (slices 2) ≡ row 0 2 0 ∷ row 0 0 1 ∷ row 0 0 1 ∷ []
+timeout-one = machine.timeout-one
+
+timeout-zero : play (timeout 0) [] ≡ row 7 2 0 ∷ []
+timeout-zero = machine.timeout-zero
+
+-- "Cycler 3 fires on slices 1, 4, 7."
+cycler-three : play (cycler 3) (slices 7) ≡ row 0 2 0 ∷ row 0 0 1 ∷ row 0 0 1 ∷ row 0 0 1 ∷ row 0 0 2 ∷ row 0 0 2 ∷ row 0 0 2 ∷ row 0 0 3 ∷ []
+cycler-three = machine.cycler-three
+
+-- "A two-node body: limit 2 done; limit 1 gives 10, steps 1."
+limit-two : start (assigning 1 2) ≡ answered 0 2 (replicate 8 (pos 0) ++ pos 1 ∷ replicate 1031 (pos 0))
+limit-two = machine.limit-two
+
+limit-one : start (assigning 1 1) ≡ answered 10 1 (replicate 1040 (pos 0))
+limit-one = machine.limit-one
+
+-- a whole call; the state lent for the result is all zeros
+call : List (List ℕ) → List ℤ → List ℤ → Outcome
+unfolding start
+call ss st ev = eventCall (sheetOf ss) st (replicate (length st) (pos 0)) ev
+
+-- "127 waiting, Outside: 0; 128: 8."
+outside-127 : call once (atTwo 127) (words 1 0 2) ≡ answered 0 0 (atTwo 128)
+unfolding call answered words once reacts sends copies waits sent atTwo
+outside-127 = refl
+
+outside-128 : event once (atTwo 128) (words 1 0 2) ≡ answered 8 0 (atTwo 128)
+outside-128 = machine.outside-128
+
+-- "128 waiting, Deliver to a reaction sending once: 0; twice: 8." Nothing of the refused body's work is kept
+deliver-once : event once (atTwo 128) (words 2 0 2) ≡ answered 0 3 (waits 128 [] (copies 127 (sent 0 2) ++ sent 2 0))
+deliver-once = machine.deliver-once
+
+deliver-twice : call twice (atTwo 128) (words 2 0 2) ≡ answered 8 7 (atTwo 128)
+unfolding call answered words twice reacts sends copies waits sent atTwo
+deliver-twice = refl
+
+-- "Int assigned to Bool: 2", and Bool 0. "Internal send without a reaction: 2", and with one 0
+bool-assigned-to-bool : check (assigning 1 0) ≡ 0
+bool-assigned-to-bool = rules.bool-assigned-to-bool
+
+int-assigned-to-bool : check (assigning 2 0) ≡ 2
+int-assigned-to-bool = rules.int-assigned-to-bool
+
+internal-send-with-a-reaction : check (sending 3) ≡ 0
+internal-send-with-a-reaction = rules.internal-send-with-a-reaction
+
+internal-send-without-a-reaction : check (sending 4) ≡ 2
+internal-send-without-a-reaction = rules.internal-send-without-a-reaction

@@ -1,0 +1,1 @@
+// The paper's starred samples as one table: theorems only. There is no code here.

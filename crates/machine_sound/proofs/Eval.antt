@@ -1,0 +1,224 @@
+-- An expression that has a type gives a value of it.
+use Prim.Native.Nat.{ℕ, zero, suc, _+_, _-_, _<_, _≤_}
+use mathlib.Core.Path.{_≡_, refl, sym, ap, subst, _∙_}
+use mathlib.Core.List.{List}
+use mathlib.Core.Bool.{Bool, true, false}
+use native.Mathlib.Omega.{arith}
+use lib.Dec.{ltb, eqb}
+use lib.IntN.{ℤ, pos, negsuc}
+use borrow.Author.Tests.{ltb-true, leb-true, eqb-true, lt-ltb, eq-eqb, ne-eqb, not-true}
+use Rattle.sheet.specs.declared.Record.{Record}
+use Rattle.sheet.specs.declared.Found.{Found}
+use Rattle.sheet.specs.declared.Found.the-variants.{Present}
+use Rattle.sheet.specs.All.{_and_}
+use Rattle.sheet.specs.Table.{lookUp}
+use Rattle.sheet.specs.Names
+use Rattle.sheet.specs.Names.{nodes, chartParameters, chartVariables, bodyParameters, bodyLocals, operator, Bool-type, Int-type, isClock}
+use Rattle.sheet.specs.Sheet.{recordOf}
+use Rattle.sheet.proofs.All.{true-false, and-first, and-second, and-true, all-at}
+use Rattle.machine.specs.declared.Out.{Out}
+use Rattle.sheet_rules.specs.declared.Typed.{Typed}
+use Rattle.sheet_rules.specs.declared.Typed.the-variants.{Expression}
+use Rattle.sheet_rules.specs.declared.Checked.the-variants.{Passed}
+use Rattle.sheet_rules.specs.declared.Operands.{Operands}
+use Rattle.sheet_rules.specs.Fields.{fieldOf, typeAt, componentsOf}
+use Rattle.sheet_rules.specs.Forms.{Form, literal, read, unary, binary, clock, skip, assign, externalSend, internalSend, arm, clockAct, call, choice, loop, sequence, unknown, formOf, operandsIn, operandsOf, operandAt, operandCount}
+use Rattle.sheet_rules.specs.Shape.{chartShape, variablesAt, fieldsShape, treeShape, constantShape, constantsShape, bindingShape}
+use Rattle.sheet_rules.specs.DataTypes.{dataTypeOf}
+use Rattle.sheet_rules.specs.Types.{literalType, variableAt, readType, clockType, lowerType, typeIn, typeStep, typeOf, assignType, externalType, internalType, armType, clockActType, callType, choiceType, loopType, sequenceType}
+use Rattle.sheet_rules.specs.Static.{constantStatic, constantsStatic, bindingStatic}
+use Rattle.machine.specs.Values.{fits32, isBelow, isZero, inDataType, inType, isBound, firstCell}
+use Rattle.machine.specs.State.{cellAt, wordOf}
+use Rattle.machine.specs.Valid.{zeroWords, runningClock, clockCell, cellFits}
+use Rattle.machine.specs.Eval.{needs, onRecord, val, notVal, literalValue, within, ofType, Context, isVariable, onType, bodyWords, parameterVal, variableAtCell, readAs, readVal, clockWord, clockVal, evalIn, evalOf}
+use Rattle.sheet_rules.specs.Check.{checkOf}
+use Rattle.sheet_rules.proofs.Fields.{holds-present}
+use Rattle.sheet_rules.proofs.Types.{type-step, lower-type}
+use Rattle.machine_equations.proofs.Eval.{eval-none, eval-visit}
+use Rattle.machine_passed.specs.Places.{Placed, Locals, Cells}
+use Rattle.machine_passed.proofs.Records.{held, chart-shape, binding-shape, binding-static}
+use Rattle.machine_passed.proofs.Declared.{declared-record, declared-so, chart-variable-declared, variable-declared}
+use Rattle.machine_sound.specs.Gives.{Gives}
+use Rattle.machine_sound.proofs.Locals.{few}
+use Rattle.machine_sound.proofs.Leaves.{no-statement, not-wrong, one-type, asked, then, met, value-within, int-in, not-gives, binary-gives, literal-fine}
+
+pub on-present : (f : Found) (r : Record) (K : Record → Out) → f ≡ Present r → onRecord f K ≡ K r
+unfolding onRecord
+on-present f r K e = rw e refl
+
+-- a word that is 0 is in Bool and in Int
+zero-is : (z : ℤ) → isZero z ≡ true → z ≡ pos 0
+unfolding isZero
+zero-is (pos k) e = ap pos (eqb-true k 0 e)
+zero-is (negsuc k) e = absurd (true-false e refl)
+
+module _ (s : List ℕ) (ok : checkOf s ≡ Passed) (x : Context) (placed : Placed s x) (st lo : List ℤ) (cells : Cells s x st) (locals : Locals s x lo) where
+  below-components : x .element < componentsOf s
+  unfolding isBound
+  below-components = ltb-true _ _ (and-second _ _ (placed .element .bound))
+
+  pub few-parameters : chartParameters (x .chart) .count ≤ 7
+  unfolding chartShape
+  few-parameters = leb-true _ _ (and-first _ _ (and-second _ _ (chart-shape s ok _ _ (placed .element .chart))))
+
+  -- ---- variables: each place holds a value of its declared type
+
+  module _ (n t l : ℕ) where
+    -- a chart parameter is the constant in the element's binding
+    parameter-gives : n < chartParameters (x .chart) .count → typeAt s (chartParameters (x .chart) .first + n) ≡ t → Gives s t (parameterVal s x n t l)
+    unfolding parameterVal ofType bindingShape constantsShape constantShape bindingStatic constantsStatic constantStatic
+    parameter-gives h e =
+        let c = placed .element .chart in
+        let shapes = and-first _ _ (sym (holds-present _ _ _ c) ∙ binding-shape s ok _ _ (placed .element .binding)) in
+        let types = sym (holds-present _ _ _ c) ∙ binding-static s ok _ _ (placed .element .binding) in
+        let k = held _ _ (all-at _ _ shapes n h) in
+        let q = sym (holds-present _ _ _ (k .1)) ∙ all-at _ _ types n h in
+        let f = literal-fine s (x .element) (k .0) below-components (and-second _ _ (k .2)) in
+        let same : literalType (k .0) ≡ t = eqb-true _ _ q ∙ e in
+        met s t _ _ (lt-ltb (1 + n) 8 (omega (arith, few-parameters)))
+        (subst (Gives s t) (sym (on-present _ (k .0) _ (k .1)))
+        (met s t _ _ (and-first _ _ (k .2))
+        (met s t _ _ (eq-eqb _ _ (f .0 ∙ same))
+        (value-within s t _ l (f .0 ∙ same) (ap (λ u. inType s u (literalValue (x .element) (k .0) .word)) (sym same) ∙ f .1)))))
+
+    variable-gives : n < chartVariables (x .chart) .count → typeAt s (chartVariables (x .chart) .first + n) ≡ t → isClock t ≡ false → Gives s t (within s (val t (wordOf st (variableAtCell s x n))) l)
+    unfolding variableAtCell cellFits
+    variable-gives h e c = value-within s t _ l refl (and-first _ _ (rw (cellFits, c) at (rw e at (cells n h))))
+
+    local-gives : n < bodyParameters (x .body) .count + bodyLocals (x .body) .count → typeAt s (variableAt (x .chart) (x .body) Names.bodyVariable n) ≡ t → Gives s t (needs (ltb n bodyWords) (within s (val t (wordOf lo n)) l))
+    local-gives h e = met s t _ _ (lt-ltb n bodyWords (omega (arith, few s ok x placed))) (value-within s t _ l refl (rw e at (locals .holds n h)))
+
+  pub no-place : (k : ℕ) → variablesAt (x .chart) (x .body) (suc (suc (suc k))) ≡ 0
+  unfolding variablesAt
+  no-place k = rw (variablesAt, ne-eqb (suc (suc (suc k))) 0 (λ q. absurd (omega arith)), ne-eqb (suc (suc (suc k))) 1 (λ q. absurd (omega arith)), ne-eqb (suc (suc (suc k))) 2 (λ q. absurd (omega arith))) refl
+
+  abbrev Reads : ℕ → ℕ → ℕ → Type 0
+  Reads place n l =
+      ltb n (variablesAt (x .chart) (x .body) place) ≡ true →
+      isClock (typeAt s (variableAt (x .chart) (x .body) place n)) ≡ false →
+      Gives s (typeAt s (variableAt (x .chart) (x .body) place n)) (readAs s x st lo place n (typeAt s (variableAt (x .chart) (x .body) place n)) l)
+
+  read-gives : (place n l : ℕ) → Reads place n l
+  unfolding readAs variableAt variablesAt
+  read-gives zero n l h c = parameter-gives n _ l (ltb-true _ _ h) refl
+  read-gives (suc zero) n l h c = variable-gives n _ l (ltb-true _ _ h) refl c
+  read-gives (suc (suc zero)) n l h c = local-gives n _ l (ltb-true _ _ h) refl
+  read-gives (suc (suc (suc k))) n l h c = absurd (let z = ltb-true n 0 (rw (no-place k) at h) in omega arith)
+
+  -- its declaration is there
+  read-declared : (place n l : ℕ) → ltb n (variablesAt (x .chart) (x .body) place) ≡ true → isClock (typeAt s (variableAt (x .chart) (x .body) place n)) ≡ false → Gives s (typeAt s (variableAt (x .chart) (x .body) place n)) (onType s (variableAt (x .chart) (x .body) place n) (λ t. readAs s x st lo place n t l))
+  read-declared place n l h c =
+      let d = declared-record s _ (variable-declared s ok _ _ (placed .element .chart) (x .body) (placed .body) place n (ltb-true _ _ h)) in
+      subst (Gives s _) (sym (on-present _ (d .0) _ (d .1) ∙ ap (λ t. readAs s x st lo place n t l) (d .2))) (read-gives place n l h c)
+
+  -- ---- clocks: 17 its running word, 18 its value
+
+  module _ (n : ℕ) (h : n < chartVariables (x .chart) .count) (c : isClock (typeAt s (chartVariables (x .chart) .first + n)) ≡ true) where
+    cell : clockCell s (x .element) (typeAt s (chartVariables (x .chart) .first + n)) st (cellAt (firstCell s (x .element) + n)) ≡ true
+    unfolding cellFits
+    cell = rw (cellFits, c) at (cells n h)
+
+    running-in : inType s Bool-type (wordOf st (variableAtCell s x n)) ≡ true
+    unfolding variableAtCell clockCell inType inDataType dataTypeOf lookUp isBelow
+    running-in = go (isZero (wordOf st (cellAt (firstCell s (x .element) + n)))) refl cell
+      where
+        at : ℕ
+        at = cellAt (firstCell s (x .element) + n)
+
+        go : (b : Bool) → isZero (wordOf st at) ≡ b → elim b [ true ↦ zeroWords st at 1 | false ↦ isBelow (wordOf st at) 2 and runningClock s (x .element) (typeAt s (chartVariables (x .chart) .first + n)) st at ] ≡ true → isBelow (wordOf st at) 2 ≡ true
+        go true e q = rw (zero-is (wordOf st at) e) refl
+        go false e q = and-first _ _ q
+
+    abbrev at : ℕ
+    at = cellAt (firstCell s (x .element) + n)
+
+    -- a stopped clock's value is 0
+    stopped-value : zeroWords st at 1 ≡ true → wordOf st (at + 1) ≡ pos 0
+    unfolding zeroWords
+    stopped-value q = let i : at + 1 + 0 ≡ at + 1 = omega arith in zero-is _ (subst (λ i. isZero (wordOf st i) ≡ true) i (all-at 7 (λ k. isZero (wordOf st (at + 1 + k))) q 0 (omega arith)))
+
+    pub clock-word : clockWord s x st n ≡ wordOf st (at + 1)
+    unfolding clockWord variableAtCell clockCell
+    clock-word = go (isZero (wordOf st at)) cell
+      where
+        go : (b : Bool) → elim b [ true ↦ zeroWords st at 1 | false ↦ isBelow (wordOf st at) 2 and runningClock s (x .element) (typeAt s (chartVariables (x .chart) .first + n)) st at ] ≡ true → _≡_ {A = ℤ} (elim b [ true ↦ pos 0 | false ↦ wordOf st (at + 1) ]) (wordOf st (at + 1))
+        go true q = sym (stopped-value q)
+        go false q = refl
+
+    value-in : inType s Int-type (clockWord s x st n) ≡ true
+    unfolding clockCell runningClock inType inDataType dataTypeOf lookUp fits32
+    value-in = ap (inType s Int-type) clock-word ∙ go (isZero (wordOf st at)) cell
+      where
+        go : (b : Bool) → elim b [ true ↦ zeroWords st at 1 | false ↦ isBelow (wordOf st at) 2 and runningClock s (x .element) (typeAt s (chartVariables (x .chart) .first + n)) st at ] ≡ true → inType s Int-type (wordOf st (at + 1)) ≡ true
+        go true q = rw (stopped-value q) refl
+        go false q = int-in s (wordOf st (at + 1)) (and-first _ _ (and-second _ _ q))
+
+  clock-gives : (op n t l : ℕ) → n < chartVariables (x .chart) .count → isClock (typeAt s (chartVariables (x .chart) .first + n)) ≡ true → elim (eqb op 17) [ true ↦ Bool-type | false ↦ Int-type ] ≡ t → Gives s t (clockVal s x st op n l)
+  unfolding clockVal isVariable
+  clock-gives op n t l h c e = met s t _ _ (and-true _ _ (lt-ltb _ _ h) (declared-so s _ isClock (chart-variable-declared s ok _ _ (placed .element .chart) n h) ∙ c)) (go (eqb op 17) e)
+    where
+      go : (b : Bool) → elim b [ true ↦ Bool-type | false ↦ Int-type ] ≡ t → Gives s t (elim b [ true ↦ within s (val Bool-type (wordOf st (variableAtCell s x n))) l | false ↦ within s (val Int-type (clockWord s x st n)) l ])
+      go true q = subst (λ u. Gives s u (within s (val Bool-type (wordOf st (variableAtCell s x n))) l)) q (value-within s Bool-type _ l refl (running-in n h c))
+      go false q = subst (λ u. Gives s u (within s (val Int-type (clockWord s x st n)) l)) q (value-within s Int-type _ l refl (value-in n h c))
+
+  -- ---- a node, where its operands give values of their types
+
+  module _ (f : ℕ → Typed) (g : ℕ → ℕ → Out) (r : Record) where
+    abbrev Operand : ℕ → Type 0
+    Operand m = (l u : ℕ) → f m ≡ Expression u → Gives s u (g m l)
+
+    abbrev OperandsGive : Operands → Type 0
+    OperandsGive o = (j : ℕ) → j < operandCount o → Operand (operandAt r o j)
+
+    act-gives : (F : Form) (t l : ℕ) → fieldsShape s (x .chart) (x .body) r F ≡ true → OperandsGive (operandsIn s (x .chart) r F) → typeIn s (x .chart) (x .body) f r F ≡ Expression t → Gives s t (evalIn s x st lo g r l F)
+    unfolding fieldsShape operandsIn operandAt fieldOf typeIn evalIn readType readVal clockType assignType externalType internalType armType clockActType callType choiceType loopType sequenceType
+    act-gives literal t l h o e =
+        let k = literal-fine s (x .element) r below-components h in
+        let q = one-type e in
+        value-within s t _ l (k .0 ∙ q) (ap (λ u. inType s u (literalValue (x .element) r .word)) (sym q) ∙ k .1)
+    act-gives read t l h o e =
+        let a = asked _ _ e in
+        subst (λ u. Gives s u (readVal s x st lo (r .f1) (r .f2) l)) (one-type (a .1))
+        (met s _ _ _ (and-first _ _ h) (read-declared (r .f1) (r .f2) l (and-first _ _ h) (not-true _ (a .0))))
+    act-gives unary t l h o e =
+        let n = not-gives s t (f (r .f1)) e in
+        then s t Bool-type (g (r .f1) l) notVal (o 0 (omega arith) l Bool-type (n .0)) (λ v l k w. n .1 v l k)
+    act-gives binary t l h o e =
+        let b = binary-gives s (operator r) t (f (r .f1)) (f (r .f2)) e in
+        then s t (b .0) (g (r .f1) l) _ (o 0 (omega arith) l (b .0) (b .2)) (λ v l k w.
+        then s t (b .1) (g (r .f2) l) _ (o 1 (omega arith) l (b .1) (b .3)) (λ v′ l k′ w′.
+        b .4 v v′ l k k′))
+    act-gives clock t l h o e =
+        let a = asked _ _ e in
+        clock-gives (operator r) (r .f1) t l (ltb-true _ _ (and-first _ _ h)) (a .0) (one-type (a .1))
+    act-gives skip t l h o e = no-statement e
+    act-gives assign t l h o e = no-statement (asked _ _ e .1)
+    act-gives externalSend t l h o e = no-statement (asked _ _ e .1)
+    act-gives internalSend t l h o e = no-statement (asked _ _ e .1)
+    act-gives arm t l h o e = no-statement (asked _ _ e .1)
+    act-gives clockAct t l h o e = no-statement (asked _ _ e .1)
+    act-gives call t l h o e = no-statement (asked _ _ e .1)
+    act-gives choice t l h o e = no-statement (asked _ _ e .1)
+    act-gives loop t l h o e = no-statement (asked _ _ e .1)
+    act-gives sequence t l h o e = no-statement (asked _ _ e .1)
+    act-gives unknown t l h o e = not-wrong e
+
+  pub type-at : (n : ℕ) (r : Record) → recordOf s nodes n ≡ Present r → typeOf s (x .chart) (x .body) n ≡ typeIn s (x .chart) (x .body) (lowerType n (typeOf s (x .chart) (x .body))) r (formOf (operator r))
+  unfolding typeStep
+  type-at n r e = type-step s (x .chart) (x .body) n ∙ rw (typeStep, e) refl
+
+  -- an expression of type t in a tree of at most k levels
+  pub eval-gives : (k n t l : ℕ) → treeShape s (x .chart) (x .body) k n ≡ true → typeOf s (x .chart) (x .body) n ≡ Expression t → Gives s t (evalOf s x st lo n l)
+  unfolding treeShape operandsOf
+  eval-gives zero n t l h e = absurd (true-false h refl)
+  eval-gives (suc k) n t zero h e = subst (Gives s t) (sym (eval-none s x st lo n)) (omega arith, omega arith)
+  eval-gives (suc k) n t (suc l) h e =
+      let d = held _ _ h in
+      let r = d .0 in
+      subst (Gives s t) (sym (eval-visit s x st lo n l ∙ on-present _ r _ (d .1)))
+      (act-gives (lowerType n (typeOf s (x .chart) (x .body))) (evalOf s x st lo) r (formOf (operator r)) t l (and-first _ _ (d .2))
+      (λ j q m u z.
+      let a = all-at _ _ (and-second _ _ (d .2)) j q in
+      let low = ltb-true _ _ (and-first _ _ a) in
+      eval-gives k _ u m (and-second _ _ a) (sym (lower-type n _ (typeOf s (x .chart) (x .body)) low) ∙ z))
+      (sym (type-at n r (d .1)) ∙ e))

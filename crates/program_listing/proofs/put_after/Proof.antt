@@ -1,0 +1,28 @@
+use mathlib.Core.Path.{subst}
+use native.Mathlib.Omega.{arith}
+use borrow.Author.Needs.{needs}
+use Rattle.program_text.specs.Decimal.{Put, signed}
+use Rattle.program_text.proofs.Laws.{back, put-then}
+use Rattle.program_listing.specs.Listing.{afterText}
+use Rattle.program_listing.proofs.put_after.Statement.{statement}
+use Rattle.program_listing.proofs.put_after.Tie as tie
+
+put-requires : tie.Need-put-requires
+put-requires c κs = search needs
+
+put-signed-requires : tie.Need-put-signed-requires
+put-signed-requires c κs = search needs
+
+same-length : tie.Need-same-length
+same-length c = search needs
+
+returns : tie.Need-returns
+unfolding afterText
+returns c =
+    let p = c .before .before .before .before .before .before .before .before .before .pre in
+    let a = c .before .before .before .before .before .before .put .ensures .1 in
+    let b = c .before .before .put-signed .ensures .1 in
+    (put-then (c .before .before .before .before .before .before .put .ensures .0) (omega arith) (subst (λ w. Put (c .before .before .before .before .before .before .put .last .0) (c .before .before .before .before .before .before .put .result) (signed w) (c .before .before .put-signed .last .0) (c .before .before .put-signed .result)) (back (c .before .before .before .before .before .before .before .before .before .args .z) (c .before .before .before .before .before .before .before .before .before .fits .z)) (c .before .before .put-signed .ensures .0)), omega arith)
+
+pub put-after-spec : {M : Type 1} → statement M
+put-after-spec = tie.close (tie.spec put-requires put-signed-requires same-length returns)

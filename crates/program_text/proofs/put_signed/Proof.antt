@@ -1,0 +1,59 @@
+use mathlib.Core.Path.{sym, ap, subst, _∙_}
+use native.Mathlib.Omega.{arith}
+use lib.IntN.{natAbs}
+use borrow.Author.Needs.{needs}
+use Rattle.program_text.specs.Decimal.{decimal, Put}
+use Rattle.program_text.proofs.Laws.{back, put-then, signed-below, signed-other}
+use Rattle.program_text.proofs.put_signed.Statement.{statement}
+use Rattle.program_text.proofs.put_signed.Tie as tie
+
+put-requires : tie.Need-put-requires
+put-requires c κs = search needs
+
+magnitude-requires : tie.Need-magnitude-requires
+magnitude-requires c κs = search needs
+
+put-decimal-requires : tie.Need-put-decimal-requires
+put-decimal-requires c κs = search needs
+
+same-length : tie.Need-same-length
+same-length c = search needs
+
+returns : tie.Need-returns
+returns c =
+    let p = c .before .before .before .before .before .before .before .before .before .before .before .pre in
+    let l = c .before .before .put-decimal .ensures .1 in
+    let m = c .before .before .before .before .before .before .before .put .ensures .1 in
+    let z = c .before .before .before .before .before .before .before .before .before .before .before .args .z in
+    let e = back z (c .before .before .before .before .before .before .before .before .before .before .before .fits .z) in
+    (subst (λ u. Put (c .before .before .before .before .before .before .before .before .before .before .before .args .out .now) (c .before .before .before .before .before .before .before .before .before .before .before .args .at) u (c .before .before .put-decimal .last .0) (c .before .before .put-decimal .result)) (sym (signed-below z (rw e at (c .before .before .before .before .before .before .before .before .before .if1 .taken)))) (put-then (c .before .before .before .before .before .before .before .put .ensures .0) (omega arith) (subst (λ n. Put (c .before .before .before .before .before .before .before .put .last .0) (c .before .before .before .before .before .before .before .put .result) (decimal n) (c .before .before .put-decimal .last .0) (c .before .before .put-decimal .result)) (c .before .before .before .magnitude .ensures ∙ ap natAbs e) (c .before .before .put-decimal .ensures .0))), omega arith)
+
+magnitude-requires-2 : tie.Need-magnitude-requires-2
+magnitude-requires-2 c κs = search needs
+
+put-decimal-requires-2 : tie.Need-put-decimal-requires-2
+put-decimal-requires-2 c κs = search needs
+
+same-length-2 : tie.Need-same-length-2
+same-length-2 c = search needs
+
+returns-2 : tie.Need-returns-2
+returns-2 c =
+    let l = c .before .before .put-decimal2 .ensures .1 in
+    let z = c .before .before .before .before .before .before .before .args .z in
+    let e = back z (c .before .before .before .before .before .before .before .fits .z) in
+    (subst (λ u. Put (c .before .before .before .before .before .before .before .args .out .now) (c .before .before .before .before .before .before .before .args .at) u (c .before .before .put-decimal2 .last .0) (c .before .before .put-decimal2 .result)) (ap decimal (c .before .before .before .magnitude2 .ensures ∙ ap natAbs e) ∙ sym (signed-other z (rw e at (c .before .before .before .before .before .if1 .left)))) (c .before .before .put-decimal2 .ensures .0), omega arith)
+
+pub put-signed-spec : {M : Type 1} → statement M
+put-signed-spec =
+    tie.close
+    (tie.spec
+    put-requires
+    magnitude-requires
+    put-decimal-requires
+    same-length
+    returns
+    magnitude-requires-2
+    put-decimal-requires-2
+    same-length-2
+    returns-2)

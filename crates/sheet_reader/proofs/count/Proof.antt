@@ -1,0 +1,15 @@
+use borrow.Author.Needs.{needs}
+use Rattle.sheet_reader.proofs.count.Statement.{statement}
+use Rattle.sheet_reader.proofs.count.Tie as tie
+
+directory-requires : tie.Need-directory-requires
+directory-requires c κs = search needs
+
+count-in-requires : tie.Need-count-in-requires
+count-in-requires c κs = search needs
+
+returns : tie.Need-returns
+returns c = c .count-in .ensures _ (c .before .before .directory .ensures)
+
+pub count-spec : {M : Type 1} → statement M
+count-spec = tie.close (tie.spec directory-requires count-in-requires returns)

@@ -1,0 +1,5 @@
+pub mod Forms
+pub mod DataTypes
+pub mod Fields
+pub mod Types
+pub mod Samples

@@ -1,0 +1,132 @@
+-- The paper's starred samples about the static rules, and what samples are made of: sheets by their records, with every definition open.
+use Prim.Native.Nat.{ℕ, _+_, _*_, _/_, _%_}
+use mathlib.Core.List.{List, [], _∷_, _++_}
+use mathlib.Core.Path.{_≡_, refl}
+use lib.ListN.{length}
+use Rattle.sheet.specs.All.{_and_, allBelow}
+use Rattle.sheet.specs.Table.{lookUp}
+use Rattle.sheet.specs.Names.{isClock, isLiteral}
+use Rattle.sheet.specs.Sheet.{startOf, pairRight, directoryRight, countOf, recordAt, recordOf}
+use Rattle.sheet_rules.specs.Fields.{fieldOf, zeroFrom, holds, numberOr0, sumBelow, countBelow, componentsOf, externalsOf, portsOf, elementsOf, declaredSo, typeAt, inSection}
+use Rattle.sheet_rules.specs.Forms.{formOf, literalOf, less, plus, modulo, binaryOf, nameData, calledBody, callData, operandsIn, operandsOf, operandAt}
+use Rattle.sheet_rules.specs.DataTypes.{enumeratedType, noData, dataTypeOf}
+use Rattle.sheet_rules.specs.Shape.{headShape, enumeratedShape, typeExists, declarationShape, nameShape, bodiesUpTo, chartShape, bodiesCovered, isReaction, reactionShape, bodyShape, literalFields, literalShape, variablesAt, sendShape, fieldsShape, treeShape, treesShape, constantShape, constantsShape, bindingShape, elementsBound, variablesBound, variablesOf, recordShape, sectionShape}
+use Rattle.sheet_rules.specs.Uses.{lowerOnly, standsStep, standsF, standsIn, usesInChart, usesInBinding, usesOf, usedOnce}
+use Rattle.sheet_rules.specs.Types.{given, isOf, isStatement, sameType, writtenType, literalType, variableAt, ofInts, combinedType, binaryType, hasClass, hasReaction, internalName, nameRange, parametersOf, clockOf, dataMatch, lowerType, readType, notType, clockType, assignType, externalType, internalType, armType, clockActType, callType, choiceType, loopType, sequenceType, typeIn, typeStep, typeF, typeOf}
+use Rattle.sheet_rules.specs.Static.{noClocks, nameStatic, sameTypes, reactionStatic, roleStatic, bodyStatic, hasRole, bodiesWith, sameReaction, noTwin, bodiesStatic, chartStatic, constantStatic, constantsStatic, bindingStatic, recordStatic, sectionStatic, static}
+use Rattle.sheet_rules.specs.Check.{nodesShape, sectionsShape, shape, checkOf, checkNumber}
+
+-- ---- a sheet from its eight sections, each the fields of its records
+
+bytesOf : List ℕ → List ℕ
+bytesOf [] = []
+bytesOf (w ∷ ws) = w % 256 ∷ w / 256 ∷ bytesOf ws
+
+directoryFor : ℕ → List (List ℕ) → List ℕ
+directoryFor at [] = []
+directoryFor at (s ∷ ss) = at ∷ 2 * length s ∷ directoryFor (at + 2 * length s) ss
+
+fieldsOf : List (List ℕ) → List ℕ
+fieldsOf [] = []
+fieldsOf (s ∷ ss) = s ++ fieldsOf ss
+
+unfoldable pub sheetOf : List (List ℕ) → List ℕ
+unfolding bytesOf directoryFor fieldsOf
+sheetOf ss = bytesOf (directoryFor 32 ss ++ fieldsOf ss)
+
+-- a record by its first three or six fields; a body by role, name and root
+unfoldable pub rec3 : ℕ → ℕ → ℕ → List ℕ
+rec3 a b c = a ∷ b ∷ c ∷ 0 ∷ 0 ∷ 0 ∷ 0 ∷ 0 ∷ []
+
+unfoldable pub rec6 : ℕ → ℕ → ℕ → ℕ → ℕ → ℕ → List ℕ
+rec6 a b c d e f = a ∷ b ∷ c ∷ d ∷ e ∷ f ∷ 0 ∷ 0 ∷ []
+
+unfoldable pub body : ℕ → ℕ → ℕ → List ℕ
+body role name root = role ∷ 0 ∷ name ∷ 0 ∷ 0 ∷ 0 ∷ 0 ∷ root ∷ []
+
+-- the number that check gives to a sheet, with every definition open
+unfoldable pub check : List (List ℕ) → ℕ
+unfolding _and_ allBelow isClock isLiteral startOf pairRight directoryRight countOf recordAt recordOf fieldOf zeroFrom holds numberOr0 sumBelow countBelow componentsOf externalsOf portsOf elementsOf declaredSo typeAt inSection lookUp formOf literalOf binaryOf dataTypeOf nameData calledBody callData operandsIn operandsOf operandAt headShape enumeratedShape typeExists declarationShape nameShape bodiesUpTo chartShape bodiesCovered isReaction reactionShape bodyShape literalFields literalShape variablesAt sendShape fieldsShape treeShape treesShape constantShape constantsShape bindingShape elementsBound variablesBound variablesOf recordShape sectionShape lowerOnly standsStep standsF standsIn usesInChart usesInBinding usesOf usedOnce given isOf isStatement sameType writtenType literalType variableAt ofInts combinedType binaryType hasClass hasReaction internalName nameRange parametersOf clockOf dataMatch lowerType readType notType clockType assignType externalType internalType armType clockActType callType choiceType loopType sequenceType typeIn typeStep typeF typeOf noClocks nameStatic sameTypes reactionStatic roleStatic bodyStatic hasRole bodiesWith sameReaction noTwin bodiesStatic chartStatic constantStatic constantsStatic bindingStatic recordStatic sectionStatic static nodesShape sectionsShape shape checkOf bytesOf directoryFor fieldsOf sheetOf rec3 rec6 body
+check ss = checkNumber (checkOf (sheetOf ss))
+
+-- ---- static rules
+
+-- one bound element with a variable of type 0, Bool; its initial body assigns it the literal of an operator; with a step limit
+unfoldable pub assigning : ℕ → ℕ → List (List ℕ)
+assigning op limit =
+    rec6 3 2 2 limit 0 0
+    ∷ []
+    ∷ rec3 0 0 0
+    ∷ []
+    ∷ rec6 0 0 0 1 0 2
+    ∷ (body 0 0 1 ++ body 1 0 2)
+    ∷ (rec3 op 1 0 ++ rec6 33 1 0 0 0 0 ++ rec3 32 0 0)
+    ∷ rec3 0 0 0
+    ∷ []
+
+pub bool-assigned-to-bool : check (assigning 1 0) ≡ 0
+unfolding check assigning
+bool-assigned-to-bool = refl
+
+pub int-assigned-to-bool : check (assigning 2 0) ≡ 2
+unfolding check assigning
+int-assigned-to-bool = refl
+
+-- one bound element whose initial body sends internal name 0; its third body is of a role, 3 being a reaction to it
+unfoldable pub sending : ℕ → List (List ℕ)
+sending role =
+    rec3 3 2 2
+    ∷ []
+    ∷ []
+    ∷ rec3 0 0 1
+    ∷ rec6 0 0 0 0 0 3
+    ∷ (body 0 0 0 ++ body 1 0 1 ++ body role 0 2)
+    ∷ (rec3 35 0 0 ++ rec3 32 0 0 ++ rec3 32 0 0)
+    ∷ rec3 0 0 0
+    ∷ []
+
+pub internal-send-with-a-reaction : check (sending 3) ≡ 0
+unfolding check sending
+internal-send-with-a-reaction = refl
+
+pub internal-send-without-a-reaction : check (sending 4) ≡ 2
+unfolding check sending
+internal-send-without-a-reaction = refl
+
+-- ---- the head says how many elements are bound, however many bindings there are
+
+-- four components, two of them external, and one binding
+half : List (List ℕ)
+half = rec3 4 2 2 ∷ [] ∷ [] ∷ [] ∷ [] ∷ [] ∷ [] ∷ rec3 0 0 0 ∷ []
+
+elements-by-the-head : elementsOf (sheetOf half) ≡ 2
+unfolding check half
+elements-by-the-head = refl
+
+-- ---- data types: "4 to 6 are clocks", there is no 7, "8+k enumerated type k"
+
+cycler-no-data : dataTypeOf 6 ≡ noData
+unfolding check
+cycler-no-data = refl
+
+seven-no-data : dataTypeOf 7 ≡ noData
+unfolding check
+seven-no-data = refl
+
+eight-enumerated : dataTypeOf 8 ≡ enumeratedType 0
+unfolding check
+eight-enumerated = refl
+
+-- ---- operators on two values: "11 less; 12 plus"; the last, "16 mod"
+
+eleven-less : binaryOf 11 ≡ less
+unfolding check
+eleven-less = refl
+
+twelve-plus : binaryOf 12 ≡ plus
+unfolding check
+twelve-plus = refl
+
+sixteen-mod : binaryOf 16 ≡ modulo
+unfolding check
+sixteen-mod = refl

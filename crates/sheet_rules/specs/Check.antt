@@ -1,0 +1,46 @@
+-- What the checker passes: 0, or 1 for the shape, before 2 for a static rule.
+use Prim.Native.Nat.{ℕ}
+use mathlib.Core.List.{List}
+use mathlib.Core.Bool.{Bool, true, false}
+use lib.Dec.{leb, eqb}
+use Rattle.sheet.specs.All.{_and_, allBelow}
+use Rattle.sheet.specs.Names.{head, charts}
+use Rattle.sheet.specs.Sheet.{countOf, directoryRight, recordOf}
+use Rattle.sheet_rules.specs.declared.Checked.{Checked}
+use Rattle.sheet_rules.specs.declared.Checked.the-variants.{Passed, Shape, Static}
+use Rattle.sheet_rules.specs.Fields.{holds}
+use Rattle.sheet_rules.specs.Shape.{sectionShape, bodiesCovered, elementsBound, variablesOf, treesShape}
+use Rattle.sheet_rules.specs.Uses.{usedOnce}
+use Rattle.sheet_rules.specs.Static.{static}
+
+-- the trees of every chart's bodies
+unfoldable pub nodesShape : List ℕ → Bool
+nodesShape s = allBelow (countOf s charts) (λ k. holds (recordOf s charts k) (treesShape s))
+
+unfoldable pub sectionsShape : List ℕ → Bool
+sectionsShape s = allBelow 8 (sectionShape s)
+
+-- "the shape above, in which everything that a field numbers exists"
+unfoldable pub shape : List ℕ → Bool
+shape s =
+    directoryRight s
+    and eqb (countOf s head) 1
+    and sectionsShape s
+    and bodiesCovered s
+    and elementsBound s
+    and leb (variablesOf s) 512
+    and usedOnce s
+    and nodesShape s
+
+unfoldable pub checkOf : List ℕ → Checked
+checkOf s = elim (shape s) [ true ↦ elim (static s) [ true ↦ Passed | false ↦ Static ] | false ↦ Shape ]
+
+-- the paper's number of an answer
+abbrev pub checkNumber : Checked → ℕ
+checkNumber Passed = 0
+checkNumber Shape = 1
+checkNumber Static = 2
+
+-- "Check gives 0, 1, 2": 1 where the sheet hasn't the shape, 2 where it has it and breaks a static rule
+unfoldable pub checkCall : List ℕ → ℕ
+checkCall s = elim (shape s) [ true ↦ elim (static s) [ true ↦ 0 | false ↦ 2 ] | false ↦ 1 ]

@@ -1,0 +1,102 @@
+-- The static rules (4.38 to 4.40 of LARIS 1.0) beside those of `Types`. Failing any gives 2.
+use Prim.Native.Nat.{ℕ, _+_}
+use mathlib.Core.List.{List, [], _∷_}
+use mathlib.Core.Bool.{Bool, true, false, not}
+use lib.Dec.{leb, eqb}
+use Rattle.sheet.specs.declared.Record.{Record}
+use Rattle.sheet.specs.declared.Range.{Range}
+use Rattle.sheet.specs.declared.Found.{Found}
+use Rattle.sheet.specs.All.{_and_, allBelow}
+use Rattle.sheet.specs.Table.{Line, upTo, lookUp}
+use Rattle.sheet.specs.Names.{declarations, names, charts, bodies, nodes, bindings, dataOf, external, internal, chartParameters, chartBodies, role, initial, panic, externalReaction, reactionPort, reactionName, bodyParameters, bodyLocals, root, boundChart, isClock}
+use Rattle.sheet.specs.Sheet.{countOf, recordOf}
+use Rattle.sheet_rules.specs.Fields.{holds, countBelow, typeAt}
+use Rattle.sheet_rules.specs.Shape.{isReaction, constantOf}
+use Rattle.sheet_rules.specs.Types.{isStatement, literalType, hasClass, nameRange, typeOf}
+
+-- "clocks .. stand in no declaration range but chart variables"
+unfoldable pub noClocks : List ℕ → Range → Bool
+noClocks s g = allBelow (g .count) (λ j. not (isClock (typeAt s (g .first + j))))
+
+unfoldable pub nameStatic : List ℕ → Record → Bool
+nameStatic s r = noClocks s (dataOf r)
+
+-- ---- bodies
+
+-- "reaction parameters have the name's types"
+unfoldable pub sameTypes : List ℕ → Range → Range → Bool
+sameTypes s g h = eqb (g .count) (h .count) and allBelow (g .count) (λ j. eqb (typeAt s (g .first + j)) (typeAt s (h .first + j)))
+
+-- "external .. reactions use external names, internal reactions internal ones"
+unfoldable pub reactionStatic : List ℕ → Record → Bool
+reactionStatic s b = hasClass s (reactionName b) (elim (eqb (role b) externalReaction) [ true ↦ external | false ↦ internal ]) and sameTypes s (bodyParameters b) (nameRange s (reactionName b))
+
+-- "one initial and one panic body, both without parameters"
+unfoldable pub roleStatic : List ℕ → Record → Bool
+roleStatic s b = elim (isReaction (role b)) [ true ↦ reactionStatic s b | false ↦ elim (leb (role b) panic) [ true ↦ eqb (bodyParameters b .count) 0 | false ↦ true ] ]
+
+-- "roots are statements"
+unfoldable pub bodyStatic : List ℕ → Record → Record → Bool
+bodyStatic s c b = noClocks s (bodyParameters b) and noClocks s (bodyLocals b) and roleStatic s b and isStatement (typeOf s c b (root b))
+
+-- ---- charts
+
+-- the body numbered j in chart c
+abbrev pub bodyOf : List ℕ → Record → ℕ → Found
+bodyOf s c j = recordOf s bodies (chartBodies c .first + j)
+
+unfoldable pub hasRole : List ℕ → ℕ → ℕ → Bool
+hasRole s i k = holds (recordOf s bodies i) (λ b. eqb (role b) k)
+
+unfoldable pub bodiesWith : List ℕ → Record → ℕ → ℕ
+bodiesWith s c k = countBelow (chartBodies c .count) (λ j. hasRole s (chartBodies c .first + j) k)
+
+-- "no chart has two external reactions with equal port and name, or two internal ones with equal name" (whose port field is 0)
+unfoldable pub sameReaction : Record → Record → Bool
+sameReaction a b = isReaction (role a) and eqb (role a) (role b) and eqb (reactionPort a) (reactionPort b) and eqb (reactionName a) (reactionName b)
+
+-- body b, numbered j in chart c, reacts to nothing that an earlier body reacts to
+unfoldable pub noTwin : List ℕ → Record → ℕ → Record → Bool
+noTwin s c j b = allBelow j (λ i. holds (bodyOf s c i) (λ a. not (sameReaction a b)))
+
+unfoldable pub bodiesStatic : List ℕ → Record → Bool
+bodiesStatic s c = allBelow (chartBodies c .count) (λ j. holds (bodyOf s c j) (λ b. noTwin s c j b and bodyStatic s c b))
+
+unfoldable pub chartStatic : List ℕ → Record → Bool
+chartStatic s c =
+    noClocks s (chartParameters c)
+    and eqb (bodiesWith s c initial) 1
+    and eqb (bodiesWith s c panic) 1
+    and bodiesStatic s c
+
+-- ---- bindings: "binding constants their parameters'" types
+
+unfoldable pub constantStatic : List ℕ → ℕ → ℕ → Bool
+constantStatic s n t = holds (recordOf s nodes n) (λ r. eqb (literalType r) t)
+
+unfoldable pub constantsStatic : List ℕ → Record → Record → Bool
+constantsStatic s r c = allBelow (chartParameters c .count) (λ j. constantStatic s (constantOf r j) (typeAt s (chartParameters c .first + j)))
+
+unfoldable pub bindingStatic : List ℕ → Record → Bool
+bindingStatic s r = holds (recordOf s charts (boundChart r)) (constantsStatic s r)
+
+-- ---- every name, chart and binding
+
+abbrev pub staticTable : List ℕ → Record → List (Line Bool)
+staticTable s r =
+    upTo declarations true
+    ∷ upTo names (nameStatic s r)
+    ∷ upTo charts (chartStatic s r)
+    ∷ upTo nodes true
+    ∷ upTo bindings (bindingStatic s r)
+    ∷ []
+
+-- a record of section k
+unfoldable pub recordStatic : List ℕ → ℕ → Record → Bool
+recordStatic s k r = lookUp (staticTable s r) true k
+
+unfoldable pub sectionStatic : List ℕ → ℕ → Bool
+sectionStatic s k = allBelow (countOf s k) (λ i. holds (recordOf s k i) (recordStatic s k))
+
+unfoldable pub static : List ℕ → Bool
+static s = allBelow 8 (sectionStatic s)
