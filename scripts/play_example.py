@@ -5,20 +5,28 @@ import sys
 
 from check_cases import SKIP, sheet
 
-NODES = [
-    SKIP,  # initial
-    SKIP,  # panic
-    [2, 2],  # the period
-    [36, 0, 2, 1],  # arms variable 0, internal name 1
-    [4, 0],
-    [5, 0],
-    [34, 4, 5, 0],  # sends name 0 to Log, log
-]
-EXAMPLE = sheet([
-    [[3, 2, 3]], [], [[5]], [[0, 0, 0], [0, 0, 1]], [[0, 0, 0, 1, 0, 4]],
-    [[0, 0, 0, 0, 0, 0, 0, 0], [1, 0, 0, 0, 0, 0, 0, 1], [2, 2, 0, 0, 0, 0, 0, 3], [3, 0, 1, 0, 0, 0, 0, 6]],
-    NODES, [[0]],
-])
+
+def example(period=2, arms_at_start=False):
+    """The example's sheet, with the Timeout's period; or with the initial body arming it, not the reaction."""
+    initial, reaction = (3, 0) if arms_at_start else (0, 3)
+    nodes = [
+        SKIP,  # initial
+        SKIP,  # panic
+        [2, period],
+        [36, 0, 2, 1],  # arms variable 0, internal name 1
+        [4, 0],
+        [5, 0],
+        [34, 4, 5, 0],  # sends name 0 to Log, log
+    ]
+    bodies = [
+        [0, 0, 0, 0, 0, 0, 0, initial],
+        [1, 0, 0, 0, 0, 0, 0, 1],
+        [2, 2, 0, 0, 0, 0, 0, reaction],
+        [3, 0, 1, 0, 0, 0, 0, 6],
+    ]
+    return sheet([[[3, 2, 3]], [], [[5]], [[0, 0, 0], [0, 0, 1]], [[0, 0, 0, 1, 0, 4]], bodies, nodes, [[0]]])
+
+
 # kind, s, r, p, n
 EVENTS = [
     [1, 0, 2, 2, 0],  # Outside from 0
@@ -30,7 +38,15 @@ EVENTS = [
     [2, 2, 0],  # Deliver 2 to 0
 ]
 
+
+def words(events):
+    return b"".join(struct.pack("<9i", *(e + [0] * (9 - len(e)))) for e in events)
+
+
+def played(blob, events):
+    """An input of `play`."""
+    return struct.pack("<I", len(blob)) + blob + words(events)
+
+
 if __name__ == "__main__":
-    out = struct.pack("<I", len(EXAMPLE)) + EXAMPLE
-    out += b"".join(struct.pack("<9i", *(e + [0] * (9 - len(e)))) for e in EVENTS)
-    sys.stdout.buffer.write(out)
+    sys.stdout.buffer.write(played(example(), EVENTS))

@@ -5,15 +5,15 @@
 // listing of `play`. Numbers are 32-bit little-endian. The lent result is filled with 777. An
 // incomplete last call ends it, a run after the events that came, and so does a kind or a length
 // that it doesn't take.
-use laris::Answer;
-use laris::Checked;
-use laris::Handed;
 use libc::STDIN_FILENO;
 use libc::STDOUT_FILENO;
+use machine::Answer;
+use machine::Handed;
+use sheet_rules::Checked;
 ghost use Prim.Native.Nat.{_+_, _≤_};
 ghost use mathlib.Core.Path.{_≡_};
 ghost use lib.ListN.{length};
-ghost use Rattle.laris.specs.Check.{checkNumber};
+ghost use Rattle.sheet_rules.specs.Check.{checkNumber};
 
 // The longest sheet, state and event that it takes.
 const SHEET: usize = 70000;
@@ -30,7 +30,7 @@ fn read_number() -> usize {
     if io::read_full(STDIN_FILENO, &mut bytes) < 4 {
         return NONE;
     }
-    words::number(&bytes, 0) as usize
+    engine_words::number(&bytes, 0) as usize
 }
 
 // Whether as many words came as there is room for.
@@ -42,7 +42,7 @@ fn read_words(out: &mut [i32]) -> bool
     if io::read_full(STDIN_FILENO, &mut bytes[..size]) < size {
         return false;
     }
-    words::words(&bytes, 0, out);
+    engine_words::words(&bytes, 0, out);
     true
 }
 
@@ -52,12 +52,12 @@ fn print_words(words: &[i32]) {
         return;
     }
     let mut out = [0u8; 32768];
-    let mut at = text::put_signed(&mut out, 0, words[0]);
+    let mut at = program_text::put_signed(&mut out, 0, words[0]);
     let mut i: usize = 1;
     while i < words.len() {
-        let room = text::with_room(STDOUT_FILENO, &out, at, 22);
-        let next = text::put(&mut out, room, b',');
-        at = text::put_signed(&mut out, next, words[i]);
+        let room = program_text::with_room(STDOUT_FILENO, &out, at, 22);
+        let next = program_text::put(&mut out, room, b',');
+        at = program_text::put_signed(&mut out, next, words[i]);
         i += 1;
     }
     io::write_all(STDOUT_FILENO, &out[..at]);
@@ -68,15 +68,15 @@ fn put_handed(out: &mut [u8], at: usize, h: Handed) -> usize
     ensures { λ r. ⌜ r ≤ at + 153 ⌝ }
 {
     match h {
-        Handed::Nothing => text::put(out, at, b'-'),
-        Handed::Outside(t) => listing::put_telegram(out, at, b',', t),
+        Handed::Nothing => program_text::put(out, at, b'-'),
+        Handed::Outside(t) => program_listing::put_telegram(out, at, b',', t),
     }
 }
 
 fn print_start(a: Answer, result: &[i32]) {
     let mut out = [0u8; 42];
-    let counts = listing::put_counts(&mut out, 0, a.number, a.steps);
-    let end = text::put(&mut out, counts, b' ');
+    let counts = program_listing::put_counts(&mut out, 0, a.number, a.steps);
+    let end = program_text::put(&mut out, counts, b' ');
     io::write_all(STDOUT_FILENO, &out[..end]);
     print_words(result);
     io::write_all(STDOUT_FILENO, b"\n");
@@ -84,11 +84,11 @@ fn print_start(a: Answer, result: &[i32]) {
 
 fn print_event(a: Answer, result: &[i32]) {
     let mut out = [0u8; 196];
-    let counts = listing::put_counts(&mut out, 0, a.number, a.steps);
-    let next = text::put(&mut out, counts, b' ');
+    let counts = program_listing::put_counts(&mut out, 0, a.number, a.steps);
+    let next = program_text::put(&mut out, counts, b' ');
     let h = a.handed;
     let handed = put_handed(&mut out, next, h);
-    let end = text::put(&mut out, handed, b' ');
+    let end = program_text::put(&mut out, handed, b' ');
     io::write_all(STDOUT_FILENO, &out[..end]);
     print_words(result);
     io::write_all(STDOUT_FILENO, b"\n");
@@ -168,7 +168,7 @@ fn replay_run(sheet: &[u8]) -> bool {
     if NONE <= count {
         return false;
     }
-    if runs::play(sheet, count as u64) == 0 {
+    if program_runs::play(STDIN_FILENO, sheet, count as u64) == 0 {
         return true;
     }
     skip_events(count)

@@ -2,7 +2,7 @@ use Prim.Native.Nat.{_*_}
 use native.Mathlib.Omega.{arith}
 use lib.ListN.{length}
 use borrow.Author.Needs.{needs}
-use Rattle.text.proofs.Parts.{fresh-front, fresh-written}
+use Rattle.program_text.proofs.Parts.{fresh-front, fresh-written}
 use Rattle.conformance.proofs.read_words.Statement.{statement}
 use Rattle.conformance.proofs.read_words.Tie as tie
 

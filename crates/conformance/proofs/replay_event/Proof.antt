@@ -1,7 +1,7 @@
 use native.Mathlib.Omega.{arith}
 use lib.IntN.{pos}
 use borrow.Author.Needs.{needs}
-use Rattle.text.proofs.Parts.{fresh-front, front-whole, front-fits, front-length}
+use Rattle.program_text.proofs.Parts.{fresh-front, front-whole, front-fits, front-length}
 use Rattle.conformance.proofs.replay_event.Statement.{statement}
 use Rattle.conformance.proofs.replay_event.Tie as tie
 

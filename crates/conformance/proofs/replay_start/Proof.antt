@@ -1,6 +1,6 @@
 use lib.IntN.{pos}
 use borrow.Author.Needs.{needs}
-use Rattle.text.proofs.Parts.{fresh-front, front-whole, front-fits, front-length}
+use Rattle.program_text.proofs.Parts.{fresh-front, front-whole, front-fits, front-length}
 use Rattle.conformance.proofs.replay_start.Statement.{statement}
 use Rattle.conformance.proofs.replay_start.Tie as tie
 

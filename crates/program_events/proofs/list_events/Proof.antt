@@ -1,0 +1,107 @@
+use Prim.Native.Nat.{_+_, _-_, _≤_}
+use mathlib.Core.Path.{_≡_, refl, sym, _∙_}
+use native.Mathlib.Omega.{arith}
+use lib.ListN.{length}
+use lib.Seq.{length-take-le}
+use borrow.Author.Needs.{needs}
+use Rattle.program_events.proofs.list_events.Statement.{statement}
+use Rattle.program_events.proofs.list_events.Tie as tie
+
+abbrev Inv-loop : tie.InvT-loop
+Inv-loop answers count done out₀ at₀ i₀ out at i = (length out ≡ length out₀) × (at + 222 ≤ 32768) × (i ≤ count)
+
+abbrev μ-loop : tie.MeasureT-loop
+μ-loop answers count done out₀ at₀ i₀ out at i = count - i
+
+loop-holds : tie.Need-loop-holds Inv-loop μ-loop
+loop-holds c = (refl, omega arith, omega arith)
+
+mul-k : tie.Need-mul-k Inv-loop μ-loop
+mul-k c = let l = c .loop-test .taken in let p = c .before .before .before .pre .0 in search needs
+
+add-handed-at : tie.Need-add-handed-at Inv-loop μ-loop
+add-handed-at c = let l = c .loop-test .taken in let p = c .before .before .before .pre .0 in search needs
+
+handed-at-requires : tie.Need-handed-at-requires Inv-loop μ-loop
+handed-at-requires c κs = let l = c .loop-test .taken in let p = c .before .before .before .pre .0 in omega arith
+
+add-put-event : tie.Need-add-put-event Inv-loop μ-loop
+add-put-event c = let l = c .before .before .loop-test .taken in let p = c .before .before .before .before .before .pre .1 in search needs
+
+add-put-event-2 : tie.Need-add-put-event-2 Inv-loop μ-loop
+add-put-event-2 c = let l = c .before .before .loop-test .taken in let p = c .before .before .before .before .before .pre .1 in search needs
+
+mul-put-event : tie.Need-mul-put-event Inv-loop μ-loop
+mul-put-event c = search needs
+
+shared-slice-copy-out-put-event : tie.Need-shared-slice-copy-out-put-event Inv-loop μ-loop
+shared-slice-copy-out-put-event c = let l = c .before .before .loop-test .taken in let p = c .before .before .before .before .before .pre .0 in omega arith
+
+add-put-event-3 : tie.Need-add-put-event-3 Inv-loop μ-loop
+add-put-event-3 c = let l = c .before .before .before .loop-test .taken in let p = c .before .before .before .before .before .before .pre .0 in search needs
+
+mul-put-event-2 : tie.Need-mul-put-event-2 Inv-loop μ-loop
+mul-put-event-2 c = search needs
+
+shared-slice-copy-out-put-event-2 : tie.Need-shared-slice-copy-out-put-event-2 Inv-loop μ-loop
+shared-slice-copy-out-put-event-2 c = let l = c .before .before .before .loop-test .taken in let p = c .before .before .before .before .before .before .pre .0 in omega arith
+
+put-event-requires : tie.Need-put-event-requires Inv-loop μ-loop
+put-event-requires c κs = let a = c .before .before .before .before .before .loop .inv .1 in let o = c .before .before .before .before .before .loop .inv .0 in let q = c .before .before .before .before .before .before .before .pre .2 in omega arith
+
+with-room-requires : tie.Need-with-room-requires Inv-loop μ-loop
+with-room-requires c κs = let a = c .before .before .before .before .before .before .before .before .before .loop .inv .1 in let o = c .before .before .before .before .before .before .before .before .before .loop .inv .0 in let q = c .before .before .before .before .before .before .before .before .before .before .before .pre .2 in let k = c .before .before .before .put-event .kept .0 in let l = c .before .before .before .put-event .ensures .1 in (omega arith, omega arith)
+
+add-i : tie.Need-add-i Inv-loop μ-loop
+add-i c = search needs
+
+loop-less : tie.Need-loop-less Inv-loop μ-loop
+loop-less c = let l = c .before .before .before .before .before .before .before .before .before .loop-test .taken in omega arith
+
+loop-again : tie.Need-loop-again Inv-loop μ-loop
+loop-again c =
+    let l = c .before .before .before .before .before .before .before .before .before .loop-test .taken in
+    (c .before .before .before .before .put-event .kept .0 ∙ c .before .before .before .before .before .before .before .before .before .before .loop .inv .0, (let r = c .with-room .ensures .1 in let k = c .before .before .before .before .put-event .kept .0 in let o = c .before .before .before .before .before .before .before .before .before .before .loop .inv .0 in let q = c .before .before .before .before .before .before .before .before .before .before .before .before .pre .2 in omega arith), omega arith)
+
+slice-reshare-prefix-write-all : tie.Need-slice-reshare-prefix-write-all Inv-loop μ-loop
+slice-reshare-prefix-write-all c = let a = c .before .loop .inv .1 in let o = c .before .loop .inv .0 in let q = c .before .before .before .pre .2 in omega arith
+
+slice-aggregate-write-all : tie.Need-slice-aggregate-write-all Inv-loop μ-loop
+slice-aggregate-write-all c = sym (length-take-le _ _ (slice-reshare-prefix-write-all (c .before)))
+
+write-all-requires : tie.Need-write-all-requires Inv-loop μ-loop
+write-all-requires c κs = search needs
+
+same-length : tie.Need-same-length Inv-loop μ-loop
+same-length c = search needs
+
+returns : tie.Need-returns Inv-loop μ-loop
+returns c = search needs
+
+pub list-events-spec : {M : Type 1} → statement M
+list-events-spec =
+    tie.close
+    (tie.spec
+    Inv-loop
+    μ-loop
+    loop-holds
+    mul-k
+    add-handed-at
+    handed-at-requires
+    add-put-event
+    add-put-event-2
+    mul-put-event
+    shared-slice-copy-out-put-event
+    add-put-event-3
+    mul-put-event-2
+    shared-slice-copy-out-put-event-2
+    put-event-requires
+    with-room-requires
+    add-i
+    loop-less
+    loop-again
+    slice-reshare-prefix-write-all
+    slice-aggregate-write-all
+    write-all-requires
+    same-length
+    returns)
