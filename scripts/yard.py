@@ -3,6 +3,7 @@
 
   yard.py > yard.in              the sheet's length as 32-bit number, the sheet, the events
   yard.py --sheet > yard.sheet   the sheet's bytes only
+  yard.py --call > yard.call     the run as a call of the program conformance: kind 3, the sheet, the number of events
 
 docs/YARD.md tells what the yard has and what happens in the run. The first half of this file turns names and nested
 tuples into records; the yard and its run are the second half.
@@ -17,8 +18,10 @@ OPERANDS_ONLY = {"not": 8, "and": 9, "=": 10, "<": 11, "+": 12, "-": 13, "*": 14
                  "if": 41, "while": 42}
 CLOCK_ONLY = {"active": 17, "value": 18, "start": 38, "stop": 39}
 ARMING = {"after": 36, "every": 37}  # a Timeout, a Cycler
+ELEMENT = {"at": 19, "put": 44}  # of an array: read, assign
 
 Body = namedtuple("Body", "role do port name parameters locals", defaults=[None, None, (), {}])
+array = namedtuple("array", "element over")  # type of a variable: over a type, or over a number of places
 
 
 def initial(do):
@@ -61,8 +64,16 @@ class Sheet:
     def declared(self, types):
         """New declarations of these types, as first and count."""
         first = len(self.sections[2])
-        self.sections[2] += [[self.types[t]] for t in types]
+        self.sections[2] += [self.declaration(t) for t in types]
         return [first, len(self.sections[2]) - first]
+
+    def declaration(self, t):
+        if not isinstance(t, array):
+            return [self.types[t]]
+        if isinstance(t.over, int):
+            return [self.types[t.element], 60000 + t.over]
+        # 0 stands for a plain variable, so that Bool has 1 as an index
+        return [self.types[t.element], self.types[t.over] or 1]
 
     def telegram(self, name, *types, internal=False):
         self.names.append(name)
@@ -118,6 +129,8 @@ class Sheet:
             return [OPERANDS_ONLY[word], *nodes(rest)]
         if word in CLOCK_ONLY:
             return [CLOCK_ONLY[word], scope[rest[0]][1]]
+        if word in ELEMENT:  # array, index, and for put the value
+            return [ELEMENT[word], scope[rest[0]][1], *nodes(rest[1:])]
         if word == "set":  # variable, expression
             return [33, *scope[rest[0]], *nodes(rest[1:])]
         if word == "send":  # component, port, name, data
@@ -163,8 +176,8 @@ class Sheet:
 
 
 def mill_lane():
-    """Two signals lead over one point into one section, in which Mill Lane crosses the line."""
-    y = Sheet(external=["Log", "Inf"], elements=["S1", "S2", "T1", "P1", "X1"], ports=["log", "inf", "track"])
+    """Two signals lead over one point into one section, in which Mill Lane crosses the line and a gang is at work."""
+    y = Sheet(external=["Log", "Inf"], elements=["S1", "S2", "T1", "P1", "X1", "W1"], ports=["log", "inf", "track"])
 
     y.enumerated("Aspect", ["stop", "caution", "clear"], default="stop")
     y.enumerated("Position", ["straight", "branch", "unknown"], default="unknown")
@@ -190,8 +203,14 @@ def mill_lane():
     y.telegram("Free", internal=True)             # section: the release delay is over
     y.telegram("Blink", internal=True)            # crossing: time for a flash
     y.telegram("Lower", internal=True)            # crossing: the road was warned long enough
+    y.telegram("Report", "Component", "Bool")     # signal or section to warning device: who, danger or none
+    y.telegram("Warn", "Bool")                    # to Inf: horn and lamps at the work site, on or off
+    y.telegram("Ask", "Int")                      # Log to warning device: who stands at this place of the ring
+    y.telegram("Told", "Component")               # warning device to Log
+    y.telegram("Quiet")                           # Log to warning device: it was looked after
 
-    y.chart("signal", {"section": "Component", "lie": "Position", "best": "Aspect"}, {"aspect": "Aspect"}, [
+    y.chart("signal", {"section": "Component", "lie": "Position", "best": "Aspect", "device": "Component"},
+            {"aspect": "Aspect"}, [
         initial("skip"),
         panic(("call", "show", "stop")),
         on("log", "Route", [], ("send", "section", "track", "Claim", "self", "lie")),
@@ -199,13 +218,14 @@ def mill_lane():
         on("track", "Passed", [], ("call", "show", "stop")),
         procedure("show", {"shown": "Aspect"}, {}, [
             ("set", "aspect", "shown"),
-            ("send", "Inf", "inf", "Show", "shown")]),
+            ("send", "Inf", "inf", "Show", "shown"),
+            ("send", "device", "track", "Report", "self", ("not", ("=", "shown", "stop")))]),
     ])
 
-    y.chart("section", {"point": "Component", "crossing": "Component", "delay": "Int"},
+    y.chart("section", {"point": "Component", "crossing": "Component", "delay": "Int", "device": "Component"},
             {"use": "Use", "signal": "Component", "release": "Timeout"}, [
         initial("skip"),
-        panic([("set", "use", "occupied"), ("stop", "release")]),
+        panic(("call", "occupy")),
         on("track", "Claim", ["asker", "lie"],
             ("if", ("=", "use", "free"), [
                 ("set", "use", "reserved"),
@@ -216,13 +236,17 @@ def mill_lane():
             ("if", ("=", "use", "reserved"), ("send", "signal", "track", "Proceed"), "skip")),
         on("inf", "Train", ["here"],
             ("if", "here", [
-                ("set", "use", "occupied"),
-                ("stop", "release"),
+                ("call", "occupy"),
                 ("send", "signal", "track", "Passed")],
              ("if", ("=", "use", "occupied"), ("after", "release", "delay", "Free"), "skip"))),
         on_inner("Free", [], [
             ("set", "use", "free"),
-            ("send", "crossing", "track", "Open")]),
+            ("send", "crossing", "track", "Open"),
+            ("send", "device", "track", "Report", "self", False)]),
+        procedure("occupy", {}, {}, [
+            ("set", "use", "occupied"),
+            ("stop", "release"),
+            ("send", "device", "track", "Report", "self", True)]),
     ])
 
     y.chart("point", {"crossing": "Component"}, {"lies": "Position", "wanted": "Position"}, [
@@ -260,11 +284,33 @@ def mill_lane():
                 ("send", "Inf", "inf", "Barrier", "n", "down")])),
     ])
 
-    y.bind("S1", "signal", "T1", "straight", "clear")
-    y.bind("S2", "signal", "T1", "branch", "caution")
-    y.bind("T1", "section", "P1", "X1", 2)
+    y.chart("warning", {},
+            {"danger": array("Bool", "Component"), "count": "Int", "ring": array("Component", 3), "next": "Int"}, [
+        initial("skip"),
+        panic(("call", "note", "self", True)),
+        on("track", "Report", ["who", "there"], ("call", "note", "who", "there")),
+        on("log", "Ask", ["place"], ("send", "Log", "log", "Told", ("at", "ring", "place"))),
+        on("log", "Quiet", [], ("call", "note", "self", False)),
+        # no expression goes through the components, so the dangers are counted as they come and go
+        procedure("note", {"who": "Component", "there": "Bool"}, {},
+            ("if", ("=", ("at", "danger", "who"), "there"), "skip", [
+                ("put", "danger", "who", "there"),
+                ("if", "there", [
+                    ("if", ("=", "count", 0), ("send", "Inf", "inf", "Warn", True), "skip"),
+                    ("set", "count", ("+", "count", 1)),
+                    ("put", "ring", "next", "who"),
+                    ("set", "next", ("mod", ("+", "next", 1), 3))],
+                 [
+                    ("set", "count", ("-", "count", 1)),
+                    ("if", ("=", "count", 0), ("send", "Inf", "inf", "Warn", False), "skip")])])),
+    ])
+
+    y.bind("S1", "signal", "T1", "straight", "clear", "W1")
+    y.bind("S2", "signal", "T1", "branch", "caution", "W1")
+    y.bind("T1", "section", "P1", "X1", 2, "W1")
     y.bind("P1", "point", "X1")
     y.bind("X1", "crossing", "T1", 2, 1)
+    y.bind("W1", "warning")
     return y
 
 
@@ -293,6 +339,9 @@ def run(y):
         y.deliver("X1", "T1"),
         y.deliver("T1", "S2"),
         y.deliver("S2", "Inf"),
+        # the gang is warned
+        y.deliver("S2", "W1"),
+        y.deliver("W1", "Inf"),
         # a second route is refused while the first stands
         y.outside("Log", "S1", "log", "Route"),
         y.deliver("Log", "S1"),
@@ -301,8 +350,10 @@ def run(y):
         # the train enters; the telegram to the signal is disturbed
         y.outside("Inf", "T1", "inf", "Train", True),
         y.deliver("Inf", "T1"),
+        y.deliver("T1", "W1"),
         y.corrupt("T1", "S2"),
         y.deliver("S2", "Inf"),
+        y.deliver("S2", "W1"),
         # the train leaves, after a report that is no report
         y.outside("Inf", "T1", "inf", "Train", 2),
         y.outside("Inf", "T1", "inf", "Train", False),
@@ -319,16 +370,35 @@ def run(y):
         y.deliver("X1", "Inf"),
         y.deliver("X1", "Inf"),
         y.deliver("X1", "Log"),
+        # the gang may go back to work
+        y.deliver("T1", "W1"),
+        y.deliver("W1", "Inf"),
+        # the dispatcher asks who reported, also at a place that the ring doesn't have
+        y.outside("Log", "W1", "log", "Ask", 1),
+        y.deliver("Log", "W1"),
+        y.deliver("W1", "Log"),
+        y.outside("Log", "W1", "log", "Ask", 3),
+        y.deliver("Log", "W1"),
+        # the question goes once more, disturbed: the device warns until it is looked after
+        y.corrupt("Log", "W1"),
+        y.deliver("W1", "Inf"),
+        y.outside("Log", "W1", "log", "Quiet"),
+        y.deliver("Log", "W1"),
+        y.deliver("W1", "Inf"),
     ]
 
 
 def main():
     y = mill_lane()
-    sheet = y.bytes()
+    sheet, events = y.bytes(), run(y)
+    with_length = struct.pack("<I", len(sheet)) + sheet
     if sys.argv[1:] == ["--sheet"]:
         sys.stdout.buffer.write(sheet)
+    elif sys.argv[1:] == ["--call"]:
+        sys.stdout.buffer.write(struct.pack("<I", 3) + with_length + struct.pack("<I", len(events)) + b"".join(events))
     else:
-        sys.stdout.buffer.write(struct.pack("<I", len(sheet)) + sheet + b"".join(run(y)))
+        sys.stdout.buffer.write(with_length + b"".join(events))
 
 
-main()
+if __name__ == "__main__":
+    main()

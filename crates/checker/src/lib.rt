@@ -23,7 +23,7 @@ fn shape_holds(sheet: &[u8], directory: &[usize; 16]) -> bool
     if externals + sheet_reader::count_in(directory, 7) != components {
         return false;
     }
-    if 512 < sheet_elements::variables(sheet, directory) {
+    if 512 < sheet_elements::cells(sheet, directory) {
         return false;
     }
     if !checker_uses::used_once(sheet, directory) {

@@ -19,10 +19,10 @@ fn body_static(
     requires { ⌜ Table (now sheet) c (now table) ⌝ }
     ensures { λ x. ⌜ x ≡ bodyStatic (now (sheet .entry)) c b ⌝ }
 {
-    if !checker_roles::no_clocks(sheet, directory, checker_roles::parameters(b)) {
+    if !checker_roles::plain_data(sheet, directory, checker_roles::parameters(b)) {
         return false;
     }
-    if !checker_roles::no_clocks(sheet, directory, checker_roles::locals(b)) {
+    if !checker_roles::plain_data(sheet, directory, checker_roles::locals(b)) {
         return false;
     }
     if !checker_roles::role_static(sheet, directory, b) {
@@ -80,7 +80,7 @@ pub fn chart_static(
         first: c.f0 as usize,
         count: c.f1 as usize,
     };
-    if !checker_roles::no_clocks(sheet, directory, g) {
+    if !checker_roles::plain_data(sheet, directory, g) {
         return false;
     }
     if checker_roles::bodies_with(sheet, directory, c, 0) != 1 {

@@ -60,7 +60,10 @@ pub fn declaration_fits(sheet: &[u8], directory: &[usize; 16], r: Record) -> boo
     if !type_exists(sheet, directory, r.f0 as usize) {
         return false;
     }
-    sheet_fields::zero_from(r, 1)
+    if !sheet_indices::index_exists(sheet, directory, r.f1) {
+        return false;
+    }
+    sheet_fields::zero_from(r, 2)
 }
 
 pub fn name_fits(sheet: &[u8], directory: &[usize; 16], r: Record) -> bool

@@ -32,21 +32,22 @@ pub fn variable_fits(c: Record, b: Record, r: Record, from: usize) -> bool
     sheet_fields::zero_from(r, from)
 }
 
-// Whether the clock that a node names is one of the chart's variables.
-fn clock_there(c: Record, r: Record) -> bool
+// Whether the clock or the array that a node names is one of the chart's variables.
+fn chart_variable_there(c: Record, r: Record) -> bool
     ensures { λ x. ⌜ x ≡ ltb (r .f1) (chartVariables c .count) ⌝ }
 {
     r.f1 < c.f3
 }
 
-// A clock that is read, started or stopped.
-pub fn clock_fits(c: Record, r: Record) -> bool
-    ensures { λ x. ⌜ x ≡ ltb (r .f1) (chartVariables c .count) and zeroFrom 2 r ⌝ }
+// A clock that is read, started or stopped, or an array of which an element is read or assigned, where the
+// fields from `from` on are not named.
+pub fn chart_variable_fits(c: Record, r: Record, from: usize) -> bool
+    ensures { λ x. ⌜ x ≡ ltb (r .f1) (chartVariables c .count) and zeroFrom from r ⌝ }
 {
-    if !clock_there(c, r) {
+    if !chart_variable_there(c, r) {
         return false;
     }
-    sheet_fields::zero_from(r, 2)
+    sheet_fields::zero_from(r, from)
 }
 
 // A data field more than the name has is 0.
@@ -78,7 +79,7 @@ pub fn arm_fits(sheet: &[u8], directory: &[usize; 16], c: Record, r: Record) -> 
     requires { ⌜ now directory ≡ directoryOf (now sheet) ⌝ }
     ensures { λ x. ⌜ x ≡ ltb (r .f1) (chartVariables c .count) and sendShape (now (sheet .entry)) r ⌝ }
 {
-    if !clock_there(c, r) {
+    if !chart_variable_there(c, r) {
         return false;
     }
     send_fits(sheet, directory, r)

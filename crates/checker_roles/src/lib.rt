@@ -1,4 +1,4 @@
-// Declaration ranges without clocks, and what a body's role asks of it.
+// Declaration ranges without clocks and arrays, and what a body's role asks of it.
 use sheet::Found;
 use sheet::Range;
 use sheet::Record;
@@ -7,18 +7,21 @@ ghost use Prim.Native.Nat.{_<_, _≤_};
 ghost use Rattle.sheet.specs.Names.{bodyParameters, bodyLocals};
 ghost use Rattle.sheet.specs.Sheet.{directoryOf};
 ghost use Rattle.sheet_rules.specs.Fields.{oneIf};
-ghost use Rattle.sheet_rules.specs.Static.{noClocks, sameTypes, reactionStatic, roleStatic, bodiesWith, hasRole};
+ghost use Rattle.sheet_rules.specs.Static.{plainData, sameTypes, reactionStatic, roleStatic, bodiesWith, hasRole};
 
-// Whether a range of declarations has no clock.
-pub fn no_clocks(sheet: &[u8], directory: &[usize; 16], g: Range) -> bool
+// "clocks .. stand in no declaration range but chart variables", nor does an array.
+pub fn plain_data(sheet: &[u8], directory: &[usize; 16], g: Range) -> bool
     requires { ⌜ (now directory ≡ directoryOf (now sheet)) × (g .first < 65536) × (g .count < 65536) ⌝ }
-    ensures { λ b. ⌜ b ≡ noClocks (now (sheet .entry)) g ⌝ }
+    ensures { λ b. ⌜ b ≡ plainData (now (sheet .entry)) g ⌝ }
 {
     let first = g.first;
     let count = g.count;
     let mut j: usize = 0;
     while j < count {
         if sheet_types::is_clock(sheet_types::type_at(sheet, directory, first + j)) {
+            return false;
+        }
+        if !sheet_indices::is_plain(sheet, directory, first + j) {
             return false;
         }
         j += 1;

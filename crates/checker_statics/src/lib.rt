@@ -3,9 +3,21 @@ use sheet::Found;
 use sheet::Range;
 use sheet::Record;
 ghost use mathlib.Core.Path.{_≡_};
+ghost use mathlib.Core.List.{List};
+ghost use Prim.Native.Nat.{ℕ};
 ghost use Rattle.sheet.specs.Sheet.{directoryOf};
-ghost use Rattle.sheet_rules.specs.Static.{nameStatic, recordStatic, sectionStatic, static};
+ghost use Rattle.sheet_rules.specs.Static.{declarationStatic, nameStatic, recordStatic, sectionStatic, static};
 ghost use Rattle.checker_reactions.specs.Entries.{Ready};
+
+// "An array .. of clocks, gets 2", wherever it stands.
+fn declaration_static(r: Record) -> bool
+    ensures { λ x. ⌜ ((s : List ℕ) → x ≡ declarationStatic s r) ⌝ }
+{
+    if !sheet_types::is_clock(r.f0 as usize) {
+        return true;
+    }
+    r.f1 == 0
+}
 
 fn name_static(sheet: &[u8], directory: &[usize; 16], r: Record) -> bool
     requires { ⌜ now directory ≡ directoryOf (now sheet) ⌝ }
@@ -15,7 +27,7 @@ fn name_static(sheet: &[u8], directory: &[usize; 16], r: Record) -> bool
         first: r.f0 as usize,
         count: r.f1 as usize,
     };
-    checker_roles::no_clocks(sheet, directory, g)
+    checker_roles::plain_data(sheet, directory, g)
 }
 
 fn record_static(
@@ -32,6 +44,7 @@ fn record_static(
     ensures { λ x. ⌜ (x ≡ recordStatic (now (sheet .entry)) k r) × Ready (now (sheet .entry)) (now (table .exit)) (now (last .exit)) (now (previous .exit)) ⌝ }
 {
     match k {
+        2 => declaration_static(r),
         3 => name_static(sheet, directory, r),
         4 => checker_chart_rules::chart_static(sheet, directory, table, last, previous, r),
         7 => checker_constants::binding_static(sheet, directory, r),

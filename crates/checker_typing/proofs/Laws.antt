@@ -16,7 +16,7 @@ use Rattle.sheet_rules.specs.Fields.{fieldOf, typeAt}
 use Rattle.sheet.specs.Table.{lookUp}
 use Rattle.sheet_rules.specs.Forms.{Form, literal, binary, clock, arm, clockAct, unknown, formOf, calledBody}
 use Rattle.sheet_rules.proofs.Forms.{form-literal, form-binary, form-clock, form-arm, form-clockAct, form-unknown}
-use Rattle.sheet_rules.specs.Types.{isOf, literalType, binaryType, nameRange, parametersOf, dataMatch, lowerType, readType, notType, clockType, assignType, externalType, internalType, armType, clockActType, callType, choiceType, loopType, sequenceType, typeIn, typeStep, typeOf}
+use Rattle.sheet_rules.specs.Types.{isOf, literalType, binaryType, nameRange, parametersOf, dataMatch, lowerType, readType, notType, clockType, assignType, readElementType, assignElementType, externalType, internalType, armType, clockActType, callType, choiceType, loopType, sequenceType, typeIn, typeStep, typeOf}
 use Rattle.sheet_rules.proofs.Types.{type-step}
 
 -- ---- data
@@ -76,6 +76,10 @@ module _ (s : List ℕ) (c b : Record) (n : ℕ) where
     unfolding typeIn
     typed-clock t h k q = q ∙ typed-at clock (form-clock (r .f0) h (omega arith))
 
+    pub typed-element : (t x : Typed) → r .f0 ≡ 19 → x ≡ lower (r .f2) → t ≡ readElementType s c r x → t ≡ typeOf s c b n
+    unfolding typeIn formOf lookUp
+    typed-element t x e p₁ q = q ∙ rw p₁ (typed 19 e)
+
     pub typed-skip : r .f0 ≡ 32 → Statement ≡ typeOf s c b n
     unfolding typeIn formOf lookUp
     typed-skip e = typed 32 e
@@ -116,16 +120,20 @@ module _ (s : List ℕ) (c b : Record) (n : ℕ) where
     unfolding typeIn formOf lookUp
     typed-sequence t x y e p₁ p₂ q = q ∙ rw (p₁, p₂) (typed 43 e)
 
-    -- the numbers that are no operator: 0, 19 to 31, 44 and more
-    typed-unknown : (1 ≤ r .f0 → r .f0 ≤ 18 → ⊥) → (32 ≤ r .f0 → r .f0 ≤ 43 → ⊥) → Wrong ≡ typeOf s c b n
+    pub typed-assigned : (t x y : Typed) → r .f0 ≡ 44 → x ≡ lower (r .f2) → y ≡ lower (r .f3) → t ≡ assignElementType s c r x y → t ≡ typeOf s c b n
+    unfolding typeIn formOf lookUp
+    typed-assigned t x y e p₁ p₂ q = q ∙ rw (p₁, p₂) (typed 44 e)
+
+    -- the numbers that are no operator: 0, 20 to 31, 45 and more
+    typed-unknown : (1 ≤ r .f0 → r .f0 ≤ 19 → ⊥) → (32 ≤ r .f0 → r .f0 ≤ 44 → ⊥) → Wrong ≡ typeOf s c b n
     unfolding typeIn
     typed-unknown u v = typed-at unknown (form-unknown (r .f0) u v)
 
     pub typed-zero : r .f0 < 1 → Wrong ≡ typeOf s c b n
     typed-zero h = typed-unknown (λ u v. omega arith) (λ u v. omega arith)
 
-    pub typed-gap : 19 ≤ r .f0 → r .f0 < 32 → Wrong ≡ typeOf s c b n
-    typed-gap h k = typed-unknown (λ u v. omega arith) (λ u v. omega arith)
+    pub typed-gap : 19 ≤ r .f0 → (r .f0 ≡ 19 → ⊥) → r .f0 < 32 → Wrong ≡ typeOf s c b n
+    typed-gap h d k = typed-unknown (λ u v. omega arith) (λ u v. omega arith)
 
-    pub typed-past : 40 ≤ r .f0 → (r .f0 ≡ 40 → ⊥) → (r .f0 ≡ 41 → ⊥) → (r .f0 ≡ 42 → ⊥) → (r .f0 ≡ 43 → ⊥) → Wrong ≡ typeOf s c b n
-    typed-past h n₁ n₂ n₃ n₄ = typed-unknown (λ u v. omega arith) (λ u v. omega arith)
+    pub typed-past : 40 ≤ r .f0 → (r .f0 ≡ 40 → ⊥) → (r .f0 ≡ 41 → ⊥) → (r .f0 ≡ 42 → ⊥) → (r .f0 ≡ 43 → ⊥) → (r .f0 ≡ 44 → ⊥) → Wrong ≡ typeOf s c b n
+    typed-past h n₁ n₂ n₃ n₄ n₅ = typed-unknown (λ u v. omega arith) (λ u v. omega arith)

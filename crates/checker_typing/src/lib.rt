@@ -87,6 +87,10 @@ pub fn type_of(
             checker_forms::binary_type(op, x, y)
         }
         17..=18 => checker_forms::clock_type(sheet, directory, c, r),
+        19 => {
+            let x = operand_type(sheet, directory, table, c, b, n, r.f2);
+            checker_forms::read_element_type(sheet, directory, c, r, x)
+        }
         32 => Typed::Statement,
         33 => {
             let x = operand_type(sheet, directory, table, c, b, n, r.f3);
@@ -131,6 +135,11 @@ pub fn type_of(
             let x = operand_type(sheet, directory, table, c, b, n, r.f1);
             let y = operand_type(sheet, directory, table, c, b, n, r.f2);
             checker_forms::sequence_type(x, y)
+        }
+        44 => {
+            let x = operand_type(sheet, directory, table, c, b, n, r.f2);
+            let y = operand_type(sheet, directory, table, c, b, n, r.f3);
+            checker_forms::assign_element_type(sheet, directory, c, r, x, y)
         }
         _ => Typed::Wrong,
     }

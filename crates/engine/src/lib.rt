@@ -10,17 +10,19 @@ ghost use Rattle.machine.specs.State.{stateLength};
 ghost use Rattle.sheet_rules.specs.Check.{checkOf};
 ghost use Rattle.machine.specs.Lists.{StartGives, EventGives};
 ghost use Rattle.machine_events.specs.Playing.{Playing};
+ghost use Rattle.engine_cells.specs.Cells.{CellTable};
 
 // The next event of a list: the sheet is passed, the state is of it and becomes the state that goes
 // on; `spare` is a second state's room, used where there may be work to undo.
 pub fn next(
     sheet: &[u8],
     directory: &[usize; 16],
+    cells: &[usize; 2112],
     st: &mut [i32],
     spare: &mut [i32],
     ev: &[i32],
 ) -> Answer
-    requires { ⌜ Playing (now sheet) (now directory) (now st) × (length (now spare) ≡ length (now st)) ⌝ }
+    requires { ⌜ Playing (now sheet) (now directory) (now st) × (length (now spare) ≡ length (now st)) × CellTable (now sheet) (now cells) ⌝ }
     ensures { λ a. ⌜ EventGives (now (sheet .entry)) (now (st .entry)) (now (st .entry)) (now (ev .entry)) a (now (st .exit)) ⌝ }
 {
     if !engine_valid_events::is_event(sheet, directory, ev) {
@@ -30,7 +32,7 @@ pub fn next(
     if engine_kinds::may_undo(sheet, directory, st, ev, j) {
         engine_store::copy(st, spare);
     }
-    engine_kinds::happened(sheet, directory, spare, st, ev, j)
+    engine_kinds::happened(sheet, directory, cells, spare, st, ev, j)
 }
 
 // An event on any sheet, state and words.
@@ -57,7 +59,9 @@ fn on_passed(
     requires { ⌜ (now directory ≡ directoryOf (now sheet)) × (checkOf (now sheet) ≡ Passed) ⌝ }
     ensures { λ a. ⌜ EventGives (now (sheet .entry)) (now (old .entry)) (now (result .entry)) (now (ev .entry)) a (now (result .exit)) ⌝ }
 {
-    let length = engine_valid_state::state_length(sheet, directory);
+    let mut cells = [0usize; 2112];
+    let count = engine_cells::fill(sheet, directory, &mut cells);
+    let length = engine_valid_state::state_length(count);
     if old.len() != length {
         return answered(3, 0);
     }
@@ -70,17 +74,17 @@ fn on_passed(
     if engine_valid_events::is_event(sheet, directory, ev) {
         engine_store::copy(old, result);
         let j = engine_kinds::sought(result, ev);
-        return engine_kinds::happened(sheet, directory, old, result, ev, j);
+        return engine_kinds::happened(sheet, directory, &cells, old, result, ev, j);
     }
     answered(4, 0)
 }
 
 // Start on a passed sheet.
-pub fn begin(sheet: &[u8], directory: &[usize; 16], st: &mut [i32]) -> Answer
-    requires { ⌜ (now directory ≡ directoryOf (now sheet)) × (checkOf (now sheet) ≡ Passed) × (length (now st) ≡ stateLength (now sheet)) ⌝ }
+pub fn begin(sheet: &[u8], directory: &[usize; 16], cells: &[usize; 2112], st: &mut [i32]) -> Answer
+    requires { ⌜ (now directory ≡ directoryOf (now sheet)) × (checkOf (now sheet) ≡ Passed) × (length (now st) ≡ stateLength (now sheet)) × CellTable (now sheet) (now cells) ⌝ }
     ensures { λ a. ⌜ StartGives (now (sheet .entry)) (now (st .entry)) a (now (st .exit)) ⌝ }
 {
-    engine_starts::from_defaults(sheet, directory, st)
+    engine_starts::from_defaults(sheet, directory, cells, st)
 }
 
 // Start on any sheet and state.
@@ -101,8 +105,10 @@ fn start_passed(sheet: &[u8], directory: &[usize; 16], result: &mut [i32]) -> An
     requires { ⌜ (now directory ≡ directoryOf (now sheet)) × (checkOf (now sheet) ≡ Passed) ⌝ }
     ensures { λ a. ⌜ StartGives (now (sheet .entry)) (now (result .entry)) a (now (result .exit)) ⌝ }
 {
-    if result.len() != engine_valid_state::state_length(sheet, directory) {
+    let mut cells = [0usize; 2112];
+    let count = engine_cells::fill(sheet, directory, &mut cells);
+    if result.len() != engine_valid_state::state_length(count) {
         return answered(3, 0);
     }
-    begin(sheet, directory, result)
+    begin(sheet, directory, &cells, result)
 }

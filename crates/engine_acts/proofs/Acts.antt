@@ -1,47 +1,44 @@
 -- What the acts of a statement come to.
 use Prim.Native.Nat.{ℕ, zero, suc, _+_, _*_, _-_, _<_, _≤_}
-use mathlib.Core.Path.{_≡_, refl, sym, subst}
+use mathlib.Core.Path.{_≡_, refl, sym, ap, subst, _∙_}
 use mathlib.Core.List.{List, _∷_}
 use mathlib.Core.Bool.{Bool, true, false, not}
 use native.Mathlib.Omega.{arith}
 use native.Mathlib.Decide.{ℕ-discrete}
 use lib.ListN.{length, set, replicate}
 use lib.Dec.{eqb}
-use lib.IntN.{ℤ, pos, negsuc}
+use lib.IntN.{ℤ, pos, negsuc, natAbs}
 use lib.Signed.{leZ, ltZ}
 use mir.Syntax.{w32}
 use mir.Val.{SFits, ofZ, toZ}
-use borrow.Author.Tests.{le-ltb, eq-eqb, ne-eqb, le-leb}
+use borrow.Author.Tests.{le-ltb, eq-eqb, ne-eqb, le-leb, not-true, not-false}
 use Rattle.sheet.specs.declared.Record.{Record}
 use Rattle.sheet.specs.Names.{bodyParameters, bodyLocals, chartVariables}
-use Rattle.machine_passed.proofs.Charts.{element-chart}
-use Rattle.machine_states.proofs.Kept.{cell-in-state}
 use Rattle.machine.specs.declared.Ran.the-variants.{Done, Refused, Stuck}
-use Rattle.sheet_rules.specs.declared.Checked.the-variants.{Passed}
-use Rattle.sheet_rules.specs.Forms.{assign, clockAct, arm}
+use Rattle.sheet_rules.specs.Forms.{assign, clockAct, arm, assignElement}
 use Rattle.sheet_rules.specs.Shape.{variablesAt}
-use Rattle.sheet_rules.specs.Types.{clockOf}
-use Rattle.machine.specs.Values.{firstCell}
-use Rattle.machine.specs.State.{cellAt, placeAt, stateLength, putWords}
-use Rattle.machine.specs.Valid.{OfSheet}
-use Rattle.sheet_rules.specs.Check.{checkOf}
+use Rattle.sheet_rules.specs.Indices.{indexAt, isPlain}
+use Rattle.sheet_rules.specs.Types.{variableAt, clockOf}
+use Rattle.machine.specs.Values.{isBelow}
+use Rattle.machine.specs.State.{cellAt, putWords}
 use Rattle.machine.specs.Eval.{Context, boolWord, variableAtCell}
 use Rattle.machine.specs.Run.{world, armed, clockSet, assigned, runOf}
-use Rattle.machine_passed.proofs.Records.{variables-limit}
+use Rattle.machine_passed.proofs.Indices.{clock-plain}
 use Rattle.machine_sound.proofs.Locals.{few}
 use Rattle.engine_ints.proofs.Range.{back}
-use Rattle.engine_ready.specs.Ready.{firstCellIn, contextAt, Running, Ready}
-use Rattle.engine_ready.specs.Words.{fourWords}
-use Rattle.engine_ready.proofs.Statements.{assign-inside, act-inside, arm-inside, started-word, stopped-word}
+use Rattle.engine_ready.specs.Ready.{cellIn, contextAt, Lies, Reaches}
+use Rattle.engine_ready.specs.Words.{elementPut, fourWords}
+use Rattle.engine_ready.proofs.Cells.{plain-is, lies, reaches, reached-inside}
+use Rattle.engine_ready.proofs.Statements.{assign-inside, assign-plain, act-inside, act-clock, arm-inside, arm-clock, started-word, stopped-word, element-below}
 use Rattle.engine_sending.specs.Visit.{Visit}
 use Rattle.engine_acts.specs.Armed.{armedValue}
 
 -- ---- a value to a variable
 
 module _ (s : List ℕ) (x : Context) (place n : ℕ) (z : ℤ) (l : ℕ) (st lo : List ℤ) where
-  pub to-chart : place ≡ 1 → (c : ℕ) → c ≡ firstCell s (x .element) → world (Done l) (set st (8 + 8 * (c + n)) z) lo ≡ assigned s x place n z l st lo
-  unfolding assigned variableAtCell cellAt
-  to-chart e c q = rw (e, q) refl
+  pub to-chart : place ≡ 1 → (c k : ℕ) → k ≡ c → (place ≡ 1 → variableAtCell s x n 0 ≡ c) → world (Done l) (set st k z) lo ≡ assigned s x place n z l st lo
+  unfolding assigned
+  to-chart e c k q h = ap (λ k. world (Done l) (set st k z) lo) (q ∙ sym (h e)) ∙ rw e refl
 
   pub to-body : place ≡ 2 → world (Done l) st (set lo n z) ≡ assigned s x place n z l st lo
   unfolding assigned
@@ -53,28 +50,22 @@ module _ (s : List ℕ) (x : Context) (place n : ℕ) (z : ℤ) (l : ℕ) (st lo
 
 -- ---- where things are
 
-module _ (s w : List ℕ) (run : Running s w) where
-  -- the words of the element's variable j
-  module _ (st lo : List ℤ) (ready : Ready s w st lo) (j : ℕ) (h : j < chartVariables (contextAt s w .chart) .count) where
-    pub cell-inside : 8 + 8 * (firstCellIn w + j) + 8 ≤ length st
-    unfolding cellAt contextAt
-    cell-inside =
-        let x = contextAt s w in
-        rw (run .cell) (cell-in-state s st (ready .state) (x .element) (x .chart) (element-chart s (x .element) (x .binding) (x .chart) (run .placed .element)) j h)
-
--- "Elements have at most 512 variables together"
-pub state-short : (s : List ℕ) (st : List ℤ) → checkOf s ≡ Passed → OfSheet s st → length st ≤ 5128
-unfolding stateLength placeAt
-state-short s st ok o = omega (arith, variables-limit s ok, o .whole)
-
 module _ (s w : List ℕ) (st lo : List ℤ) (n : ℕ) (r : Record) where
   module _ (v : Visit s w st lo n r assign) where
     inside : r .f2 < variablesAt (contextAt s w .chart) (contextAt s w .body) (r .f1)
     inside = assign-inside s w st lo (v .ready) n r (v .there) (v .statement) (v .form)
 
-    pub assign-cell : r .f1 ≡ 1 → 8 + 8 * (firstCellIn w + r .f2) < length st
+    assign-below : r .f1 ≡ 1 → r .f2 < chartVariables (contextAt s w .chart) .count
     unfolding variablesAt
-    assign-cell e = let h = cell-inside s w (v .ready .running) st lo (v .ready) (r .f2) (subst (λ p. r .f2 < variablesAt (contextAt s w .chart) (contextAt s w .body) p) e inside) in omega arith
+    assign-below e = subst (λ p. r .f2 < variablesAt (contextAt s w .chart) (contextAt s w .body) p) e inside
+
+    pub assign-lies : r .f1 ≡ 1 → Lies w st (r .f2)
+    unfolding variableAt
+    assign-lies e = lies s w st lo (v .ready) (r .f2) (assign-below e) (subst (λ p. isPlain (indexAt s (variableAt (contextAt s w .chart) (contextAt s w .body) p (r .f2))) ≡ true) e (assign-plain s w st lo (v .ready) n r (v .there) (v .statement) (v .form)))
+
+    pub assign-at : r .f1 ≡ 1 → variableAtCell s (contextAt s w) (r .f2) 0 ≡ cellAt (cellIn w (r .f2))
+    unfolding variableAtCell
+    assign-at e = plain-is s w (v .ready .running) (r .f2) (assign-below e)
 
     pub assign-local : r .f1 ≡ 2 → r .f2 < 16
     unfolding variablesAt
@@ -82,22 +73,43 @@ module _ (s w : List ℕ) (st lo : List ℤ) (n : ℕ) (r : Record) where
 
   -- ---- clocks
 
-  pub act-cell : (v : Visit s w st lo n r clockAct) → 8 + 8 * (firstCellIn w + r .f1) + 8 ≤ length st
-  act-cell v = cell-inside s w (v .ready .running) st lo (v .ready) (r .f1) (act-inside s w st lo (v .ready) n r (v .there) (v .statement) (v .form))
+  pub act-lies : (v : Visit s w st lo n r clockAct) → Lies w st (r .f1)
+  act-lies v = lies s w st lo (v .ready) (r .f1) (act-inside s w st lo (v .ready) n r (v .there) (v .statement) (v .form)) (clock-plain s (v .ready .running .passed) _ (act-clock s w st lo (v .ready) n r (v .there) (v .statement) (v .form)))
 
-  pub clock-runs : (v : Visit s w st lo n r clockAct) (depth l : ℕ) → world (Done l) (putWords st (8 + 8 * (firstCellIn w + r .f1)) (boolWord (eqb (r .f0) 38) ∷ replicate 7 (pos 0))) lo ≡ runOf s depth (contextAt s w) n (suc l) st lo
-  unfolding clockSet cellAt contextAt
+  pub clock-runs : (v : Visit s w st lo n r clockAct) (depth l : ℕ) → world (Done l) (putWords st (cellAt (cellIn w (r .f1))) (boolWord (eqb (r .f0) 38) ∷ replicate 7 (pos 0))) lo ≡ runOf s depth (contextAt s w) n (suc l) st lo
+  unfolding clockSet
   clock-runs v depth l = elim (ℕ-discrete (r .f0) 38) [
     | yes h ↦ (
         let q = eq-eqb (r .f0) 38 h in
-        rw (q, v .ready .running .cell) (sym (started-word s w st lo (v .ready) n r (v .there) (v .statement) (v .form) h depth l)))
+        rw q (sym (started-word s w st lo (v .ready) n r (v .there) (v .statement) (v .form) h depth l)))
     | no h ↦ (
         let q = ne-eqb (r .f0) 38 h in
-        rw (q, v .ready .running .cell) (sym (stopped-word s w st lo (v .ready) n r (v .there) (v .statement) (v .form) h depth l)))
+        rw q (sym (stopped-word s w st lo (v .ready) n r (v .there) (v .statement) (v .form) h depth l)))
   ]
 
-  pub arm-cell : (v : Visit s w st lo n r arm) → 8 + 8 * (firstCellIn w + r .f1) + 8 ≤ length st
-  arm-cell v = cell-inside s w (v .ready .running) st lo (v .ready) (r .f1) (arm-inside s w st lo (v .ready) n r (v .there) (v .statement) (v .form))
+  pub arm-lies : (v : Visit s w st lo n r arm) → Lies w st (r .f1)
+  arm-lies v = lies s w st lo (v .ready) (r .f1) (arm-inside s w st lo (v .ready) n r (v .there) (v .statement) (v .form)) (clock-plain s (v .ready .running .passed) _ (arm-clock s w st lo (v .ready) n r (v .there) (v .statement) (v .form)))
+
+  pub element-reaches : (v : Visit s w st lo n r assignElement) → Reaches w st (r .f1)
+  element-reaches v = reaches s w st lo (v .ready) (r .f1) (element-below s w st lo (v .ready) n r (v .there) (v .statement) (v .form))
+
+-- ---- a value to an element, at an index that was tested
+
+module _ (a b : ℕ) (i z : ℤ) (l : ℕ) (st lo : List ℤ) (t : Bool) (test : t ≡ isBelow i (b - a)) where
+  pub put-outside : not t ≡ true → world (Refused 11 l) st lo ≡ elementPut a b i z l st lo
+  unfolding elementPut
+  put-outside h = rw (elementPut, sym test ∙ not-true t h) refl
+
+  pub put-below : not t ≡ false → isBelow i (b - a) ≡ true
+  put-below h = sym test ∙ not-false t h
+
+  pub put-inside : not t ≡ false → (k : ℕ) → k ≡ natAbs i → world (Done l) (set st (8 + 8 * (a + k)) z) lo ≡ elementPut a b i z l st lo
+  unfolding elementPut cellAt
+  put-inside h k e = ap (λ k. world (Done l) (set st (8 + 8 * (a + k)) z) lo) e ∙ rw (elementPut, put-below h) refl
+
+pub put-here : (w : List ℕ) (st : List ℤ) (n : ℕ) → Reaches w st n → (i : ℤ) → isBelow i (cellIn w (n + 1) - cellIn w n) ≡ true → 8 + 8 * (cellIn w n + natAbs i) + 8 ≤ length st
+unfolding cellAt
+put-here w st n h i b = reached-inside w st n h i b
 
 -- ---- arming
 

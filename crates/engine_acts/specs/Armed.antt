@@ -1,5 +1,5 @@
 -- What an arming comes to.
-use Prim.Native.Nat.{ℕ, _+_}
+use Prim.Native.Nat.{ℕ}
 use mathlib.Core.List.{List}
 use mathlib.Core.Bool.{true, false}
 use lib.Dec.{eqb}
@@ -9,7 +9,7 @@ use Rattle.sheet.specs.Names.{dataOf, operator, Timeout-type}
 use Rattle.sheet_rules.specs.Types.{clockOf}
 use Rattle.machine.specs.State.{cellAt}
 use Rattle.machine.specs.Run.{World, armed}
-use Rattle.engine_ready.specs.Ready.{firstCellIn}
+use Rattle.engine_ready.specs.Ready.{cellIn}
 use Rattle.engine_ready.specs.Words.{thenData}
 use Rattle.engine_sending.specs.Sent.{dataAt}
 
@@ -20,4 +20,4 @@ armedValue t period = elim (eqb t Timeout-type) [ true ↦ period | false ↦ po
 module _ (s w : List ℕ) (st lo : List ℤ) where
   -- the element's clock f1, armed with a period
   abbrev pub armedWith : Record → Record → ℤ → ℕ → World
-  armedWith r a period l = thenData (dataAt s w st lo r (dataOf a) l) st lo (λ zs l. armed (cellAt (firstCellIn w + r .f1)) (clockOf (operator r)) period (r .f3) zs l st lo)
+  armedWith r a period l = thenData (dataAt s w st lo r (dataOf a) l) st lo (λ zs l. armed (cellAt (cellIn w (r .f1))) (clockOf (operator r)) period (r .f3) zs l st lo)

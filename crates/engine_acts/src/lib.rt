@@ -1,29 +1,38 @@
 // What a statement does that sends nothing and runs no other statement.
 use engine_ints::Work;
-use engine_ready::FIRST_CELL;
+use engine_ready::CELLS;
 use machine::Ran;
 use sheet::Found;
 use sheet::Range;
 use sheet::Record;
 ghost use mathlib.Core.Path.{_≡_};
 ghost use mathlib.Core.List.{List};
-ghost use Prim.Native.Nat.{ℕ, suc, _+_, _*_, _<_, _≤_};
+ghost use Prim.Native.Nat.{ℕ, suc, _+_, _<_};
 ghost use lib.ListN.{length};
 ghost use lib.IntN.{ℤ};
 ghost use Rattle.sheet.specs.declared.Found.the-variants.{Present};
 ghost use Rattle.sheet.specs.Sheet.{directoryOf, recordOf};
-ghost use Rattle.sheet_rules.specs.Forms.{assign, arm, clockAct};
+ghost use Rattle.sheet_rules.specs.Forms.{assign, arm, clockAct, assignElement};
 ghost use Rattle.sheet_rules.specs.Types.{clockOf};
-ghost use Rattle.machine.specs.Values.{firstCell};
-ghost use Rattle.machine.specs.Eval.{Context};
+ghost use Rattle.machine.specs.State.{cellAt};
+ghost use Rattle.machine.specs.Eval.{Context, variableAtCell};
 ghost use Rattle.machine.specs.Run.{world, assigned, runOf};
-ghost use Rattle.engine_ready.specs.Ready.{firstCellIn, contextAt};
+ghost use Rattle.engine_ready.specs.Ready.{cellIn, contextAt, Lies, Reaches};
+ghost use Rattle.engine_ready.specs.Words.{elementPut};
 ghost use Rattle.engine_sending.specs.Visit.{Visit};
 ghost use Rattle.engine_acts.specs.Armed.{armedValue, armedWith};
 
-// A value to a variable: place 1 of the chart, 2 of the body.
+// Where the cell of the element's plain variable n begins in the state.
+fn first_word(context: &[usize; 38], n: usize) -> usize
+    requires { ⌜ (length (now context) ≡ 38) × (n < 32) × (cellAt (cellIn (now context) n) < 5128) ⌝ }
+    ensures { λ k. ⌜ k ≡ cellAt (cellIn (now (context .entry)) n) ⌝ }
+{
+    8 + 8 * context[CELLS + n]
+}
+
+// A value to a plain variable: place 1 of the chart, 2 of the body.
 fn put(
-    context: &[usize; 6],
+    context: &[usize; 38],
     st: &mut [i32],
     lo: &mut [i32; 16],
     place: u16,
@@ -31,12 +40,13 @@ fn put(
     z: i32,
     left: u32,
 ) -> Ran
-    requires { ⌜ (length (now lo) ≡ 16) × (place ≡ 1 → 8 + 8 * (firstCellIn (now context) + number) < length (now st)) × (place ≡ 2 → number < 16) ⌝ }
-    ensures { λ r. ⌜ (length (now (lo .exit)) ≡ 16) × ((s : List ℕ) (x : Context) → firstCellIn (now (context .entry)) ≡ firstCell s (x .element) → world r (now (st .exit)) (now (lo .exit)) ≡ assigned s x place number z left (now (st .entry)) (now (lo .entry))) ⌝ }
+    requires { ⌜ (length (now lo) ≡ 16) × (place ≡ 1 → Lies (now context) (now st) number) × (place ≡ 2 → number < 16) ⌝ }
+    ensures { λ r. ⌜ (length (now (lo .exit)) ≡ 16) × ((s : List ℕ) (x : Context) → (place ≡ 1 → variableAtCell s x number 0 ≡ cellAt (cellIn (now (context .entry)) number)) → world r (now (st .exit)) (now (lo .exit)) ≡ assigned s x place number z left (now (st .entry)) (now (lo .entry))) ⌝ }
 {
     match place {
         1 => {
-            st[8 + 8 * (context[FIRST_CELL] + number as usize)] = z;
+            let at = first_word(context, number as usize);
+            st[at] = z;
             Ran::Done { left }
         }
         2 => {
@@ -50,7 +60,7 @@ fn put(
 pub fn assign(
     sheet: &[u8],
     directory: &[usize; 16],
-    context: &[usize; 6],
+    context: &[usize; 38],
     st: &mut [i32],
     lo: &mut [i32; 16],
     n: usize,
@@ -68,6 +78,59 @@ pub fn assign(
     }
 }
 
+// A value to the element of array n at index i; "11, index outside its number".
+fn put_element(context: &[usize; 38], st: &mut [i32], n: usize, i: i32, z: i32, left: u32) -> Ran
+    requires { ⌜ Reaches (now context) (now st) n ⌝ }
+    ensures { λ r. ⌜ ((lo : List ℤ) → world r (now (st .exit)) lo ≡ elementPut (cellIn (now (context .entry)) n) (cellIn (now (context .entry)) (n + 1)) i z left (now (st .entry)) lo) ⌝ }
+{
+    let first = context[CELLS + n];
+    let count = context[CELLS + (n + 1)] - first;
+    if !engine_valid_words::is_below(i, count) {
+        return Ran::Refused { number: 11, left };
+    }
+    st[8 + 8 * (first + engine_valid_words::number(i))] = z;
+    Ran::Done { left }
+}
+
+// "assign (44: f1 variable, f2 index, f3 value) an element"
+pub fn assign_element(
+    sheet: &[u8],
+    directory: &[usize; 16],
+    context: &[usize; 38],
+    st: &mut [i32],
+    lo: &[i32; 16],
+    n: usize,
+    r: Record,
+    left: u32,
+) -> Ran
+    requires { ⌜ (now directory ≡ directoryOf (now sheet)) × Visit (now sheet) (now context) (now st) (now lo) n r assignElement ⌝ }
+    ensures { λ o. ⌜ ((depth : ℕ) → world o (now (st .exit)) (now (lo .entry)) ≡ runOf (now (sheet .entry)) depth (contextAt (now (sheet .entry)) (now (context .entry))) n (suc left) (now (st .entry)) (now (lo .entry))) ⌝ }
+{
+    let index = engine_expressions::eval(sheet, directory, context, st, lo, r.f2 as usize, left);
+    match index {
+        Work::Word { word: i, left } => {
+            let value = engine_expressions::eval(
+                sheet,
+                directory,
+                context,
+                st,
+                lo,
+                r.f3 as usize,
+                left,
+            );
+            match value {
+                Work::Word { word, left } => {
+                    put_element(context, st, r.f1 as usize, i, word, left)
+                }
+                Work::Refused { number, left } => Ran::Refused { number, left },
+                Work::Stuck => Ran::Stuck,
+            }
+        }
+        Work::Refused { number, left } => Ran::Refused { number, left },
+        Work::Stuck => Ran::Stuck,
+    }
+}
+
 // "Arming a Timeout sets its value to the period, a Cycler's to 0"
 fn first_value(op: u16, period: i32) -> i32
     ensures { λ z. ⌜ z ≡ armedValue (clockOf op) period ⌝ }
@@ -79,7 +142,7 @@ fn first_value(op: u16, period: i32) -> i32
 fn arm_with(
     sheet: &[u8],
     directory: &[usize; 16],
-    context: &[usize; 6],
+    context: &[usize; 38],
     st: &mut [i32],
     lo: &[i32; 16],
     n: usize,
@@ -104,7 +167,7 @@ fn arm_with(
             }
             engine_store::put_clock(
                 st,
-                8 + 8 * (context[FIRST_CELL] + r.f1 as usize),
+                first_word(context, r.f1 as usize),
                 1,
                 first_value(r.f0, period),
                 period,
@@ -121,7 +184,7 @@ fn arm_with(
 pub fn arming(
     sheet: &[u8],
     directory: &[usize; 16],
-    context: &[usize; 6],
+    context: &[usize; 38],
     st: &mut [i32],
     lo: &[i32; 16],
     n: usize,
@@ -145,11 +208,11 @@ pub fn arming(
 }
 
 // "38 start Timer, 39 stop any clock"
-pub fn clock(context: &[usize; 6], st: &mut [i32], r: Record, left: u32) -> Ran
-    requires { ⌜ 8 + 8 * (firstCellIn (now context) + r .f1) + 8 ≤ length (now st) ⌝ }
+pub fn clock(context: &[usize; 38], st: &mut [i32], r: Record, left: u32) -> Ran
+    requires { ⌜ Lies (now context) (now st) (r .f1) ⌝ }
     ensures { λ o. ⌜ ((s : List ℕ) (lo : List ℤ) (n depth : ℕ) → Visit s (now (context .entry)) (now (st .entry)) lo n r clockAct → world o (now (st .exit)) lo ≡ runOf s depth (contextAt s (now (context .entry))) n (suc left) (now (st .entry)) lo) ⌝ }
 {
     let running = engine_ints::bool_word(r.f0 == 38);
-    engine_store::set_clock(st, 8 + 8 * (context[FIRST_CELL] + r.f1 as usize), running);
+    engine_store::set_clock(st, first_word(context, r.f1 as usize), running);
     Ran::Done { left }
 }

@@ -1,14 +1,15 @@
 -- Where a body that is called runs, as an engine holds it, and what its run comes to.
-use Prim.Native.Nat.{ℕ, _+_, _-_, _<_, _≤_}
+use Prim.Native.Nat.{ℕ, _+_, _*_, _-_, _<_, _≤_}
 use mathlib.Core.Path.{_≡_, refl, sym, ap, subst, _∙_}
-use mathlib.Core.List.{List, [], _∷_}
+use mathlib.Core.List.{List}
 use mathlib.Core.Bool.{true}
 use native.Mathlib.Omega.{arith}
+use lib.ListN.{length, getD}
 use lib.IntN.{ℤ}
 use borrow.Author.Tests.{ltb-true, leb-true}
 use Rattle.sheet.specs.declared.Record.{Record}
 use Rattle.sheet.specs.declared.Found.the-variants.{Present}
-use Rattle.sheet.specs.Names.{charts, bodies, bindings, chartBodies, bodyParameters, bodyLocals, root, boundChart}
+use Rattle.sheet.specs.Names.{charts, bodies, bindings, chartVariables, chartBodies, bodyParameters, bodyLocals, root, boundChart}
 use Rattle.sheet.specs.Sheet.{recordOf}
 use Rattle.sheet.proofs.All.{and-first, and-second}
 use Rattle.machine.specs.declared.Answer.{Answer}
@@ -17,7 +18,8 @@ use Rattle.machine.specs.declared.Ran.the-variants.{Done, Refused, Stuck}
 use Rattle.machine.specs.declared.Handed.the-variants.{Nothing}
 use Rattle.sheet_rules.specs.declared.Checked.the-variants.{Passed}
 use Rattle.sheet_rules.specs.Fields.{fieldOf, fieldAt, externalsOf, componentsOf, typeAt}
-use Rattle.sheet_rules.specs.Shape.{treeShape, bodyShape}
+use Rattle.sheet_rules.specs.Indices.{cellsBefore}
+use Rattle.sheet_rules.specs.Shape.{chartShape, treeShape, bodyShape}
 use Rattle.sheet_rules.specs.Types.{typeOf}
 use Rattle.sheet_rules.specs.Static.{bodyStatic}
 use Rattle.machine.specs.Values.{inType, isBound, firstCell}
@@ -28,14 +30,15 @@ use Rattle.machine.specs.Play.{ended, answer, limitOf, ranBody, eventEnd, bodyE
 use Rattle.sheet_rules.specs.Check.{checkOf}
 use Rattle.machine_equations.proofs.Left.{RanWithin, run-left}
 use Rattle.machine_passed.specs.Places.{InChart, Element, Placed, Locals}
-use Rattle.machine_passed.proofs.Records.{one-record, body-shape, components-limit}
-use Rattle.machine_passed.proofs.Charts.{body-static, body-tree}
+use Rattle.machine_passed.proofs.Records.{one-record, chart-shape, body-shape, components-limit}
+use Rattle.machine_passed.proofs.Charts.{element-chart, body-static, body-tree}
 use Rattle.machine_sound.specs.Gives.{Ends}
 use Rattle.machine_sound.proofs.Locals.{few, fresh-locals}
 use Rattle.machine_sound.proofs.Run.{is-statement}
 use Rattle.machine_promise.proofs.Bodies.{ran-is, ran-ends}
 use Rattle.engine_ready.specs.Ready.{recordOr0, contextAt, Running, Ready, IsStatement}
 use Rattle.machine_events.specs.Called.{Called}
+use Rattle.engine_cells.specs.Cells.{CellTable}
 
 pub externals-is : (s : List ℕ) (x : ℕ) → x ≡ fieldAt s 0 0 1 → x ≡ externalsOf s
 unfolding fieldAt fieldOf externalsOf
@@ -88,22 +91,30 @@ module _ (s : List ℕ) (ok : checkOf s ≡ Passed) (e number : ℕ) (zs : List 
         pub few-variables : bodyParameters d .count + bodyLocals d .count ≤ 16
         few-variables = few s ok x placed
 
-        -- where the body runs, as six numbers
-        module _ (cell : ℕ) (first : cell ≡ firstCell s e) where
-          abbrev w : List ℕ
-          w = e ∷ cell ∷ i ∷ boundChart b ∷ chartBodies c .first ∷ number ∷ []
+        pub few-cells : chartVariables c .count ≤ 32
+        unfolding chartShape
+        few-cells = leb-true _ _ (and-first _ _ (and-second _ _ (and-second _ _ (and-second _ _ (chart-shape s ok _ c is-c)))))
 
+        -- where the body runs, by its numbers
+        module _ (t : List ℕ) (table : CellTable s t) (w : List ℕ) (is : (length w ≡ 38) × (getD w 0 0 ≡ e) × (getD w 1 0 ≡ i) × (getD w 2 0 ≡ boundChart b) × (getD w 3 0 ≡ chartBodies c .first) × (getD w 4 0 ≡ number) × ((n : ℕ) → n ≤ chartVariables c .count → getD w (5 + n) 0 ≡ getD t (33 * i + n) 0)) where
           context-is : contextAt s w ≡ x
           unfolding contextAt recordOr0
-          context-is = rw (contextAt, is-b, is-c, is-d) refl
+          context-is = rw (contextAt, is .1, is .2, is .3, is .5, is-b, is-c, is-d) refl
+
+          abbrev chart-is : contextAt s w .chart ≡ c
+          chart-is = ap (λ x. x .chart) context-is
+
+          cells : (n : ℕ) → n ≤ chartVariables c .count → getD w (5 + n) 0 ≡ firstCell s e + cellsBefore s c n
+          cells n h = is .6 n h ∙ ap (λ i. getD t (33 * i + n) 0) at ∙ table .right e c (element-chart s e b c element) n h
 
           running : Running s w
           running = record {
+            whole = is .0;
             passed = ok;
             placed = subst (Placed s) (sym context-is) placed;
-            cell = first;
-            binding = is-b ∙ sym (ap (λ x. Present (x .binding)) context-is);
-            first = sym (ap (λ x. chartBodies (x .chart) .first) context-is);
+            cells = λ n h. cells n (subst (λ c. n ≤ chartVariables c .count) chart-is h) ∙ sym (ap (λ e. firstCell s e + cellsBefore s (contextAt s w .chart) n) (is .1) ∙ ap (λ c. firstCell s e + cellsBefore s c n) chart-is);
+            binding = ap (recordOf s bindings) (is .2) ∙ is-b ∙ sym (ap (λ x. Present (x .binding)) context-is);
+            first = is .4 ∙ sym (ap (λ c. chartBodies c .first) chart-is);
           }
 
           pub ready : (st lo : List ℤ) → OfSheet s st → lo ≡ localsOf s d zs → Ready s w st lo

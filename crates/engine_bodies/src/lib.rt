@@ -12,17 +12,19 @@ ghost use Rattle.machine.specs.Valid.{OfSheet};
 ghost use Rattle.machine.specs.Play.{ended, answer as answerOf, ranBody, bodyEvent};
 ghost use Rattle.sheet_rules.specs.Check.{checkOf};
 ghost use Rattle.machine_events.specs.Called.{Called};
+ghost use Rattle.engine_cells.specs.Cells.{CellTable};
 
 // Body number of section 5 runs for element e, with data for its parameters.
 pub fn run_body(
     sheet: &[u8],
     directory: &[usize; 16],
+    cells: &[usize; 2112],
     st: &mut [i32],
     e: usize,
     number: usize,
     d: &[i32; 4],
 ) -> Ran
-    requires { ⌜ (now directory ≡ directoryOf (now sheet)) × (checkOf (now sheet) ≡ Passed) × OfSheet (now sheet) (now st) × Called (now sheet) e number (now d) ⌝ }
+    requires { ⌜ (now directory ≡ directoryOf (now sheet)) × (checkOf (now sheet) ≡ Passed) × OfSheet (now sheet) (now st) × Called (now sheet) e number (now d) × CellTable (now sheet) (now cells) ⌝ }
     ensures { λ r. ⌜ (r ≡ ranBody (now (sheet .entry)) e (recordOf (now (sheet .entry)) 5 number) (now (d .entry)) (now (st .entry)) .ran) × (now (st .exit) ≡ ranBody (now (sheet .entry)) e (recordOf (now (sheet .entry)) 5 number) (now (d .entry)) (now (st .entry)) .st) ⌝ }
 {
     let i = e - sheet_fields::field_at(sheet, directory, 0, 0, 1);
@@ -35,8 +37,15 @@ pub fn run_body(
     let Found::Present(body) = sheet_reader::read(sheet, directory, 5, number) else {
         return Ran::Stuck;
     };
-    let cell = engine_defaults::first_cell(sheet, directory, e);
-    let context = [e, cell, i, binding.f0 as usize, chart.f4 as usize, number];
+    let context = engine_cells::context(
+        cells,
+        e,
+        i,
+        binding.f0 as usize,
+        chart.f4 as usize,
+        number,
+        chart.f3 as usize,
+    );
     let mut locals = engine_defaults::fresh_locals(sheet, directory, body, d);
     let limit = engine_defaults::limit(sheet, directory);
     engine_statements::run(
@@ -62,7 +71,7 @@ pub fn answered(number: u8, steps: u32) -> Answer
     }
 }
 
-// An event's answer: "6 to 10" leave a copy of the old state.
+// An event's answer: "6 to 10", and 11, leave a copy of the old state.
 fn answer(old: &[i32], st: &mut [i32], number: u8, steps: u32) -> Answer
     requires { ⌜ length (now old) ≡ length (now st) ⌝ }
     ensures { λ a. ⌜ (a ≡ answerOf number steps Nothing) × (number ≡ 0 → now (st .exit) ≡ now (st .entry)) × ((number ≡ 0 → ⊥) → now (st .exit) ≡ now (old .entry)) ⌝ }
@@ -78,17 +87,18 @@ fn answer(old: &[i32], st: &mut [i32], number: u8, steps: u32) -> Answer
 pub fn event_body(
     sheet: &[u8],
     directory: &[usize; 16],
+    cells: &[usize; 2112],
     old: &[i32],
     st: &mut [i32],
     e: usize,
     number: usize,
     d: &[i32; 4],
 ) -> Answer
-    requires { ⌜ (now directory ≡ directoryOf (now sheet)) × (checkOf (now sheet) ≡ Passed) × OfSheet (now sheet) (now st) × Called (now sheet) e number (now d) × (length (now old) ≡ length (now st)) ⌝ }
+    requires { ⌜ (now directory ≡ directoryOf (now sheet)) × (checkOf (now sheet) ≡ Passed) × OfSheet (now sheet) (now st) × Called (now sheet) e number (now d) × CellTable (now sheet) (now cells) × (length (now old) ≡ length (now st)) ⌝ }
     ensures { λ a. ⌜ ended a (now (st .exit)) ≡ bodyEvent (now (sheet .entry)) (now (old .entry)) e (recordOf (now (sheet .entry)) 5 number) (now (d .entry)) (now (st .entry)) ⌝ }
 {
     let limit = engine_defaults::limit(sheet, directory);
-    let r = run_body(sheet, directory, st, e, number, d);
+    let r = run_body(sheet, directory, cells, st, e, number, d);
     match r {
         Ran::Done { left } => answer(old, st, 0, limit - left),
         Ran::Refused { number, left } => answer(old, st, number, limit - left),

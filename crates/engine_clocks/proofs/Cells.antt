@@ -1,5 +1,5 @@
 -- The cells that hold clocks.
-use Prim.Native.Nat.{ℕ, zero, suc, _+_, _-_, _<_, _≤_}
+use Prim.Native.Nat.{ℕ, zero, suc, _+_, _<_, _≤_}
 use mathlib.Core.Path.{_≡_, refl, sym, ap, _∙_}
 use mathlib.Core.List.{List}
 use mathlib.Core.Bool.{Bool, true, false, not, true≢false}
@@ -102,17 +102,17 @@ pub not-timer : (k x : ℕ) {t : ℕ} → x ≡ t → x ≡ k → 5 ≤ k → eq
 not-timer k x e f l = ap (λ (u : ℕ). eqb u Timer-type) (sym e ∙ f) ∙ ne-eqb k 4 (λ q. omega arith)
 
 pub cell-named : (s : List ℕ) (e t : ℕ) (st : List ℤ) (i : ℕ) → Cell s e t st i → isClock t ≡ true → eqb t Timer-type ≡ false → isZero (wordOf st (cellAt i)) ≡ false → isBelow (wordOf st (cellAt i + 3)) (countOf s names) ≡ true
-cell-named s e t st i c clock named n = clock-named s e t st (cellAt i) (running s e t st (cellAt i) (c .fits) clock n) named
+cell-named s e t st i c clock named n = clock-named s e t st (cellAt i) (running s e t st (cellAt i) (c .clock clock .1) clock n) named
 
 pub cell-runs : (s : List ℕ) (e t : ℕ) (st : List ℤ) (i : ℕ) → Cell s e t st i → isClock t ≡ true → isZero (wordOf st (cellAt i)) ≡ false → Running st (cellAt i)
 unfolding cellAt stateLength placeAt
 cell-runs s e t st i c clock n =
-    let w = words-from s e t st (cellAt i) (running s e t st (cellAt i) (c .fits) clock n) in
+    let w = words-from s e t st (cellAt i) (running s e t st (cellAt i) (c .clock clock .1) clock n) in
     record {
       behind = omega arith;
-      inside = let l = c .inside in let m = c .whole in omega arith;
+      inside = let l = c .clock clock .0 in let m = c .whole in omega arith;
       head = c .head;
-      runs = one-word _ (running-below s e t st (cellAt i) (c .fits) clock n) n;
+      runs = one-word _ (running-below s e t st (cellAt i) (c .clock clock .1) clock n) n;
       value = w .0;
       period = w .1;
       name = w .2;

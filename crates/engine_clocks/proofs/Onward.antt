@@ -1,10 +1,11 @@
 -- A tick leaves the cells behind its own as they were, so the pass finds each clock as the slice found it.
-use Prim.Native.Nat.{ℕ, zero, suc, _+_, _-_, _<_, _≤_}
+use Prim.Native.Nat.{ℕ, zero, suc, _+_, _*_, _-_, _<_, _≤_}
 use mathlib.Core.Path.{_≡_, refl, sym, ap, _∙_}
 use mathlib.Core.List.{List, [], _∷_}
 use mathlib.Core.Bool.{Bool, true, false, not}
 use native.Mathlib.Omega.{arith}
-use lib.ListN.{length, set, replicate, length-set}
+use native.Mathlib.Numerals.{add-one}
+use lib.ListN.{length, getD, set, replicate, length-set}
 use lib.Dec.{eqb}
 use lib.IntN.{ℤ, pos, _+ℤ_, _-ℤ_}
 use borrow.Author.Tests.{lt-ltb}
@@ -17,19 +18,25 @@ use Rattle.sheet.specs.Sheet.{countOf, recordOf}
 use Rattle.machine.proofs.Appending.{appending}
 use Rattle.sheet_rules.specs.declared.Checked.the-variants.{Passed}
 use Rattle.machine.specs.declared.Telegram.{Telegram}
-use Rattle.sheet_rules.specs.Fields.{sumBelow, typeAt, externalsOf}
-use Rattle.sheet_rules.specs.Shape.{variablesBound, variablesOf}
-use Rattle.machine.specs.Values.{isBelow, isZero, chartOf, firstCell, sameWord}
-use Rattle.machine.specs.State.{cellAt, placeAt, stateLength, wordOf, waiting, putWords, withTelegram, Changed, on, off, lost, appended}
-use Rattle.machine.specs.Valid.{cellFits, OfSheet}
+use Rattle.sheet_rules.specs.Fields.{typeAt, externalsOf}
+use Rattle.sheet_rules.specs.Indices.{cellsTaken, cellsBefore}
+use Rattle.sheet_rules.specs.Shape.{cellsBound, cellsOf}
 use Rattle.sheet_rules.specs.Check.{checkOf}
-use Rattle.machine.specs.Play.{thenSlice, clockTelegram, fires, ticks, slicedCell, slicedVariable, slicedCells, slicedElement, slicedFrom}
+use Rattle.sheet_rules.proofs.Fields.{sum-more}
+use Rattle.machine.specs.Values.{isBelow, isZero, chartOf, firstCell, sameWord}
+use Rattle.machine.specs.State.{cellAt, cellOf, placeAt, stateLength, wordOf, waiting, putWords, withTelegram, Changed, on, off, lost, appended}
+use Rattle.machine.specs.Valid.{cellFits, OfSheet}
+use Rattle.machine.specs.Play.{thenSlice, clockTelegram, fires, ticks, slicedCell, slicedEach, slicedVariable, slicedCells, slicedElement, slicedFrom}
 use Rattle.machine_passed.proofs.Declared.{element-declared}
+use Rattle.machine_passed.proofs.Indices.{plain-cell, clock-plain}
 use Rattle.machine_states.proofs.Words.{word-set-other, length-put, word-put-before, word-put-behind, with-length, with-head, with-before}
 use Rattle.machine_states.proofs.Frame.{cell-same}
 use Rattle.machine_states.proofs.Parts.{is-counted, cell-of}
+use Rattle.machine_states.proofs.Elements.{cells-none, cells-next, variable-cells, element-count, element-cells, cell-below}
 use Rattle.machine_states.proofs.Ticks.{sliced-variable}
+use Rattle.engine_cells.specs.Cells.{CellTable}
 use Rattle.engine_clocks.specs.Cells.{Cell, Cells}
+use Rattle.engine_clocks.proofs.Cells.{cell-data}
 
 -- as long as the sheet's states, at most 128 waiting, and from a word on up to the places as before
 pub record After (s : List ℕ) (from : ℕ) (old st : List ℤ) : Type 0 where
@@ -119,16 +126,7 @@ module _ (s : List ℕ) where
         go true q = let f : slicedCell s e t at st ≡ ticks s e t at st = rw (slicedCell, q) refl in rw f (ticks-onward t)
         go false q = let f : slicedCell s e t at st ≡ on st = rw (slicedCell, q) refl in rw f (after-none (at + 8) st whole head)
 
-  -- ---- one cell, the cells of an element
-
-  pub cell-after : (e t i : ℕ) (st st′ : List ℤ) → length st ≡ stateLength s → isBelow (wordOf st 0) 129 ≡ true → i < variablesOf s → slicedCell s e t (cellAt i) st ≡ on st′ → After s (cellAt (i + 1)) st st′
-  unfolding cellAt placeAt
-  cell-after e t i st st′ w h l q =
-      let f : cellAt i + 8 ≡ cellAt (i + 1) = omega arith in
-      rw f at (is-after (rw q at (cell-onward st e (cellAt i) w h (omega arith) (omega arith) t)))
-    where
-      is-after : Onward s (cellAt i + 8) st (on st′) → After s (cellAt i + 8) st st′
-      is-after a = a
+  -- ---- one cell, the cells of a variable, of an element
 
   onward-more : (from from′ : ℕ) (a b : List ℤ) (r : Changed) → from ≤ from′ → After s from a b → Onward s from′ b r → Onward s from′ a r
   onward-more from from′ a b (on c) l h k = after-more from from′ a b c l h k
@@ -141,66 +139,135 @@ module _ (s : List ℕ) where
   then-onward from from′ st (off n) K l h k = tt
   then-onward from from′ st lost K l h k = tt
 
-  variable-onward : (e d i : ℕ) (st : List ℤ) → length st ≡ stateLength s → isBelow (wordOf st 0) 129 ≡ true → i < variablesOf s → Onward s (cellAt i + 8) st (slicedVariable s e d (cellAt i) st)
-  unfolding slicedVariable cellAt placeAt
-  variable-onward e d i st w h l = go (recordOf s declarations d)
-    where
-      go : (f : Found) → Onward s (cellAt i + 8) st (elim f as (λ f. Changed) [ Present r ↦ slicedCell s e (declaredType r) (cellAt i) st | Absent ↦ lost ])
-      go (Present r) = cell-onward st e (cellAt i) w h (omega arith) (omega arith) (declaredType r)
-      go Absent = tt
-
-  cells-onward : (e n d i : ℕ) (st : List ℤ) → length st ≡ stateLength s → isBelow (wordOf st 0) 129 ≡ true → i + n ≤ variablesOf s → Onward s (cellAt (i + n)) st (slicedCells s e n d i st)
-  unfolding slicedCells cellAt placeAt
-  cells-onward e zero d i st w h l = after-none (cellAt (i + 0)) st w h
-  cells-onward e (suc n) d i st w h l =
+  each-onward : (e t n i : ℕ) (st : List ℤ) → length st ≡ stateLength s → isBelow (wordOf st 0) 129 ≡ true → i + n ≤ cellsOf s → Onward s (cellAt (i + n)) st (slicedEach s e t n i st)
+  unfolding slicedEach cellAt placeAt
+  each-onward e t zero i st w h l = after-none (cellAt (i + 0)) st w h
+  each-onward e t (suc n) i st w h l =
       let f : cellAt i + 8 ≡ cellAt (i + 1) = omega arith in
       let g : suc i + n ≡ i + suc n = omega arith in
-      then-onward (cellAt (i + 1)) (cellAt (i + suc n)) st (slicedVariable s e d (cellAt i) st) (slicedCells s e n (suc d) (suc i)) (omega arith)
-      (rw f at (variable-onward e d i st w h (omega arith)))
-      (λ st′ a. rw g at (cells-onward e n (suc d) (suc i) st′ (a .whole) (a .head) (omega arith)))
+      then-onward (cellAt (i + 1)) (cellAt (i + suc n)) st (slicedCell s e t (cellAt i) st) (slicedEach s e t n (suc i)) (omega arith)
+      (rw f at (cell-onward st e (cellAt i) w h (omega arith) (omega arith) t))
+      (λ st′ a. rw g at (each-onward e t n (suc i) st′ (a .whole) (a .head) (omega arith)))
 
-  pub cells-after : (e n d i : ℕ) (st st′ : List ℤ) → length st ≡ stateLength s → isBelow (wordOf st 0) 129 ≡ true → i + n ≤ variablesOf s → slicedCells s e n d i st ≡ on st′ → After s (cellAt (i + n)) st st′
-  cells-after e n d i st st′ w h l q = is-after (rw q at (cells-onward e n d i st w h l))
+  variable-onward : (e d i : ℕ) (st : List ℤ) → length st ≡ stateLength s → isBelow (wordOf st 0) 129 ≡ true → i + cellsTaken s d ≤ cellsOf s → Onward s (cellAt (i + cellsTaken s d)) st (slicedVariable s e d i st)
+  unfolding slicedVariable
+  variable-onward e d i st w h l = go (recordOf s declarations d)
     where
-      is-after : Onward s (cellAt (i + n)) st (on st′) → After s (cellAt (i + n)) st st′
-      is-after a = a
+      go : (f : Found) → Onward s (cellAt (i + cellsTaken s d)) st (elim f as (λ f. Changed) [ Present r ↦ slicedEach s e (declaredType r) (cellsTaken s d) i st | Absent ↦ lost ])
+      go (Present r) = each-onward e (declaredType r) (cellsTaken s d) i st w h l
+      go Absent = tt
 
-  -- ---- the pass over an element's variables
+  -- ---- a variable as the engine looks at it: "An array .. of clocks, gets 2", so that the first cell says all
 
-  cells-next : (e n m d i : ℕ) (st : List ℤ) → m ≡ suc n → slicedCells s e m d i st ≡ thenSlice (slicedVariable s e d (cellAt i) st) (slicedCells s e n (suc d) (suc i))
+  each-data : (e t n i : ℕ) (st : List ℤ) → isClock t ≡ false → slicedEach s e t n i st ≡ on st
+  unfolding slicedEach thenSlice
+  each-data e t zero i st q = refl
+  each-data e t (suc n) i st q = ap (λ (r : Changed). thenSlice r (slicedEach s e t n (suc i))) (cell-data s e t (cellAt i) st q) ∙ each-data e t n (suc i) st q
+
+  then-on : (r : Changed) → thenSlice r on ≡ r
+  unfolding thenSlice
+  then-on (on st) = refl
+  then-on (off n) = refl
+  then-on lost = refl
+
+  each-one : (e t i : ℕ) (st : List ℤ) → slicedEach s e t 1 i st ≡ slicedCell s e t (cellAt i) st
+  unfolding slicedEach
+  each-one e t i st = then-on (slicedCell s e t (cellAt i) st)
+
+  variable-cell : (e t n i : ℕ) (st : List ℤ) → (isClock t ≡ true → n ≡ 1) → slicedEach s e t n i st ≡ slicedCell s e t (cellAt i) st
+  variable-cell e t n i st plain = go (isClock t) refl
+    where
+      go : (b : Bool) → isClock t ≡ b → slicedEach s e t n i st ≡ slicedCell s e t (cellAt i) st
+      go true q = ap (λ (m : ℕ). slicedEach s e t m i st) (plain q) ∙ each-one e t i st
+      go false q = each-data e t n i st q ∙ sym (cell-data s e t (cellAt i) st q)
+
+  -- ---- the pass over the variables of an element
+
+  cells-next-variable : (e n m d i : ℕ) (st : List ℤ) → m ≡ suc n → slicedCells s e m d i st ≡ thenSlice (slicedVariable s e d i st) (slicedCells s e n (suc d) (i + cellsTaken s d))
   unfolding slicedCells
-  cells-next e n m d i st q = rw q refl
+  cells-next-variable e n m d i st q = rw q refl
 
-  pub cells-here : (e n j d i : ℕ) (st : List ℤ) → j < n → d + j < countOf s declarations → slicedCells s e (n - j) (d + j) (i + j) st ≡ thenSlice (slicedCell s e (typeAt s (d + j)) (cellAt (i + j)) st) (slicedCells s e (n - (j + 1)) (d + (j + 1)) (i + (j + 1)))
-  cells-here e n j d i st l m =
-      let q : n - j ≡ suc (n - (j + 1)) = omega arith in
-      let a : suc (d + j) ≡ d + (j + 1) = omega arith in
-      let b : suc (i + j) ≡ i + (j + 1) = omega arith in
-      (rw (a, b) at (cells-next e (n - (j + 1)) (n - j) (d + j) (i + j) st q)) ∙ ap (λ (r : Changed). thenSlice r (slicedCells s e (n - (j + 1)) (d + (j + 1)) (i + (j + 1)))) (sliced-variable s e (d + j) (cellAt (i + j)) st m)
-
-  pub cells-none : (e n j d i : ℕ) (st : List ℤ) → n ≤ j → slicedCells s e (n - j) d i st ≡ on st
+  pub cells-end : (e n j d i : ℕ) (st : List ℤ) → n ≤ j → slicedCells s e (n - j) d i st ≡ on st
   unfolding slicedCells
-  cells-none e n j d i st l = let q : n - j ≡ 0 = omega arith in rw q refl
-
-  pub cells-first : (e n d i : ℕ) (st : List ℤ) → slicedCells s e n d i st ≡ slicedCells s e (n - 0) (d + 0) (i + 0) st
-  cells-first e n d i st = let q : n - 0 ≡ n = omega arith in let a : d + 0 ≡ d = omega arith in let b : i + 0 ≡ i = omega arith in rw (q, a, b) refl
-
-  pub pass-first : (e cell : ℕ) (c : Record) (st : List ℤ) → Cells s e c st cell → After s (cellAt (cell + 0)) st st
-  pass-first e cell c st k = after-none (cellAt (cell + 0)) st (k .whole) (k .head)
-
-  pub pass-next : (e t cell j : ℕ) (old st st′ : List ℤ) → cell + j < variablesOf s → After s (cellAt (cell + j)) old st → slicedCell s e t (cellAt (cell + j)) st ≡ on st′ → After s (cellAt (cell + (j + 1))) old st′
-  unfolding cellAt
-  pass-next e t cell j old st st′ l a q =
-      let f : cell + j + 1 ≡ cell + (j + 1) = omega arith in
-      after-more (cellAt (cell + j)) (cellAt (cell + (j + 1))) old st st′ (omega arith) a (rw f at (cell-after e t (cell + j) st st′ (a .whole) (a .head) l q))
+  cells-end e n j d i st l = let q : n - j ≡ 0 = omega arith in rw q refl
 
   -- a cell that the pass hasn't reached is as it was
-  same-fits : (e t i : ℕ) (old st : List ℤ) → i < variablesOf s → After s (cellAt i) old st → cellFits s e t old (cellAt i) ≡ true → cellFits s e t st (cellAt i) ≡ true
+  same-fits : (e t i : ℕ) (old st : List ℤ) → i < cellsOf s → After s (cellAt i) old st → cellFits s e t old (cellAt i) ≡ true → cellFits s e t st (cellAt i) ≡ true
   unfolding cellAt placeAt
   same-fits e t i old st l a h = cell-same st (cellAt i) old (cellAt i) (λ k m. a .later (cellAt i + k) (omega arith) (omega arith)) s e t ∙ h
 
-  pub cell-now : (e cell j : ℕ) (c : Record) (old st : List ℤ) → j < chartVariables c .count → Cells s e c old cell → After s (cellAt (cell + j)) old st → Cell s e (typeAt s (chartVariables c .first + j)) st (cell + j)
-  cell-now e cell j c old st l k a = let inside : cell + j < variablesOf s = (let m = k .inside in omega arith) in record { whole = a .whole; head = a .head; inside = inside; fits = same-fits e _ (cell + j) old st inside a (k .fits j l) }
+  cell-rises : (i k : ℕ) → i ≤ k → cellAt i ≤ cellAt k
+  unfolding cellAt
+  cell-rises i k l = omega arith
+
+  -- element e, whose chart is c
+  module _ (e : ℕ) (c : Record) where
+    -- where the cells of variable j begin, and its declaration
+    abbrev begins : ℕ → ℕ
+    begins j = firstCell s e + cellsBefore s c j
+
+    abbrev own : ℕ → ℕ
+    own j = chartVariables c .first + j
+
+    begins-next : (j : ℕ) → begins j + cellsTaken s (own j) ≡ begins (suc j)
+    begins-next j = omega (arith, cells-next s c j)
+
+    cells-onward : (n j : ℕ) (st : List ℤ) → length st ≡ stateLength s → isBelow (wordOf st 0) 129 ≡ true → begins (j + n) ≤ cellsOf s → Onward s (cellAt (begins (j + n))) st (slicedCells s e n (own j) (begins j) st)
+    unfolding slicedCells
+    cells-onward zero j st w h l = after-none (cellAt (begins (j + 0))) st w h
+    cells-onward (suc n) j st w h l =
+        let f : suc (own j) ≡ own (suc j) = omega arith in
+        let g : suc j + n ≡ j + suc n = omega arith in
+        let rest : begins j + cellsTaken s (own j) ≤ begins (j + suc n) = omega (arith, variable-cells s c j (j + suc n) (omega arith)) in
+        then-onward (cellAt (begins j + cellsTaken s (own j))) (cellAt (begins (j + suc n))) st (slicedVariable s e (own j) (begins j) st) (slicedCells s e n (suc (own j)) (begins j + cellsTaken s (own j))) (cell-rises _ _ rest)
+        (variable-onward e (own j) (begins j) st w h (omega arith))
+        (λ st′ a. rw (f, begins-next j) (rw g at (cells-onward n (suc j) st′ (a .whole) (a .head) (rw g l))))
+
+    pub cells-after : (st st′ : List ℤ) → length st ≡ stateLength s → isBelow (wordOf st 0) 129 ≡ true → begins (chartVariables c .count) ≤ cellsOf s → slicedCells s e (chartVariables c .count) (chartVariables c .first) (firstCell s e) st ≡ on st′ → After s (cellAt (begins (chartVariables c .count))) st st′
+    cells-after st st′ w h l q =
+        let a : own 0 ≡ chartVariables c .first = omega arith in
+        let b : begins 0 ≡ firstCell s e = omega (arith, cells-none s c) in
+        let z : 0 + chartVariables c .count ≡ chartVariables c .count = omega arith in
+        is-after (rw (z, a, b, q) at (cells-onward (chartVariables c .count) 0 st w h (rw z l)))
+      where
+        is-after : Onward s (cellAt (begins (chartVariables c .count))) st (on st′) → After s (cellAt (begins (chartVariables c .count))) st st′
+        is-after a = a
+
+    pub cells-first : (st : List ℤ) → slicedCells s e (chartVariables c .count) (chartVariables c .first) (firstCell s e) st ≡ slicedCells s e (chartVariables c .count - 0) (own 0) (begins 0) st
+    cells-first st = let q : chartVariables c .count - 0 ≡ chartVariables c .count = omega arith in let a : own 0 ≡ chartVariables c .first = omega arith in let b : begins 0 ≡ firstCell s e = omega (arith, cells-none s c) in rw (q, a, b) refl
+
+    pub pass-first : (st : List ℤ) → Cells s e c st → After s (cellAt (begins 0)) st st
+    pass-first st k = after-none (cellAt (begins 0)) st (k .whole) (k .head)
+
+    -- variable j, at its turn; the element's cells were as `old` has them before the pass
+    module _ (old : List ℤ) (k : Cells s e c old) (j : ℕ) (l : j < chartVariables c .count) where
+      own-cells : begins j + cellsTaken s (own j) ≤ cellsOf s
+      own-cells = omega (arith, k .inside, variable-cells s c j (chartVariables c .count) l)
+
+      pub cells-here : (st : List ℤ) → slicedCells s e (chartVariables c .count - j) (own j) (begins j) st ≡ thenSlice (slicedCell s e (typeAt s (own j)) (cellAt (begins j)) st) (slicedCells s e (chartVariables c .count - (j + 1)) (own (j + 1)) (begins (j + 1)))
+      cells-here st =
+          let n : ℕ = chartVariables c .count in
+          let q : n - j ≡ suc (n - (j + 1)) = omega arith in
+          let a : suc (own j) ≡ own (j + 1) = omega arith in
+          let b : begins j + cellsTaken s (own j) ≡ begins (j + 1) = rw add-one (begins-next j) in
+          (rw (a, b) at (cells-next-variable e (n - (j + 1)) (n - j) (own j) (begins j) st q)) ∙ ap (λ (r : Changed). thenSlice r (slicedCells s e (n - (j + 1)) (own (j + 1)) (begins (j + 1)))) (sliced-variable s e (own j) (begins j) st (k .declared j l) ∙ variable-cell e (typeAt s (own j)) (cellsTaken s (own j)) (begins j) st (k .plain j))
+
+      pub pass-next : (st st′ : List ℤ) → After s (cellAt (begins j)) old st → slicedCell s e (typeAt s (own j)) (cellAt (begins j)) st ≡ on st′ → After s (cellAt (begins (j + 1))) old st′
+      pass-next st st′ a q =
+          let b : begins j + cellsTaken s (own j) ≡ begins (j + 1) = rw add-one (begins-next j) in
+          let f : slicedEach s e (typeAt s (own j)) (cellsTaken s (own j)) (begins j) st ≡ on st′ = variable-cell e (typeAt s (own j)) (cellsTaken s (own j)) (begins j) st (k .plain j) ∙ q in
+          after-more (cellAt (begins j)) (cellAt (begins (j + 1))) old st st′ (cell-rises _ _ (omega arith)) a (is-after (rw (f, b) at (each-onward e (typeAt s (own j)) (cellsTaken s (own j)) (begins j) st (a .whole) (a .head) own-cells)))
+        where
+          is-after : Onward s (cellAt (begins (j + 1))) st (on st′) → After s (cellAt (begins (j + 1))) st st′
+          is-after a = a
+
+      pub cell-now : (st : List ℤ) → After s (cellAt (begins j)) old st → Cell s e (typeAt s (own j)) st (begins j)
+      cell-now st a = record {
+        whole = a .whole;
+        head = a .head;
+        inside = omega (arith, own-cells);
+        clock = λ q. let inside : begins j < cellsOf s = omega (arith, own-cells, k .plain j q) in (inside, same-fits e (typeAt s (own j)) (begins j) old st inside a (k .clocks j l q));
+      }
 
 -- ---- the pass over the elements
 
@@ -216,34 +283,50 @@ module _ (s : List ℕ) where
   pub from-first : (n e : ℕ) (st : List ℤ) → slicedFrom s n e st ≡ slicedFrom s (n - 0) (e + 0) st
   from-first n e st = let q : n - 0 ≡ n = omega arith in let a : e + 0 ≡ e = omega arith in rw (q, a) refl
 
-  pub after-first : (st : List ℤ) → OfSheet s st → After s (cellAt 0) st st
-  after-first st o = after-none s (cellAt 0) st (o .whole) (is-counted s st o)
-
-  pub first-number : (i cell : ℕ) → cell ≡ sumBelow i (variablesBound s) → firstCell s (externalsOf s + i) ≡ cell
-  unfolding firstCell
-  first-number i cell q = let a : externalsOf s + i - externalsOf s ≡ i = omega arith in rw a (sym q)
+  pub after-first : (from : ℕ) (st : List ℤ) → OfSheet s st → After s from st st
+  after-first from st o = after-none s from st (o .whole) (is-counted s st o)
 
   -- element number i, whose number is read from the head
-  module _ (x i cell : ℕ) (c : Record) (head : x ≡ externalsOf s) (p : chartOf s (externalsOf s + i) ≡ Present c) (q : cell ≡ sumBelow i (variablesBound s)) where
-    pub from-here : (n : ℕ) (st : List ℤ) → i < n → slicedFrom s (n - i) (externalsOf s + i) st ≡ thenSlice (slicedCells s (x + i) (chartVariables c .count) (chartVariables c .first) cell st) (slicedFrom s (n - (i + 1)) (externalsOf s + (i + 1)))
+  module _ (x i : ℕ) (c : Record) (head : x ≡ externalsOf s) (p : chartOf s (externalsOf s + i) ≡ Present c) where
+    first-next : firstCell s (externalsOf s + i) + cellsBefore s c (chartVariables c .count) ≡ firstCell s (externalsOf s + (i + 1))
+    unfolding firstCell
+    first-next =
+        let a : externalsOf s + i - externalsOf s ≡ i = omega arith in
+        let b : externalsOf s + (i + 1) - externalsOf s ≡ i + 1 = omega arith in
+        let n : cellsBound s i ≡ cellsBefore s c (chartVariables c .count) = rw a at (element-count s (externalsOf s + i) c p) in
+        rw (a, b) (omega (arith, sum-more i (cellsBound s)))
+
+    pub from-here : (n : ℕ) (st : List ℤ) → i < n → slicedFrom s (n - i) (externalsOf s + i) st ≡ thenSlice (slicedCells s (x + i) (chartVariables c .count) (chartVariables c .first) (firstCell s (x + i)) st) (slicedFrom s (n - (i + 1)) (externalsOf s + (i + 1)))
     unfolding slicedElement
     from-here n st l =
         let f : n - i ≡ suc (n - (i + 1)) = omega arith in
         let a : suc (externalsOf s + i) ≡ externalsOf s + (i + 1) = omega arith in
-        let own : slicedElement s (externalsOf s + i) st ≡ slicedCells s (x + i) (chartVariables c .count) (chartVariables c .first) cell st = rw (slicedElement, p, first-number i cell q, head) refl in
+        let own : slicedElement s (externalsOf s + i) st ≡ slicedCells s (x + i) (chartVariables c .count) (chartVariables c .first) (firstCell s (x + i)) st = rw (slicedElement, p, head) refl in
         (rw a at (from-next (n - (i + 1)) (n - i) (externalsOf s + i) st f)) ∙ ap (λ (r : Changed). thenSlice r (slicedFrom s (n - (i + 1)) (externalsOf s + (i + 1)))) own
 
     -- its cells hold what they held
-    pub element-now : checkOf s ≡ Passed → (old st : List ℤ) → OfSheet s old → cell + chartVariables c .count ≤ variablesOf s → After s (cellAt cell) old st → Cells s (x + i) c st cell
-    unfolding cellAt
-    element-now ok old st o l a = rw head (record {
-      whole = a .whole;
-      head = a .head;
-      inside = l;
-      declared = element-declared s ok (externalsOf s + i) c p;
-      fits = λ j m. same-fits s (externalsOf s + i) _ (cell + j) old st (omega arith) (record { whole = a .whole; head = a .head; later = λ k n b. a .later k (omega arith) b }) (rw (first-number i cell q) at (cell-of s old o (externalsOf s + i) c p j m));
-    })
+    pub element-now : checkOf s ≡ Passed → (old st : List ℤ) → OfSheet s old → After s (cellAt (firstCell s (externalsOf s + i))) old st → Cells s (x + i) c st
+    unfolding cellOf
+    element-now ok old st o a =
+        let e : ℕ = externalsOf s + i in
+        let plain : (j : ℕ) → isClock (typeAt s (chartVariables c .first + j)) ≡ true → cellsTaken s (chartVariables c .first + j) ≡ 1 = λ j q. plain-cell s (chartVariables c .first + j) (clock-plain s ok (chartVariables c .first + j) q) in
+        rw head (record {
+          whole = a .whole;
+          head = a .head;
+          inside = element-cells s e c p;
+          declared = element-declared s ok e c p;
+          plain = plain;
+          clocks = λ j m q.
+              let b : firstCell s e + cellsBefore s c j + 0 ≡ firstCell s e + cellsBefore s c j = omega arith in
+              let here : 0 < cellsTaken s (chartVariables c .first + j) = omega (arith, plain j q) in
+              same-fits s e _ (firstCell s e + cellsBefore s c j) old st (omega (arith, cell-below s e c p j 0 m here)) (record { whole = a .whole; head = a .head; later = λ k n r. a .later k (omega (arith, cell-rises s (firstCell s e) (firstCell s e + cellsBefore s c j) (omega arith))) r }) (rw b at (cell-of s old o e c p j m 0 here));
+        })
 
-  pub element-next : (e n d cell : ℕ) (old st st′ : List ℤ) → cell + n ≤ variablesOf s → After s (cellAt cell) old st → slicedCells s e n d cell st ≡ on st′ → After s (cellAt (cell + n)) old st′
-  unfolding cellAt
-  element-next e n d cell old st st′ l a q = after-more s (cellAt cell) (cellAt (cell + n)) old st st′ (omega arith) a (cells-after s e n d cell st st′ (a .whole) (a .head) l q)
+    pub element-next : (old st st′ : List ℤ) → After s (cellAt (firstCell s (externalsOf s + i))) old st → slicedCells s (x + i) (chartVariables c .count) (chartVariables c .first) (firstCell s (x + i)) st ≡ on st′ → After s (cellAt (firstCell s (externalsOf s + (i + 1)))) old st′
+    element-next old st st′ a q =
+        let q′ : slicedCells s (externalsOf s + i) (chartVariables c .count) (chartVariables c .first) (firstCell s (externalsOf s + i)) st ≡ on st′ = rw head at q in
+        rw (sym first-next) (after-more s _ _ old st st′ (cell-rises s _ _ (omega arith)) a (cells-after s (externalsOf s + i) c st st′ (a .whole) (a .head) (element-cells s (externalsOf s + i) c p) q′))
+
+    -- what the table has of it
+    pub element-row : (t : List ℕ) → CellTable s t → (n : ℕ) → n ≤ chartVariables c .count → getD t (33 * i + n) 0 ≡ firstCell s (x + i) + cellsBefore s c n
+    element-row t h n l = let a : externalsOf s + i - externalsOf s ≡ i = omega arith in rw head (rw a at (h .right (externalsOf s + i) c p n l))

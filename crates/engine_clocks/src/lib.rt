@@ -2,15 +2,20 @@
 use sheet::Found;
 use sheet::Record;
 ghost use mathlib.Core.Path.{_≡_};
-ghost use Prim.Native.Nat.{_+_, _<_, _≤_};
+ghost use Prim.Native.Nat.{ℕ, _+_, _<_, _≤_};
+ghost use lib.ListN.{getD};
 ghost use Rattle.sheet.specs.Names.{bindings, chartVariables};
 ghost use Rattle.sheet.specs.Sheet.{directoryOf, countOf};
 ghost use Rattle.sheet_rules.specs.declared.Checked.the-variants.{Passed};
 ghost use Rattle.sheet_rules.specs.Fields.{typeAt, externalsOf};
+ghost use Rattle.sheet_rules.specs.Indices.{cellsBefore};
+ghost use Rattle.sheet_rules.specs.Shape.{cellsOf};
 ghost use Rattle.sheet_rules.specs.Check.{checkOf};
+ghost use Rattle.machine.specs.Values.{firstCell};
 ghost use Rattle.machine.specs.State.{cellAt};
 ghost use Rattle.machine.specs.Valid.{OfSheet};
 ghost use Rattle.machine.specs.Play.{slicedCell, slicedCells, slicedFrom};
+ghost use Rattle.engine_cells.specs.Cells.{CellTable};
 ghost use Rattle.engine_queue.specs.Changed.{changedTo};
 ghost use Rattle.engine_clocks.specs.Cells.{Cell, Cells};
 
@@ -23,7 +28,7 @@ fn slice_cell(
     d: usize,
     i: usize,
 ) -> u8
-    requires { ⌜ (now directory ≡ directoryOf (now sheet)) × (e < 64) × (i < 512) × Cell (now sheet) e (typeAt (now sheet) d) (now st) i ⌝ }
+    requires { ⌜ (now directory ≡ directoryOf (now sheet)) × (e < 64) × (cellsOf (now sheet) ≤ 512) × Cell (now sheet) e (typeAt (now sheet) d) (now st) i ⌝ }
     ensures { λ n. ⌜ slicedCell (now (sheet .entry)) e (typeAt (now (sheet .entry)) d) (cellAt i) (now (st .entry)) ≡ changedTo n (now (st .exit)) ⌝ }
 {
     let at = 8 + 8 * i;
@@ -43,22 +48,24 @@ fn slice_cell(
     0
 }
 
-// The clocks of element e, whose first cell is given.
+// The clocks of element e, whose variables' cells stand in the table from `row` on. Each variable is
+// looked at by its first cell alone: an array has no clocks, and its cells are passed over.
 fn slice_cells(
     sheet: &[u8],
     directory: &[usize; 16],
+    cells: &[usize; 2112],
     st: &mut [i32],
     e: usize,
     c: Record,
-    cell: usize,
+    row: usize,
 ) -> u8
-    requires { ⌜ (now directory ≡ directoryOf (now sheet)) × (e < 64) × (cell + chartVariables c .count ≤ 512) × Cells (now sheet) e c (now st) cell ⌝ }
-    ensures { λ n. ⌜ slicedCells (now (sheet .entry)) e (chartVariables c .count) (chartVariables c .first) cell (now (st .entry)) ≡ changedTo n (now (st .exit)) ⌝ }
+    requires { ⌜ (now directory ≡ directoryOf (now sheet)) × (e < 64) × (row + chartVariables c .count ≤ 2112) × (cellsOf (now sheet) ≤ 512) × Cells (now sheet) e c (now st) × ((n : ℕ) → n ≤ chartVariables c .count → getD (now cells) (row + n) 0 ≡ firstCell (now sheet) e + cellsBefore (now sheet) c n) ⌝ }
+    ensures { λ n. ⌜ slicedCells (now (sheet .entry)) e (chartVariables c .count) (chartVariables c .first) (firstCell (now (sheet .entry)) e) (now (st .entry)) ≡ changedTo n (now (st .exit)) ⌝ }
 {
     let count = c.f3 as usize;
     let mut j: usize = 0;
     while j < count {
-        let n = slice_cell(sheet, directory, st, e, c.f2 as usize + j, cell + j);
+        let n = slice_cell(sheet, directory, st, e, c.f2 as usize + j, cells[row + j]);
         if n != 0 {
             return n;
         }
@@ -68,23 +75,21 @@ fn slice_cells(
 }
 
 // A slice: 0 with the state after it, or 6 or 8 with a state that is of no use.
-pub fn slice(sheet: &[u8], directory: &[usize; 16], st: &mut [i32]) -> u8
-    requires { ⌜ (now directory ≡ directoryOf (now sheet)) × (checkOf (now sheet) ≡ Passed) × OfSheet (now sheet) (now st) ⌝ }
+pub fn slice(sheet: &[u8], directory: &[usize; 16], cells: &[usize; 2112], st: &mut [i32]) -> u8
+    requires { ⌜ (now directory ≡ directoryOf (now sheet)) × (checkOf (now sheet) ≡ Passed) × CellTable (now sheet) (now cells) × OfSheet (now sheet) (now st) ⌝ }
     ensures { λ n. ⌜ slicedFrom (now (sheet .entry)) (countOf (now (sheet .entry)) bindings) (externalsOf (now (sheet .entry))) (now (st .entry)) ≡ changedTo n (now (st .exit)) ⌝ }
 {
     let first = sheet_fields::field_at(sheet, directory, 0, 0, 1);
     let count = sheet_reader::count_in(directory, 7);
-    let mut cell: usize = 0;
     let mut i: usize = 0;
     while i < count {
-        let Found::Present(c) = engine_defaults::chart_bound(sheet, directory, i) else {
+        let Found::Present(c) = engine_cells::chart_bound(sheet, directory, i) else {
             return 4;
         };
-        let n = slice_cells(sheet, directory, st, first + i, c, cell);
+        let n = slice_cells(sheet, directory, cells, st, first + i, c, 33 * i);
         if n != 0 {
             return n;
         }
-        cell += c.f3 as usize;
         i += 1;
     }
     0

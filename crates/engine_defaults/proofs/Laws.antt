@@ -9,18 +9,15 @@ use lib.Seq.{ext-getD, getD-set-same, getD-set-other}
 use lib.IntN.{ℤ, pos}
 use borrow.Author.Tests.{lt-ltb, le-ltb, eq-eqb, ne-eqb}
 use Rattle.sheet.specs.declared.Record.{Record}
-use Rattle.sheet.specs.declared.Found.the-variants.{Present, Absent}
 use Rattle.sheet.specs.Table.{lookUp}
 use Rattle.sheet.specs.Names.{head, stepLimit}
 use Rattle.sheet.specs.Sheet.{recordOf}
-use Rattle.sheet_rules.specs.Fields.{fieldOf, fieldAt, numberOr0, sumBelow, typeAt, externalsOf}
+use Rattle.sheet_rules.specs.Fields.{fieldOf, fieldAt, numberOr0, typeAt}
 use Rattle.sheet_rules.specs.DataTypes.{dataTypeOf}
 use Rattle.sheet_rules.proofs.DataTypes.{type-no-data, type-enumerated}
-use Rattle.sheet_rules.specs.Shape.{variablesBound}
-use Rattle.machine.specs.Values.{defaultIn, defaultOf, firstCell}
+use Rattle.machine.specs.Values.{defaultIn, defaultOf}
 use Rattle.machine.specs.Run.{localAt, listFrom, localsOf}
 use Rattle.machine.specs.Play.{limitOf}
-use Rattle.engine_defaults.specs.Bound.{chartBound}
 
 -- ---- defaults
 
@@ -91,20 +88,6 @@ module _ (s : List ℕ) (b : Record) (zs : List ℤ) where
         | yes q ↦ h .done k q
         | no q ↦ h .rest k (omega arith) n ∙ local-none k (omega arith)
       ]
-
--- ---- the charts of elements, and where their cells begin
-
-pub chart-absent : (s : List ℕ) (i : ℕ) → recordOf s 7 i ≡ Absent → Absent ≡ chartBound s i
-unfolding chartBound
-chart-absent s i e = rw (chartBound, e) refl
-
-pub chart-present : (s : List ℕ) (i : ℕ) (b : Record) → recordOf s 7 i ≡ Present b → recordOf s 4 (b .f0) ≡ chartBound s i
-unfolding chartBound
-chart-present s i b e = rw (chartBound, e) refl
-
-pub first-is : (s : List ℕ) (e first i sum : ℕ) → first ≡ fieldAt s 0 0 1 → e ≤ first + i → i ≤ e - first → sum ≡ sumBelow i (variablesBound s) → sum ≡ firstCell s e
-unfolding firstCell externalsOf fieldAt fieldOf
-first-is s e first i sum f l m h = let q : e - externalsOf s ≡ i = omega arith in rw q h
 
 -- ---- the limit
 

@@ -1,22 +1,22 @@
-// What runs begin with: default values, a body's fresh variables, the state of start; and numbers of
-// the sheet that each run needs: its limit, where an element's cells begin.
+// What runs begin with: default values, a body's fresh variables, the state of start; and the limit
+// that each run needs.
 use sheet::Found;
 use sheet::Record;
 ghost use mathlib.Core.Path.{_≡_};
-ghost use mathlib.Core.List.{List, _++_};
+ghost use mathlib.Core.List.{List, _∷_, _++_};
 ghost use Prim.Native.Nat.{ℕ, _+_, _*_, _<_, _≤_};
-ghost use lib.ListN.{length};
-ghost use lib.IntN.{ℤ};
+ghost use lib.ListN.{length, replicate};
+ghost use lib.IntN.{ℤ, pos};
 ghost use Rattle.sheet.specs.Sheet.{directoryOf};
 ghost use Rattle.sheet.specs.Names.{chartVariables, bodyParameters, bodyLocals};
 ghost use Rattle.sheet_rules.specs.declared.Checked.the-variants.{Passed};
-ghost use Rattle.machine.specs.Values.{defaultOf, firstCell};
+ghost use Rattle.sheet_rules.specs.Indices.{cellsBefore};
+ghost use Rattle.machine.specs.Values.{defaultOf};
 ghost use Rattle.machine.specs.Run.{localAt, localsOf};
 ghost use Rattle.machine.specs.State.{cellAt, stateLength};
-ghost use Rattle.machine.specs.Play.{limitOf, defaultCells, defaultState};
+ghost use Rattle.machine.specs.Play.{limitOf, alike, defaultCells, defaultState};
 ghost use Rattle.sheet_rules.specs.Check.{checkOf};
 ghost use Rattle.engine_defaults.specs.Blank.{Blank};
-ghost use Rattle.engine_defaults.specs.Bound.{chartBound};
 
 // "Defaults: false, 0, Log, log, the declared member, a stopped clock"
 fn default_of(sheet: &[u8], directory: &[usize; 16], t: usize) -> i32
@@ -58,32 +58,6 @@ pub fn fresh_locals(sheet: &[u8], directory: &[usize; 16], b: Record, d: &[i32; 
     locals
 }
 
-// The chart that a binding names.
-pub fn chart_bound(sheet: &[u8], directory: &[usize; 16], i: usize) -> Found
-    requires { ⌜ now directory ≡ directoryOf (now sheet) ⌝ }
-    ensures { λ c. ⌜ c ≡ chartBound (now (sheet .entry)) i ⌝ }
-{
-    let Found::Present(b) = sheet_reader::read(sheet, directory, 7, i) else {
-        return Found::Absent;
-    };
-    sheet_reader::read(sheet, directory, 4, b.f0 as usize)
-}
-
-// The cell of an element's first variable. A sheet has at most 64 components.
-pub fn first_cell(sheet: &[u8], directory: &[usize; 16], e: usize) -> usize
-    requires { ⌜ (now directory ≡ directoryOf (now sheet)) × (e ≤ 64) ⌝ }
-    ensures { λ n. ⌜ n ≡ firstCell (now (sheet .entry)) e ⌝ }
-{
-    let first = sheet_fields::field_at(sheet, directory, 0, 0, 1);
-    let mut sum: usize = 0;
-    let mut i: usize = 0;
-    while first + i < e {
-        sum += sheet_elements::variables_bound(sheet, directory, i);
-        i += 1;
-    }
-    sum
-}
-
 // "f3 step limit (0 means 10,000)", which is a 16-bit number.
 pub fn limit(sheet: &[u8], directory: &[usize; 16]) -> u32
     requires { ⌜ now directory ≡ directoryOf (now sheet) ⌝ }
@@ -96,19 +70,45 @@ pub fn limit(sheet: &[u8], directory: &[usize; 16]) -> u32
     steps as u32
 }
 
-// The default cells of a chart's variables, from a cell on.
-fn default_cells(sheet: &[u8], directory: &[usize; 16], st: &mut [i32], c: Record, cell: usize)
-    requires { ⌜ (now directory ≡ directoryOf (now sheet)) × (cell + chartVariables c .count ≤ 512) × (cellAt (cell + chartVariables c .count) ≤ length (now st)) ⌝ }
-    ensures { λ _. ⌜ ((done : List ℤ) (m : ℕ) → Blank (now (st .entry)) done cell (8 * chartVariables c .count + m) → Blank (now (st .exit)) (done ++ defaultCells (now (sheet .entry)) (chartVariables c .count) (chartVariables c .first)) (cell + chartVariables c .count) m) ⌝ }
+// n cells alike, from a cell on: word z and seven zeros each. Where z is 0 they are so already.
+fn cells_alike(st: &mut [i32], cell: usize, n: usize, z: i32)
+    requires { ⌜ (cell + n ≤ 512) × (cellAt (cell + n) ≤ length (now st)) ⌝ }
+    ensures { λ _. ⌜ ((done : List ℤ) (m : ℕ) → Blank (now (st .entry)) done cell (8 * n + m) → Blank (now (st .exit)) (done ++ alike n (z ∷ replicate 7 (pos 0))) (cell + n) m) ⌝ }
+{
+    if z == 0 {
+        return;
+    }
+    let mut k: usize = 0;
+    while k < n {
+        st[8 + 8 * (cell + k)] = z;
+        k += 1;
+    }
+}
+
+// The default cells of a chart's variables, from a cell on, and the cell behind them.
+fn default_cells(
+    sheet: &[u8],
+    directory: &[usize; 16],
+    st: &mut [i32],
+    c: Record,
+    cell: usize,
+) -> usize
+    requires { ⌜ (now directory ≡ directoryOf (now sheet)) × (cell + cellsBefore (now sheet) c (chartVariables c .count) ≤ 512) × (cellAt (cell + cellsBefore (now sheet) c (chartVariables c .count)) ≤ length (now st)) ⌝ }
+    ensures { λ n. ⌜ (n ≡ cell + cellsBefore (now (sheet .entry)) c (chartVariables c .count)) × ((done : List ℤ) (m : ℕ) → Blank (now (st .entry)) done cell (8 * cellsBefore (now (sheet .entry)) c (chartVariables c .count) + m) → Blank (now (st .exit)) (done ++ defaultCells (now (sheet .entry)) (chartVariables c .count) (chartVariables c .first)) (cell + cellsBefore (now (sheet .entry)) c (chartVariables c .count)) m) ⌝ }
 {
     let count = c.f3 as usize;
+    let mut next = cell;
     let mut j: usize = 0;
     while j < count {
-        let t = sheet_types::type_at(sheet, directory, c.f2 as usize + j);
+        let d = c.f2 as usize + j;
+        let t = sheet_types::type_at(sheet, directory, d);
         let z = default_of(sheet, directory, t);
-        st[8 + 8 * (cell + j)] = z;
+        let taken = sheet_indices::cells_taken(sheet, directory, d);
+        cells_alike(st, next, taken, z);
+        next += taken;
         j += 1;
     }
+    next
 }
 
 // "all defaults, nothing waiting"
@@ -121,11 +121,10 @@ pub fn default_state(sheet: &[u8], directory: &[usize; 16], st: &mut [i32])
     let mut cell: usize = 0;
     let mut i: usize = 0;
     while i < count {
-        let Found::Present(c) = chart_bound(sheet, directory, i) else {
+        let Found::Present(c) = engine_cells::chart_bound(sheet, directory, i) else {
             return;
         };
-        default_cells(sheet, directory, st, c, cell);
-        cell += c.f3 as usize;
+        cell = default_cells(sheet, directory, st, c, cell);
         i += 1;
     }
 }

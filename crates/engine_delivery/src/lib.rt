@@ -16,16 +16,18 @@ ghost use Rattle.machine.specs.Values.{isBelow, isBound};
 ghost use Rattle.machine.specs.Valid.{isInternal, telegramFits};
 ghost use Rattle.machine.specs.Play.{ended, answer, elementBody, reacting, panicking, delivered};
 ghost use Rattle.machine_events.specs.Playing.{Playing};
+ghost use Rattle.engine_cells.specs.Cells.{CellTable};
 
 // The panic body of element e, whose chart is c.
 pub fn panicked(
     sheet: &[u8],
     directory: &[usize; 16],
+    cells: &[usize; 2112],
     old: &[i32],
     st: &mut [i32],
     e: usize,
 ) -> Answer
-    requires { ⌜ Playing (now sheet) (now directory) (now st) × (length (now old) ≡ length (now st)) × (isBound (now sheet) e ≡ true) ⌝ }
+    requires { ⌜ Playing (now sheet) (now directory) (now st) × (length (now old) ≡ length (now st)) × (isBound (now sheet) e ≡ true) × CellTable (now sheet) (now cells) ⌝ }
     ensures { λ a. ⌜ ended a (now (st .exit)) ≡ panicking (now (sheet .entry)) (now (old .entry)) e (now (st .entry)) ⌝ }
 {
     let Found::Present(c) = engine_valid_values::chart_of(sheet, directory, e) else {
@@ -33,18 +35,28 @@ pub fn panicked(
     };
     let j = engine_finders::with_role(sheet, directory, c, 1);
     let none = [0i32; 4];
-    engine_bodies::event_body(sheet, directory, old, st, e, c.f4 as usize + j, &none)
+    engine_bodies::event_body(
+        sheet,
+        directory,
+        cells,
+        old,
+        st,
+        e,
+        c.f4 as usize + j,
+        &none,
+    )
 }
 
 // A telegram that was removed reaches a bound element.
 fn received(
     sheet: &[u8],
     directory: &[usize; 16],
+    cells: &[usize; 2112],
     old: &[i32],
     st: &mut [i32],
     t: Telegram,
 ) -> Answer
-    requires { ⌜ Playing (now sheet) (now directory) (now st) × (length (now old) ≡ length (now st)) × (telegramFits (now sheet) t ≡ true) × (isInternal t ≡ false) × (isBelow (t .receiver) (externalsOf (now sheet)) ≡ false) ⌝ }
+    requires { ⌜ Playing (now sheet) (now directory) (now st) × (length (now old) ≡ length (now st)) × (telegramFits (now sheet) t ≡ true) × (isInternal t ≡ false) × (isBelow (t .receiver) (externalsOf (now sheet)) ≡ false) × CellTable (now sheet) (now cells) ⌝ }
     ensures { λ a. ⌜ ended a (now (st .exit)) ≡ delivered (now (sheet .entry)) (now (old .entry)) t (now (st .entry)) ⌝ }
 {
     let e = engine_valid_words::number(t.receiver);
@@ -60,9 +72,18 @@ fn received(
     );
     if j < c.f5 as usize {
         let brought = [t.d0, t.d1, t.d2, t.d3];
-        return engine_bodies::event_body(sheet, directory, old, st, e, c.f4 as usize + j, &brought);
+        return engine_bodies::event_body(
+            sheet,
+            directory,
+            cells,
+            old,
+            st,
+            e,
+            c.f4 as usize + j,
+            &brought,
+        );
     }
-    panicked(sheet, directory, old, st, e)
+    panicked(sheet, directory, cells, old, st, e)
 }
 
 // Handed outside: no body runs.
@@ -81,28 +102,30 @@ fn handed(t: Telegram) -> Answer
 pub fn delivers(
     sheet: &[u8],
     directory: &[usize; 16],
+    cells: &[usize; 2112],
     old: &[i32],
     st: &mut [i32],
     t: Telegram,
 ) -> Answer
-    requires { ⌜ Playing (now sheet) (now directory) (now st) × (length (now old) ≡ length (now st)) × (telegramFits (now sheet) t ≡ true) × (isInternal t ≡ false) ⌝ }
+    requires { ⌜ Playing (now sheet) (now directory) (now st) × (length (now old) ≡ length (now st)) × (telegramFits (now sheet) t ≡ true) × (isInternal t ≡ false) × CellTable (now sheet) (now cells) ⌝ }
     ensures { λ a. ⌜ ended a (now (st .exit)) ≡ delivered (now (sheet .entry)) (now (old .entry)) t (now (st .entry)) ⌝ }
 {
     if engine_valid_words::is_below(t.receiver, engine_valid_values::externals(sheet, directory)) {
         return handed(t);
     }
-    received(sheet, directory, old, st, t)
+    received(sheet, directory, cells, old, st, t)
 }
 
 // 4: an internal telegram that was removed: "its reaction runs"
 pub fn reacts(
     sheet: &[u8],
     directory: &[usize; 16],
+    cells: &[usize; 2112],
     old: &[i32],
     st: &mut [i32],
     t: Telegram,
 ) -> Answer
-    requires { ⌜ Playing (now sheet) (now directory) (now st) × (length (now old) ≡ length (now st)) × (telegramFits (now sheet) t ≡ true) × (isInternal t ≡ true) ⌝ }
+    requires { ⌜ Playing (now sheet) (now directory) (now st) × (length (now old) ≡ length (now st)) × (telegramFits (now sheet) t ≡ true) × (isInternal t ≡ true) × CellTable (now sheet) (now cells) ⌝ }
     ensures { λ a. ⌜ ended a (now (st .exit)) ≡ reacting (now (sheet .entry)) (now (old .entry)) (natAbs (t .receiver)) (elementBody (now (sheet .entry)) (natAbs (t .receiver)) (reactsTo (natAbs (t .name)))) t (now (st .entry)) ⌝ }
 {
     let e = engine_valid_words::number(t.receiver);
@@ -111,5 +134,14 @@ pub fn reacts(
     };
     let j = engine_finders::reaction_to(sheet, directory, c, engine_valid_words::number(t.name));
     let brought = [t.d0, t.d1, t.d2, t.d3];
-    engine_bodies::event_body(sheet, directory, old, st, e, c.f4 as usize + j, &brought)
+    engine_bodies::event_body(
+        sheet,
+        directory,
+        cells,
+        old,
+        st,
+        e,
+        c.f4 as usize + j,
+        &brought,
+    )
 }

@@ -1,30 +1,33 @@
--- The same laws in the code's terms: words found by the six numbers of a body, steps counted down.
+-- The same laws in the code's terms: words found by the numbers of a body, steps counted down.
 use Prim.Native.Nat.{ℕ, suc, _+_, _*_, _-_, _<_, _≤_}
-use mathlib.Core.Path.{_≡_, refl, sym, ap, subst, _∙_}
+use mathlib.Core.Path.{_≡_, refl, sym, ap, _∙_}
 use mathlib.Core.List.{List}
-use mathlib.Core.Bool.{Bool, true, false}
+use mathlib.Core.Bool.{Bool, true, false, not}
 use native.Mathlib.Omega.{arith}
 use lib.ListN.{length, getD}
-use lib.IntN.{ℤ, pos}
-use borrow.Author.Tests.{ltb-true}
+use lib.IntN.{ℤ, pos, natAbs}
+use borrow.Author.Tests.{ltb-true, not-true, not-false}
 use Rattle.sheet.specs.declared.Record.{Record}
 use Rattle.sheet.specs.declared.Found.{Found}
 use Rattle.sheet.specs.declared.Found.the-variants.{Present, Absent}
 use Rattle.sheet.specs.Names.{nodes, bindings, operator}
 use Rattle.sheet.specs.Sheet.{recordOf}
 use Rattle.sheet.proofs.All.{true-false, and-second}
+use Rattle.sheet.proofs.Table.{beyond}
 use Rattle.sheet_rules.specs.Fields.{fieldOf, componentsOf}
 use Rattle.sheet.specs.Table.{lookUp}
-use Rattle.sheet_rules.specs.Forms.{literal, read, unary, binary, clock, formOf}
+use Rattle.sheet_rules.specs.Forms.{literal, read, unary, binary, clock, readElement, formOf}
 use Rattle.sheet_rules.specs.Shape.{constantOf}
-use Rattle.machine.specs.Values.{isBound, firstCell}
+use Rattle.machine.specs.Values.{isBelow, isBound}
 use Rattle.machine.specs.State.{cellAt, wordOf}
 use Rattle.machine.specs.Eval.{literalValue, evalOf}
 use Rattle.machine_passed.proofs.Records.{one-record, components-limit}
 use Rattle.engine_ints.specs.declared.Work.{Work}
 use Rattle.engine_ints.specs.declared.Work.the-variants.{Word, Refused, Stuck}
 use Rattle.engine_ints.specs.Work.{workOf, thenWork, notWork, binaryWork}
-use Rattle.engine_ready.specs.Ready.{elementIn, firstCellIn, bindingIn, contextAt, Ready, IsExpression}
+use Rattle.engine_ready.specs.Ready.{elementIn, bindingIn, cellIn, contextAt, Ready, Reaches, IsExpression}
+use Rattle.engine_ready.specs.Words.{elementWork}
+use Rattle.engine_ready.proofs.Cells.{few-variables, reaches, reached-inside}
 use Rattle.engine_ready.proofs.Expressions as laws
 
 pub not-absent : (f : Found) (r : Record) → f ≡ Present r → f ≡ Absent → ⊥
@@ -38,9 +41,56 @@ pub form-read : (op : ℕ) → op ≡ 7 → formOf op ≡ read
 unfolding formOf lookUp
 form-read op e = ap formOf e
 
+-- past 6 and neither 7 nor 8
+pub from-9 : {op : ℕ} → 7 ≤ op → (op ≡ 7 → ⊥) → (op ≡ 8 → ⊥) → 9 ≤ op
+from-9 h a b = beyond (beyond h a) b
+
+pub form-element : (op : ℕ) → op ≡ 19 → formOf op ≡ readElement
+unfolding formOf lookUp
+form-element op e = ap formOf e
+
 pub form-unary : (op : ℕ) → op ≡ 8 → formOf op ≡ unary
 unfolding formOf lookUp
 form-unary op e = ap formOf e
+
+-- ---- what an operand gave
+
+module _ (x : Work) (K : ℤ → ℕ → Work) where
+  pub word-then : (z : ℤ) (l : ℕ) → x ≡ Word z l → K z l ≡ thenWork x K
+  unfolding thenWork
+  word-then z l e = sym (ap (λ x. thenWork x K) e)
+
+  pub refused-then : (k l : ℕ) → x ≡ Refused k l → Refused k l ≡ thenWork x K
+  unfolding thenWork
+  refused-then k l e = sym (ap (λ x. thenWork x K) e)
+
+  pub stuck-then : x ≡ Stuck → Stuck ≡ thenWork x K
+  unfolding thenWork
+  stuck-then e = sym (ap (λ x. thenWork x K) e)
+
+-- ---- an element at an index that was tested
+
+module _ (st : List ℤ) (a b : ℕ) (i : ℤ) (l : ℕ) (t : Bool) (test : t ≡ isBelow i (b - a)) where
+  pub outside-word : not t ≡ true → Refused 11 l ≡ elementWork st a b i l
+  unfolding elementWork
+  outside-word h = rw (elementWork, sym test ∙ not-true t h) refl
+
+  pub inside-below : not t ≡ false → isBelow i (b - a) ≡ true
+  inside-below h = sym test ∙ not-false t h
+
+  inside-word : not t ≡ false → Word (wordOf st (cellAt (a + natAbs i))) l ≡ elementWork st a b i l
+  unfolding elementWork
+  inside-word h = rw (elementWork, inside-below h) refl
+
+  -- by the number that the index is
+  pub inside-at : not t ≡ false → (k : ℕ) → k ≡ natAbs i → Word (getD st (8 + 8 * (a + k)) (pos 0)) l ≡ elementWork st a b i l
+  unfolding wordOf cellAt
+  inside-at h k e = ap (λ k. Word (getD st (8 + 8 * (a + k)) (pos 0)) l) e ∙ inside-word h
+
+-- its words lie in the state
+pub inside-here : (w : List ℕ) (st : List ℤ) (n : ℕ) → Reaches w st n → (i : ℤ) → isBelow i (cellIn w (n + 1) - cellIn w n) ≡ true → 8 + 8 * (cellIn w n + natAbs i) + 8 ≤ length st
+unfolding cellAt
+inside-here w st n h i b = reached-inside w st n h i b
 
 -- a visit takes one step
 pub visit : (s w : List ℕ) (st lo : List ℤ) (n l : ℕ) → (l ≡ 0 → ⊥) → (o : Work) → o ≡ workOf (evalOf s (contextAt s w) st lo n (suc (l - 1))) → o ≡ workOf (evalOf s (contextAt s w) st lo n l)
@@ -54,11 +104,6 @@ module _ (s w : List ℕ) (st lo : List ℤ) (ready : Ready s w st lo) where
   unfolding isBound contextAt
   element-low = let h : elementIn w < componentsOf s = ltb-true _ _ (and-second _ _ (ready .running .placed .element .bound)) in omega (arith, components-limit s (ready .running .passed))
 
-  -- the cell of the element's variable j
-  cell-at : (j : ℕ) → cellAt (firstCell s (contextAt s w .element) + j) ≡ 8 + 8 * (firstCellIn w + j)
-  unfolding cellAt contextAt
-  cell-at j = ap (λ c. 8 + 8 * (c + j)) (sym (ready .running .cell))
-
   module _ (n : ℕ) (r : Record) (there : recordOf s nodes n ≡ Present r) (e : IsExpression s w n) where
     abbrev given : ℕ → Work
     given l = workOf (evalOf s (contextAt s w) st lo n (suc l))
@@ -68,12 +113,11 @@ module _ (s w : List ℕ) (st lo : List ℤ) (ready : Ready s w st lo) where
     literal-at q l = sym (laws.literal-word s w st lo ready n r there e q l)
 
     module _ (q : formOf (operator r) ≡ read) where
-      pub variable-here : r .f1 ≡ 1 → 8 + 8 * (firstCellIn w + r .f2) + 8 ≤ length st
-      variable-here one = subst (λ k. k + 8 ≤ length st) (cell-at (r .f2)) (laws.variable-inside s w st lo ready n r there e q one)
+      pub variable-here : r .f1 ≡ 1 → (length w ≡ 38) × (r .f2 < 32) × (cellAt (cellIn w (r .f2)) + 0 < length st)
+      variable-here one = (ready .running .whole, omega (arith, laws.variable-below s w st lo ready n r there e q one, few-variables s w (ready .running)), omega (arith, laws.variable-inside s w st lo ready n r there e q one))
 
-      pub variable-at : r .f1 ≡ 1 → (l : ℕ) → Word (getD st (8 + 8 * (firstCellIn w + r .f2)) (pos 0)) l ≡ given l
-      unfolding wordOf
-      variable-at one l = sym (laws.variable-word s w st lo ready n r there e q one l ∙ ap (λ k. Word (wordOf st k) l) (cell-at (r .f2)))
+      pub variable-at : r .f1 ≡ 1 → (l : ℕ) → Word (wordOf st (cellAt (cellIn w (r .f2)) + 0)) l ≡ given l
+      variable-at one l = sym (laws.variable-word s w st lo ready n r there e q one l ∙ ap (λ k. Word (wordOf st k) l) (let k : cellAt (cellIn w (r .f2)) ≡ cellAt (cellIn w (r .f2)) + 0 = omega arith in k))
 
       pub local-at : r .f1 ≡ 2 → (l : ℕ) → Word (getD lo (r .f2) (pos 0)) l ≡ given l
       unfolding wordOf
@@ -92,18 +136,24 @@ module _ (s w : List ℕ) (st lo : List ℤ) (ready : Ready s w st lo) where
         constant-none h l = sym (laws.parameter-stuck s w st lo ready n r there e q none (sym constant ∙ h) l)
 
     module _ (q : formOf (operator r) ≡ clock) where
-      pub clock-here : 8 + 8 * (firstCellIn w + r .f1) + 8 ≤ length st
-      clock-here = subst (λ k. k + 8 ≤ length st) (cell-at (r .f1)) (laws.clock-in-state s w st lo ready n r there e q)
+      pub clock-here : (k : ℕ) → k < 8 → (length w ≡ 38) × (r .f1 < 32) × (cellAt (cellIn w (r .f1)) + k < length st)
+      clock-here k l = (ready .running .whole, omega (arith, laws.clock-inside s w st lo ready n r there e q, few-variables s w (ready .running)), omega (arith, laws.clock-in-state s w st lo ready n r there e q))
 
-      pub running-at : operator r ≡ 17 → (l : ℕ) → Word (getD st (8 + 8 * (firstCellIn w + r .f1)) (pos 0)) l ≡ given l
-      unfolding wordOf
-      running-at h l = sym (laws.running-word s w st lo ready n r there e q h l ∙ ap (λ k. Word (wordOf st k) l) (cell-at (r .f1)))
+      pub running-at : operator r ≡ 17 → (l : ℕ) → Word (wordOf st (cellAt (cellIn w (r .f1)) + 0)) l ≡ given l
+      running-at h l = sym (laws.running-word s w st lo ready n r there e q h l ∙ ap (λ k. Word (wordOf st k) l) (let k : cellAt (cellIn w (r .f1)) ≡ cellAt (cellIn w (r .f1)) + 0 = omega arith in k))
 
-      pub value-at : operator r ≡ 18 → (l : ℕ) → Word (getD st (9 + 8 * (firstCellIn w + r .f1)) (pos 0)) l ≡ given l
-      unfolding wordOf
-      value-at h l =
-          let next : cellAt (firstCell s (contextAt s w .element) + r .f1) + 1 ≡ 9 + 8 * (firstCellIn w + r .f1) = let k = cell-at (r .f1) in omega arith in
-          sym (laws.value-word s w st lo ready n r there e q (λ z. omega arith) l ∙ ap (λ k. Word (wordOf st k) l) next)
+      pub value-at : operator r ≡ 18 → (l : ℕ) → Word (wordOf st (cellAt (cellIn w (r .f1)) + 1)) l ≡ given l
+      value-at h l = sym (laws.value-word s w st lo ready n r there e q (λ z. omega arith) l)
+
+    module _ (q : formOf (operator r) ≡ readElement) where
+      pub index-at : (r .f2 < n) × IsExpression s w (r .f2)
+      index-at = (laws.index-low s w st lo ready n r there e q, laws.index-operand s w st lo ready n r there e q)
+
+      pub reaches-at : Reaches w st (r .f1)
+      reaches-at = reaches s w st lo ready (r .f1) (laws.element-below s w st lo ready n r there e q)
+
+      pub element-at : (l : ℕ) (y : Work) → y ≡ workOf (evalOf s (contextAt s w) st lo (r .f2) l) → thenWork y (elementWork st (cellIn w (r .f1)) (cellIn w (r .f1 + 1))) ≡ given l
+      element-at l y h = ap (λ o. thenWork o (elementWork st (cellIn w (r .f1)) (cellIn w (r .f1 + 1)))) h ∙ sym (laws.element-word s w st lo ready n r there e q l)
 
     pub not-at : formOf (operator r) ≡ unary → (l : ℕ) (y : Work) → y ≡ workOf (evalOf s (contextAt s w) st lo (r .f1) l) → thenWork y notWork ≡ given l
     not-at q l y h = ap (λ o. thenWork o notWork) h ∙ sym (laws.not-word s w st lo ready n r there e q l)

@@ -1,18 +1,21 @@
 // What an expression gives.
 use engine_ints::Work;
 use engine_ready::BINDING;
+use engine_ready::CELLS;
 use engine_ready::ELEMENT;
-use engine_ready::FIRST_CELL;
 use sheet::Found;
 use sheet::Record;
 ghost use mathlib.Core.Path.{_≡_};
-ghost use Prim.Native.Nat.{suc, _<_};
+ghost use Prim.Native.Nat.{suc, _+_, _<_};
+ghost use lib.ListN.{length};
 ghost use Rattle.sheet.specs.declared.Found.the-variants.{Present};
 ghost use Rattle.sheet.specs.Sheet.{directoryOf, recordOf};
 ghost use Rattle.sheet_rules.specs.Forms.{read, formOf};
+ghost use Rattle.machine.specs.State.{cellAt, wordOf};
 ghost use Rattle.machine.specs.Eval.{literalValue, evalOf};
 ghost use Rattle.engine_ints.specs.Work.{workOf, thenWork, binaryWork, notWork};
-ghost use Rattle.engine_ready.specs.Ready.{contextAt, Ready, IsExpression};
+ghost use Rattle.engine_ready.specs.Ready.{cellIn, contextAt, Ready, Reaches, IsExpression};
+ghost use Rattle.engine_ready.specs.Words.{elementWork};
 
 // The word that a literal writes down, in element e.
 fn literal(e: usize, r: Record) -> i32
@@ -51,11 +54,48 @@ fn combined(op: u16, a: i32, y: Work) -> Work
     }
 }
 
+// Word k in the cell of the element's plain variable n.
+fn cell_word(context: &[usize; 38], st: &[i32], n: usize, k: usize) -> i32
+    requires { ⌜ (length (now context) ≡ 38) × (n < 32) × (cellAt (cellIn (now context) n) + k < length (now st)) ⌝ }
+    ensures { λ z. ⌜ z ≡ wordOf (now (st .entry)) (cellAt (cellIn (now (context .entry)) n) + k) ⌝ }
+{
+    st[8 + 8 * context[CELLS + n] + k]
+}
+
+// The element of array n at index i; "11, index outside its number". An index of a data type is never
+// outside.
+fn element_at(context: &[usize; 38], st: &[i32], n: usize, i: i32, left: u32) -> Work
+    requires { ⌜ Reaches (now context) (now st) n ⌝ }
+    ensures { λ z. ⌜ z ≡ elementWork (now (st .entry)) (cellIn (now (context .entry)) n) (cellIn (now (context .entry)) (n + 1)) i left ⌝ }
+{
+    let first = context[CELLS + n];
+    let count = context[CELLS + (n + 1)] - first;
+    if !engine_valid_words::is_below(i, count) {
+        return Work::Refused { number: 11, left };
+    }
+    Work::Word {
+        word: st[8 + 8 * (first + engine_valid_words::number(i))],
+        left,
+    }
+}
+
+// The same, by what the index gives.
+fn element(context: &[usize; 38], st: &[i32], n: usize, x: Work) -> Work
+    requires { ⌜ Reaches (now context) (now st) n ⌝ }
+    ensures { λ z. ⌜ z ≡ thenWork x (elementWork (now (st .entry)) (cellIn (now (context .entry)) n) (cellIn (now (context .entry)) (n + 1))) ⌝ }
+{
+    match x {
+        Work::Word { word, left } => element_at(context, st, n, word, left),
+        Work::Refused { number, left } => Work::Refused { number, left },
+        Work::Stuck => Work::Stuck,
+    }
+}
+
 // A variable: place 0 the constant in the element's binding, 1 of the chart, 2 of the body.
 fn variable(
     sheet: &[u8],
     directory: &[usize; 16],
-    context: &[usize; 6],
+    context: &[usize; 38],
     st: &[i32],
     lo: &[i32; 16],
     n: usize,
@@ -86,7 +126,7 @@ fn variable(
             }
         }
         1 => Work::Word {
-            word: st[8 + 8 * (context[FIRST_CELL] + number)],
+            word: cell_word(context, st, number, 0),
             left,
         },
         2 => Work::Word {
@@ -101,7 +141,7 @@ fn variable(
 pub fn eval(
     sheet: &[u8],
     directory: &[usize; 16],
-    context: &[usize; 6],
+    context: &[usize; 38],
     st: &[i32],
     lo: &[i32; 16],
     n: usize,
@@ -142,13 +182,19 @@ pub fn eval(
         }
         // "17 gives the clock's running word, 18 its value"
         17 => Work::Word {
-            word: st[8 + 8 * (context[FIRST_CELL] + r.f1 as usize)],
+            word: cell_word(context, st, r.f1 as usize, 0),
             left: rest,
         },
         18 => Work::Word {
-            word: st[9 + 8 * (context[FIRST_CELL] + r.f1 as usize)],
+            word: cell_word(context, st, r.f1 as usize, 1),
             left: rest,
         },
+        19 => element(
+            context,
+            st,
+            r.f1 as usize,
+            eval(sheet, directory, context, st, lo, r.f2 as usize, rest),
+        ),
         _ => Work::Stuck,
     }
 }

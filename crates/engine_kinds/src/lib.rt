@@ -12,6 +12,7 @@ ghost use Rattle.machine.specs.State.{stateLength, wordOf};
 ghost use Rattle.machine.specs.Play.{ended, outside, slice, isEvent, telegramOfEvent, happens};
 ghost use Rattle.engine_queue.specs.Laid.{Laid};
 ghost use Rattle.machine_events.specs.Playing.{Playing};
+ghost use Rattle.engine_cells.specs.Cells.{CellTable};
 ghost use Rattle.machine_events.specs.Sought.{soughtAt, mayUndo};
 
 // 1: "external s sends to bound r on port p external name n; appended"
@@ -24,11 +25,17 @@ fn sent_outside(sheet: &[u8], directory: &[usize; 16], st: &mut [i32], ev: &[i32
 }
 
 // 5: "A refused Slice undoes all of it"
-fn sliced(sheet: &[u8], directory: &[usize; 16], old: &[i32], st: &mut [i32]) -> Answer
-    requires { ⌜ Playing (now sheet) (now directory) (now st) × (now old ≡ now st) ⌝ }
+fn sliced(
+    sheet: &[u8],
+    directory: &[usize; 16],
+    cells: &[usize; 2112],
+    old: &[i32],
+    st: &mut [i32],
+) -> Answer
+    requires { ⌜ Playing (now sheet) (now directory) (now st) × (now old ≡ now st) × CellTable (now sheet) (now cells) ⌝ }
     ensures { λ a. ⌜ ended a (now (st .exit)) ≡ slice (now (sheet .entry)) (now (old .entry)) ⌝ }
 {
-    let number = engine_clocks::slice(sheet, directory, st);
+    let number = engine_clocks::slice(sheet, directory, cells, st);
     if number == 0 {
         return answered(0, 0);
     }
@@ -83,12 +90,13 @@ pub fn may_undo(sheet: &[u8], directory: &[usize; 16], st: &[i32], ev: &[i32], j
 pub fn happened(
     sheet: &[u8],
     directory: &[usize; 16],
+    cells: &[usize; 2112],
     old: &[i32],
     st: &mut [i32],
     ev: &[i32],
     j: usize,
 ) -> Answer
-    requires { ⌜ Playing (now sheet) (now directory) (now st) × (isEvent (now sheet) (now ev) ≡ true) × (j ≡ soughtAt (now sheet) (now st) (now ev)) × (length (now old) ≡ length (now st)) × (mayUndo (now sheet) (now st) (now ev) ≡ true → now old ≡ now st) ⌝ }
+    requires { ⌜ Playing (now sheet) (now directory) (now st) × (isEvent (now sheet) (now ev) ≡ true) × (j ≡ soughtAt (now sheet) (now st) (now ev)) × (length (now old) ≡ length (now st)) × (mayUndo (now sheet) (now st) (now ev) ≡ true → now old ≡ now st) × CellTable (now sheet) (now cells) ⌝ }
     ensures { λ a. ⌜ ended a (now (st .exit)) ≡ happens (now (sheet .entry)) (now (st .entry)) (now (ev .entry)) ⌝ }
 {
     let kind = engine_valid_words::number_at(ev, 0);
@@ -96,7 +104,7 @@ pub fn happened(
         return sent_outside(sheet, directory, st, ev);
     }
     if kind == 5 {
-        return sliced(sheet, directory, old, st);
+        return sliced(sheet, directory, cells, old, st);
     }
     let count = engine_queue::waiting_count(st);
     if count <= j {
@@ -105,14 +113,15 @@ pub fn happened(
     let t = engine_queue::telegram_at(st, j);
     engine_queue::remove(st, j);
     match kind {
-        2 => engine_delivery::delivers(sheet, directory, old, st, t),
+        2 => engine_delivery::delivers(sheet, directory, cells, old, st, t),
         3 => engine_delivery::panicked(
             sheet,
             directory,
+            cells,
             old,
             st,
             engine_valid_words::number(t.receiver),
         ),
-        _ => engine_delivery::reacts(sheet, directory, old, st, t),
+        _ => engine_delivery::reacts(sheet, directory, cells, old, st, t),
     }
 }

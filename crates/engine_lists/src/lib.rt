@@ -10,6 +10,7 @@ ghost use Rattle.sheet_rules.specs.declared.Checked.the-variants.{Passed};
 ghost use Rattle.sheet_rules.specs.Check.{checkOf};
 ghost use Rattle.machine.specs.Lists.{eventsOf};
 ghost use Rattle.machine_events.specs.Playing.{Playing};
+ghost use Rattle.engine_cells.specs.Cells.{CellTable};
 ghost use Rattle.engine_answers.specs.Words.{eventsIn, written, inWords};
 ghost use Rattle.engine_lists.specs.ListCall.{listed, listCall};
 
@@ -19,12 +20,13 @@ ghost use Rattle.engine_lists.specs.ListCall.{listed, listCall};
 pub fn play_on(
     sheet: &[u8],
     directory: &[usize; 16],
+    cells: &[usize; 2112],
     events: &[i32],
     st: &mut [i32],
     spare: &mut [i32],
     answers: &mut [i32],
 )
-    requires { ⌜ Playing (now sheet) (now directory) (now st) × (length (now spare) ≡ length (now st)) × (length (now answers) ≡ 10 * (length (now events) / 9)) ⌝ }
+    requires { ⌜ Playing (now sheet) (now directory) (now st) × (length (now spare) ≡ length (now st)) × (length (now answers) ≡ 10 * (length (now events) / 9)) × CellTable (now sheet) (now cells) ⌝ }
     ensures { λ _. ⌜ Playing (now (sheet .entry)) (now (directory .entry)) (now (st .exit)) × (written (now (answers .exit)) (now (st .exit)) ≡ inWords (eventsOf (now (sheet .entry)) (now (st .entry)) (eventsIn (now (events .entry))))) ⌝ }
 {
     let count = events.len() / 9;
@@ -32,7 +34,7 @@ pub fn play_on(
     while i < count {
         let from = 9 * i;
         let to = from + 9;
-        let a = engine::next(sheet, directory, st, spare, &events[from..to]);
+        let a = engine::next(sheet, directory, cells, st, spare, &events[from..to]);
         engine_answers::put_answer(answers, 10 * i, a);
         i += 1;
     }
@@ -71,7 +73,9 @@ fn play_passed(
     requires { ⌜ (now directory ≡ directoryOf (now sheet)) × (checkOf (now sheet) ≡ Passed) ⌝ }
     ensures { λ a. ⌜ listed a (now (st .exit)) (now (answers .exit)) ≡ listCall (now (sheet .entry)) (now (events .entry)) (now (st .entry)) (now (spare .entry)) (now (answers .entry)) ⌝ }
 {
-    let length = engine_valid_state::state_length(sheet, directory);
+    let mut cells = [0usize; 2112];
+    let count = engine_cells::fill(sheet, directory, &mut cells);
+    let length = engine_valid_state::state_length(count);
     if st.len() != length {
         return answered(3, 0);
     }
@@ -84,9 +88,9 @@ fn play_passed(
     if answers.len() != 10 * (events.len() / 9) {
         return answered(4, 0);
     }
-    let a = engine::begin(sheet, directory, st);
+    let a = engine::begin(sheet, directory, &cells, st);
     if a.number == 0 {
-        play_on(sheet, directory, events, st, spare, answers);
+        play_on(sheet, directory, &cells, events, st, spare, answers);
     }
     a
 }

@@ -6,43 +6,47 @@ use mathlib.Core.Bool.{Bool, true, false}
 use native.Mathlib.Omega.{arith}
 use lib.ListN.{length}
 use lib.Dec.{ltb, eqb}
-use lib.IntN.{ℤ}
+use lib.IntN.{ℤ, natAbs}
 use borrow.Author.Tests.{ltb-true, lt-ltb, eq-eqb, ne-eqb}
 use Rattle.sheet.specs.declared.Record.{Record}
 use Rattle.sheet.specs.declared.Found.the-variants.{Present, Absent}
 use Rattle.sheet.specs.All.{_and_}
-use Rattle.sheet.specs.Names.{nodes, chartParameters, chartVariables, bodyParameters, bodyLocals, operator, isLiteral, Bool-type, Int-type}
+use Rattle.sheet.specs.Names.{nodes, chartParameters, chartVariables, bodyParameters, bodyLocals, operator, isLiteral, isClock, Bool-type, Int-type}
 use Rattle.sheet.specs.Sheet.{recordOf}
-use Rattle.sheet.proofs.All.{true-false, and-first, and-second, all-at}
+use Rattle.sheet.proofs.All.{true-false, and-first, and-second, and-true, all-at}
 use Rattle.machine.specs.declared.Value.{Value}
 use Rattle.machine.specs.declared.Out.{Out}
 use Rattle.machine.specs.declared.Out.the-variants as out
 use Rattle.sheet_rules.specs.declared.Typed.{Typed}
 use Rattle.sheet_rules.specs.declared.Typed.the-variants.{Expression}
 use Rattle.sheet_rules.specs.Fields.{fieldOf, typeAt}
-use Rattle.sheet_rules.specs.Forms.{Form, literal, read, unary, binary, clock, skip, assign, externalSend, internalSend, arm, clockAct, call, choice, loop, sequence, unknown, formOf, operandsIn, operandsOf, operandAt, operandCount, Binary, both, equal, less, plus, minus, times, div, modulo, binaryOf}
+use Rattle.sheet_rules.specs.Forms.{Form, literal, read, unary, binary, clock, readElement, skip, assign, externalSend, internalSend, arm, clockAct, call, choice, loop, sequence, assignElement, unknown, formOf, operandsIn, operandsOf, operandAt, operandCount, Binary, both, equal, less, plus, minus, times, div, modulo, binaryOf}
 use Rattle.sheet_rules.specs.Shape.{variablesAt, fieldsShape, treeShape, constantOf}
-use Rattle.sheet_rules.specs.Types.{variableAt, clockType, lowerType, typeIn, typeOf}
-use Rattle.machine.specs.Values.{isZero, inType, firstCell}
-use Rattle.machine.specs.State.{cellAt, wordOf}
-use Rattle.machine.specs.Eval.{andThen, needs, onRecord, val, boolWord, notVal, onInts, combined, binaryVal, literalValue, within, ofType, Context, parameterVal, variableAtCell, readAs, readVal, clockWord, clockVal, evalIn, evalOf}
+use Rattle.sheet_rules.specs.Indices.{indexAt, isPlain, cellsTaken}
+use Rattle.sheet_rules.specs.Types.{variableAt, readType, clockType, indexedBy, readElementType, lowerType, typeIn, typeOf}
+use Rattle.machine.specs.Values.{isBelow, isZero, inType}
+use Rattle.machine.specs.State.{cellAt, cellOf, wordOf}
+use Rattle.machine.specs.Eval.{andThen, needs, onRecord, val, boolWord, notVal, onInts, combined, binaryVal, literalValue, within, ofType, Context, parameterVal, variableAtCell, inside, outOfRange, reached, elementAs, elementVal, readAs, readVal, clockWord, clockVal, evalIn, evalOf}
 use Rattle.sheet_rules.proofs.Fields.{holds-present}
 use Rattle.sheet_rules.proofs.Forms.{isExpressionForm}
 use Rattle.sheet_rules.proofs.Types.{lower-type}
 use Rattle.machine_equations.proofs.Eval.{eval-none, eval-visit}
 use Rattle.machine_passed.specs.Places.{Placed, Cells}
 use Rattle.machine_passed.proofs.Charts.{element-chart}
-use Rattle.machine_passed.proofs.Declared.{declared-record, variable-declared}
+use Rattle.machine_passed.proofs.Declared.{declared-record, variable-declared, chart-variable-declared}
+use Rattle.machine_passed.proofs.Indices.{clock-plain}
 use Rattle.machine_states.proofs.Parts.{cell-of}
-use Rattle.machine_states.proofs.Kept.{cell-in-state}
 use Rattle.machine_sound.proofs.Locals.{few}
 use Rattle.machine_sound.specs.Gives.{Gives}
 use Rattle.machine_sound.proofs.Leaves.{Both, asked, not-gives, binary-gives}
-use Rattle.machine_sound.proofs.Eval.{on-present, few-parameters, clock-word, type-at, eval-gives}
+use Rattle.machine_sound.proofs.Eval.{on-present, few-parameters, clock-word, element-gives, type-at, eval-gives}
+use Rattle.machine_sound.proofs.Indices.{ranged, Indexed, array-index, array-leads, array-data}
 use Rattle.engine_ints.specs.declared.Work.{Work}
 use Rattle.engine_ints.specs.declared.Work.the-variants.{Word, Refused, Stuck}
 use Rattle.engine_ints.specs.Work.{workOf, thenWork, notWork, combinedWork, binaryWork}
-use Rattle.engine_ready.specs.Ready.{contextAt, Ready, IsExpression}
+use Rattle.engine_ready.specs.Ready.{cellIn, contextAt, Ready, IsExpression}
+use Rattle.engine_ready.specs.Words.{elementWork}
+use Rattle.engine_ready.proofs.Cells.{cell-is, plain-is, taken-is, plain-inside}
 
 -- a test that holds is passed
 needs-word : (b : Bool) (o : Out) (w : Work) → (b ≡ true → workOf o ≡ w) → (workOf (needs b o) ≡ Stuck → ⊥) → workOf (needs b o) ≡ w
@@ -113,7 +117,7 @@ module _ (s w : List ℕ) (st lo : List ℤ) (ready : Ready s w st lo) where
   placed = ready .running .placed
 
   pub cells : Cells s x st
-  cells j l = cell-of s st (ready .state) (x .element) (x .chart) (element-chart s (x .element) (x .binding) (x .chart) (placed .element)) j l
+  cells j k l m = cell-of s st (ready .state) (x .element) (x .chart) (element-chart s (x .element) (x .binding) (x .chart) (placed .element)) j l k m
 
   -- ---- a node that is there
 
@@ -177,9 +181,18 @@ module _ (s w : List ℕ) (st lo : List ℤ) (ready : Ready s w st lo) where
       unfolding fieldsShape
       read-inside = ltb-true _ _ (and-first _ _ (fields read q))
 
-      pub variable-inside : r .f1 ≡ 1 → cellAt (firstCell s (x .element) + r .f2) + 8 ≤ length st
+      pub variable-below : r .f1 ≡ 1 → r .f2 < chartVariables (x .chart) .count
       unfolding variablesAt
-      variable-inside one = cell-in-state s st (ready .state) (x .element) (x .chart) (element-chart s (x .element) (x .binding) (x .chart) (placed .element)) (r .f2) (subst (λ p. r .f2 < variablesAt (x .chart) (x .body) p) one read-inside)
+      variable-below one = subst (λ p. r .f2 < variablesAt (x .chart) (x .body) p) one read-inside
+
+      -- "operators 7 and 33 don't take an array"
+      read-plain : isPlain (indexAt s (variableAt (x .chart) (x .body) (r .f1) (r .f2))) ≡ true
+      unfolding typeIn readType
+      read-plain = and-second _ _ (asked _ _ (typed read q) .0)
+
+      pub variable-inside : r .f1 ≡ 1 → cellAt (cellIn w (r .f2)) + 8 ≤ length st
+      unfolding variableAt
+      variable-inside one = plain-inside s w st lo ready (r .f2) (variable-below one) (subst (λ p. isPlain (indexAt s (variableAt (x .chart) (x .body) p (r .f2))) ≡ true) one read-plain)
 
       pub local-inside : r .f1 ≡ 2 → r .f2 < 16
       unfolding variablesAt
@@ -196,11 +209,11 @@ module _ (s w : List ℕ) (st lo : List ℤ) (ready : Ready s w st lo) where
       unfolding evalIn readVal
       read-as l =
           let d = declared-record s _ (variable-declared s (ready .running .passed) _ _ (placed .element .chart) (x .body) (placed .body) (r .f1) (r .f2) read-inside) in
-          needs-met _ _ (lt-ltb _ _ read-inside) ∙ on-present _ (d .0) _ (d .1) ∙ ap (λ t. readAs s x st lo (r .f1) (r .f2) t l) (d .2)
+          needs-met _ _ (and-true _ _ (lt-ltb _ _ read-inside) read-plain) ∙ on-present _ (d .0) _ (d .1) ∙ ap (λ t. readAs s x st lo (r .f1) (r .f2) t l) (d .2)
 
-      pub variable-word : r .f1 ≡ 1 → (l : ℕ) → workOf (evalOf s x st lo n (suc l)) ≡ Word (wordOf st (cellAt (firstCell s (x .element) + r .f2))) l
-      unfolding readAs variableAtCell
-      variable-word one l = within-word read q l (val declared (wordOf st (cellAt (firstCell s (x .element) + r .f2)))) (read-as l ∙ ap (λ p. readAs s x st lo p (r .f2) declared l) one)
+      pub variable-word : r .f1 ≡ 1 → (l : ℕ) → workOf (evalOf s x st lo n (suc l)) ≡ Word (wordOf st (cellAt (cellIn w (r .f2)))) l
+      unfolding readAs variableAtCell wordOf
+      variable-word one l = within-word read q l (val declared (wordOf st (cellOf s (x .element) (x .chart) (r .f2) 0))) (read-as l ∙ ap (λ p. readAs s x st lo p (r .f2) declared l) one) ∙ ap (λ i. Word (wordOf st i) l) (plain-is s w (ready .running) (r .f2) (variable-below one))
 
       pub local-word : r .f1 ≡ 2 → (l : ℕ) → workOf (evalOf s x st lo n (suc l)) ≡ Word (wordOf lo (r .f2)) l
       unfolding readAs
@@ -232,21 +245,74 @@ module _ (s w : List ℕ) (st lo : List ℤ) (ready : Ready s w st lo) where
       unfolding fieldsShape
       clock-inside = ltb-true _ _ (and-first _ _ (fields clock q))
 
-      pub clock-in-state : cellAt (firstCell s (x .element) + r .f1) + 8 ≤ length st
-      clock-in-state = cell-in-state s st (ready .state) (x .element) (x .chart) (element-chart s (x .element) (x .binding) (x .chart) (placed .element)) (r .f1) clock-inside
+      is-clock : isClock (typeAt s (chartVariables (x .chart) .first + r .f1)) ≡ true
+      unfolding typeIn clockType
+      is-clock = asked _ _ (typed clock q) .0
+
+      pub clock-in-state : cellAt (cellIn w (r .f1)) + 8 ≤ length st
+      clock-in-state = plain-inside s w st lo ready (r .f1) clock-inside (clock-plain s (ready .running .passed) _ is-clock)
+
+      abbrev here : cellOf s (x .element) (x .chart) (r .f1) 0 ≡ cellAt (cellIn w (r .f1))
+      here = plain-is s w (ready .running) (r .f1) clock-inside
 
       -- 17 its running word, 18 its value
-      clock-as : (l : ℕ) (v : Value) → elim (eqb (operator r) 17) [ true ↦ within s (val Bool-type (wordOf st (variableAtCell s x (r .f1)))) l | false ↦ within s (val Int-type (clockWord s x st (r .f1))) l ] ≡ within s v l → workOf (evalOf s x st lo n (suc l)) ≡ Word (v .word) l
+      clock-as : (l : ℕ) (v : Value) → elim (eqb (operator r) 17) [ true ↦ within s (val Bool-type (wordOf st (variableAtCell s x (r .f1) 0))) l | false ↦ within s (val Int-type (clockWord s x st (r .f1))) l ] ≡ within s v l → workOf (evalOf s x st lo n (suc l)) ≡ Word (v .word) l
       unfolding evalIn clockVal within workOf
       clock-as l v h = ap workOf (visited clock q l) ∙ needs-word _ _ _ (λ b. ap workOf h ∙ needs-word _ _ _ (λ c. refl) (λ z. goes clock q l (needs-through _ _ b ∙ ap workOf h ∙ z))) (goes clock q l)
 
-      pub running-word : operator r ≡ 17 → (l : ℕ) → workOf (evalOf s x st lo n (suc l)) ≡ Word (wordOf st (cellAt (firstCell s (x .element) + r .f1))) l
+      pub running-word : operator r ≡ 17 → (l : ℕ) → workOf (evalOf s x st lo n (suc l)) ≡ Word (wordOf st (cellAt (cellIn w (r .f1)))) l
       unfolding variableAtCell
-      running-word h l = clock-as l (val Bool-type (wordOf st (cellAt (firstCell s (x .element) + r .f1)))) (rw (eq-eqb (operator r) 17 h) refl)
+      running-word h l = clock-as l (val Bool-type (wordOf st (cellOf s (x .element) (x .chart) (r .f1) 0))) (rw (eq-eqb (operator r) 17 h) refl) ∙ ap (λ i. Word (wordOf st i) l) here
 
-      pub value-word : (operator r ≡ 17 → ⊥) → (l : ℕ) → workOf (evalOf s x st lo n (suc l)) ≡ Word (wordOf st (cellAt (firstCell s (x .element) + r .f1) + 1)) l
-      unfolding typeIn clockType
-      value-word h l = clock-as l (val Int-type (clockWord s x st (r .f1))) (rw (ne-eqb (operator r) 17 h) refl) ∙ ap (λ z. Word z l) (clock-word s (ready .running .passed) x placed st lo cells (ready .locals) (r .f1) clock-inside (asked _ _ (typed clock q) .0))
+      pub value-word : (operator r ≡ 17 → ⊥) → (l : ℕ) → workOf (evalOf s x st lo n (suc l)) ≡ Word (wordOf st (cellAt (cellIn w (r .f1)) + 1)) l
+      value-word h l = clock-as l (val Int-type (clockWord s x st (r .f1))) (rw (ne-eqb (operator r) 17 h) refl) ∙ ap (λ z. Word z l) (clock-word s (ready .running .passed) x placed st lo cells (ready .locals) (r .f1) clock-inside is-clock) ∙ ap (λ i. Word (wordOf st (i + 1)) l) here
+
+    -- ---- an element of an array
+
+    module _ (q : formOf (operator r) ≡ readElement) where
+      pub element-below : r .f1 < chartVariables (x .chart) .count
+      unfolding fieldsShape
+      element-below = ltb-true _ _ (and-first _ _ (fields readElement q))
+
+      index-lower : Lower (opened (e .levels) (e .tree) .0) (r .f2)
+      unfolding operandsIn operandAt fieldOf
+      index-lower = lower readElement q 0 (omega arith)
+
+      pub index-low : r .f2 < n
+      index-low = ltb-true _ _ (and-first _ _ index-lower)
+
+      abbrev d : ℕ
+      d = chartVariables (x .chart) .first + r .f1
+
+      indexed : indexedBy (indexAt s d) (f (r .f2)) ≡ true
+      unfolding typeIn readElementType
+      indexed = asked _ _ (typed readElement q) .0
+
+      abbrev index : Indexed s (indexAt s d) (f (r .f2))
+      index = array-index s d (f (r .f2)) indexed
+
+      pub index-operand : IsExpression s w (r .f2)
+      index-operand = operand-is (r .f2) _ index-lower (index .kind) (index .typed)
+
+      element-value : (v : Value) (l : ℕ) → v .kind ≡ index .kind → inType s (index .kind) (v .word) ≡ true → elementVal s x st (r .f1) v l ≡ elementAs s x st (r .f1) (typeAt s d) (ranged (cellsTaken s d) (v .word)) l
+      unfolding elementVal cellsTaken
+      element-value v l k i =
+          let r′ = declared-record s d (chart-variable-declared s (ready .running .passed) _ _ (placed .element .chart) (r .f1) element-below) in
+          needs-met _ _ (lt-ltb _ _ element-below) ∙ on-present _ (r′ .0) _ (r′ .1) ∙ ap (λ t. elementAs s x st (r .f1) t (reached (indexAt s d) v) l) (r′ .2) ∙ ap (λ i. elementAs s x st (r .f1) (typeAt s d) i l) (index .goes v k i)
+
+      pub element-word : (l : ℕ) → workOf (evalOf s x st lo n (suc l)) ≡ thenWork (workOf (evalOf s x st lo (r .f2) l)) (elementWork st (cellIn w (r .f1)) (cellIn w (r .f1 + 1)))
+      unfolding evalIn elementWork elementAs variableAtCell within workOf
+      element-word l =
+          ap workOf (visited readElement q l)
+          ∙ then-word s (index .kind) (evalOf s x st lo (r .f2) l) _ _ (operand-gives (r .f2) _ index-lower (index .kind) l (index .typed)) (λ v m k i.
+          let gives = element-gives s (ready .running .passed) x placed st lo cells (ready .locals) (r .f1) m element-below (array-data s (ready .running .passed) d (f (r .f2)) indexed) v (array-leads s d (f (r .f2)) indexed v k i) in
+          let same = ap workOf (element-value v m k i) in
+          same ∙ go v m (isBelow (v .word) (cellsTaken s d)) (λ z. not-stuck s (typeAt s d) (elementVal s x st (r .f1) v m) gives (same ∙ z))
+          ∙ ap {B = Work} (λ c. elim (isBelow (v .word) c) [ true ↦ Word (wordOf st (cellAt (cellIn w (r .f1) + natAbs (v .word)))) m | false ↦ Refused 11 m ]) (sym (taken-is s w (ready .running) (r .f1) element-below)))
+        where
+          go : (v : Value) (m : ℕ) (b : Bool) → (workOf (elementAs s x st (r .f1) (typeAt s d) (elim b [ true ↦ inside (natAbs (v .word)) | false ↦ outOfRange ]) m) ≡ Stuck → ⊥) → workOf (elementAs s x st (r .f1) (typeAt s d) (elim b [ true ↦ inside (natAbs (v .word)) | false ↦ outOfRange ]) m) ≡ elim b [ true ↦ Word (wordOf st (cellAt (cellIn w (r .f1) + natAbs (v .word)))) m | false ↦ Refused 11 m ]
+          go v m true g = needs-word _ (out.Val (val (typeAt s d) (wordOf st (variableAtCell s x (r .f1) (natAbs (v .word))))) m) _ (λ b. ap (λ i. Word (wordOf st i) m) (cell-is s w (ready .running) (r .f1) element-below (natAbs (v .word)))) g
+          go v m false g = refl
 
     -- ---- operators
 
@@ -315,6 +381,7 @@ module _ (s w : List ℕ) (st lo : List ℤ) (ready : Ready s w st lo) where
         go unary h q = true-false refl h
         go binary h q = true-false refl h
         go clock h q = true-false refl h
+        go readElement h q = true-false refl h
         go skip h q = goes skip q 0 refl
         go assign h q = goes assign q 0 refl
         go externalSend h q = goes externalSend q 0 refl
@@ -325,6 +392,7 @@ module _ (s w : List ℕ) (st lo : List ℤ) (ready : Ready s w st lo) where
         go choice h q = goes choice q 0 refl
         go loop h q = goes loop q 0 refl
         go sequence h q = goes sequence q 0 refl
+        go assignElement h q = goes assignElement q 0 refl
         go unknown h q = goes unknown q 0 refl
 
   -- a visit that would pass the limit

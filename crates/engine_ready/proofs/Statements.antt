@@ -5,7 +5,8 @@ use mathlib.Core.List.{List}
 use mathlib.Core.Bool.{Bool, true, false, not}
 use native.Mathlib.Omega.{arith}
 use lib.Dec.{ltb, eqb}
-use lib.IntN.{ℤ, pos, negsuc}
+use lib.ListN.{set}
+use lib.IntN.{ℤ, pos, negsuc, natAbs}
 use borrow.Author.Tests.{ltb-true, lt-ltb, le-ltb, eq-eqb, ne-eqb, eqb-true}
 use Rattle.sheet.specs.declared.Record.{Record}
 use Rattle.sheet.specs.declared.Range.{Range}
@@ -22,14 +23,15 @@ use Rattle.machine.specs.declared.Ran.the-variants.{Done, Refused, Stuck}
 use Rattle.sheet_rules.specs.declared.Typed.{Typed}
 use Rattle.sheet_rules.specs.declared.Typed.the-variants.{Statement}
 use Rattle.sheet_rules.specs.Fields.{fieldOf, holds, typeAt}
-use Rattle.sheet_rules.specs.Forms.{Form, skip, assign, externalSend, internalSend, arm, clockAct, call, choice, loop, sequence, formOf, nameData, calledBody, callData, operands, operandsIn, operandsOf, operandAt, operandCount}
+use Rattle.sheet_rules.specs.Forms.{Form, skip, assign, assignElement, externalSend, internalSend, arm, clockAct, call, choice, loop, sequence, formOf, nameData, calledBody, callData, operands, operandsIn, operandsOf, operandAt, operandCount}
 use Rattle.sheet_rules.specs.Shape.{variablesAt, sendShape, fieldsShape, treeShape}
-use Rattle.sheet_rules.specs.Types.{isOf, isStatement, variableAt, hasClass, internalName, chartVariableType, nameRange, parametersOf, clockOf, dataMatch, lowerType, typeIn, typeOf, assignType, externalType, internalType, armType, clockActType, callType, choiceType, loopType, sequenceType}
-use Rattle.machine.specs.Values.{isZero, firstCell}
-use Rattle.machine.specs.State.{cellAt}
-use Rattle.machine.specs.Eval.{Context, isVariable, variableAtCell, evalOf}
+use Rattle.sheet_rules.specs.Types.{isOf, isStatement, variableAt, hasClass, internalName, chartVariableType, nameRange, parametersOf, clockOf, dataMatch, lowerType, typeIn, typeOf, assignType, indexedBy, assignElementType, externalType, internalType, armType, clockActType, callType, choiceType, loopType, sequenceType}
+use Rattle.sheet_rules.specs.Indices.{indexAt, isPlain, cellsTaken}
+use Rattle.machine.specs.Values.{isBelow, isZero, inType}
+use Rattle.machine.specs.State.{cellAt, cellOf}
+use Rattle.machine.specs.Eval.{Context, isPlainVariable, variableAtCell, inside, outOfRange, evalOf}
 use Rattle.machine.specs.Run as run
-use Rattle.machine.specs.Run.{World, world, thenRun, thenOperand, withRecord, provided, Values, nextValue, valuesFrom, thenValues, areOf, wordsIn, telegram, append, armed, clockSet, assigned, assignOf, nameValues, externalSendOf, internalSendOf, armOf, clockActOf, entered, callOf, choiceOf, runIn, runOf}
+use Rattle.machine.specs.Run.{World, world, thenRun, thenOperand, withRecord, provided, Values, nextValue, valuesFrom, thenValues, areOf, wordsIn, telegram, append, armed, clockSet, assigned, assignOf, elementAssigned, assignElementOf, nameValues, externalSendOf, internalSendOf, armOf, clockActOf, entered, callOf, choiceOf, runIn, runOf}
 use Rattle.sheet_rules.proofs.Fields.{holds-present, number-present}
 use Rattle.sheet_rules.proofs.Types.{lower-type}
 use Rattle.machine_equations.proofs.Left.{ValuesWithin, values-left}
@@ -41,16 +43,19 @@ use Rattle.machine_sound.specs.Gives.{Gives, DataGive, Ends}
 use Rattle.machine_sound.proofs.Leaves.{is-type}
 use Rattle.machine_sound.proofs.Eval.{type-at, eval-gives}
 use Rattle.machine_sound.proofs.Data.{data-gives, range-of, few-data}
-use Rattle.machine_sound.proofs.Run.{is-statement, stated, called-in, few-parameters, parameters-of, variable-there, clock-there, statement-ends}
+use Rattle.machine_sound.proofs.Run.{is-statement, stated, called-in, few-parameters, parameters-of, timer-clock, variable-there, chart-variable-there, clock-there, statement-ends}
+use Rattle.machine_sound.proofs.Armed.{armed-clock}
+use Rattle.machine_sound.proofs.Indices.{ranged, Indexed, array-index}
 use Rattle.engine_ints.specs.Work.{workOf}
-use Rattle.engine_ready.specs.Ready.{contextAt, Ready, IsExpression, IsStatement, HasData}
+use Rattle.engine_ready.specs.Ready.{cellIn, contextAt, Ready, IsExpression, IsStatement, HasData}
 use Rattle.engine_ready.proofs.Expressions.{cells}
-use Rattle.engine_ready.specs.Words.{thenWord, Data, given, refused, stuck, before, thenDatum, dataFrom, thenData, DataTold}
+use Rattle.engine_ready.proofs.Cells.{cell-is, plain-is, taken-is}
+use Rattle.engine_ready.specs.Words.{thenWord, elementPut, Data, given, refused, stuck, before, thenDatum, dataFrom, thenData, DataTold}
 
 -- a value of its type goes on as its word
-operand-word : (s : List ℕ) (o : Out) (t : ℕ) (st lo : List ℤ) (K : Value → ℕ → World) (L : ℤ → ℕ → World) → Gives s t o → ((v : Value) (m : ℕ) → v .kind ≡ t → K v m ≡ L (v .word) m) → thenOperand o st lo K ≡ thenWord (workOf o) st lo L
+operand-word : (s : List ℕ) (o : Out) (t : ℕ) (st lo : List ℤ) (K : Value → ℕ → World) (L : ℤ → ℕ → World) → Gives s t o → ((v : Value) (m : ℕ) → v .kind ≡ t → inType s t (v .word) ≡ true → K v m ≡ L (v .word) m) → thenOperand o st lo K ≡ thenWord (workOf o) st lo L
 unfolding thenOperand thenWord workOf
-operand-word s (out.Val v m) t st lo K L g h = h v m (g .0)
+operand-word s (out.Val v m) t st lo K L g h = h v m (g .0) (g .1)
 operand-word s (out.Refused k m) t st lo K L g h = refl
 operand-word s out.Stuck t st lo K L g h = refl
 
@@ -181,12 +186,15 @@ module _ (s w : List ℕ) (st lo : List ℤ) (ready : Ready s w st lo) where
       unfolding operandsIn operandAt fieldOf
       assign-low = lower assign q 0 (omega arith)
 
-      assign-types : not (eqb (r .f1) 0) and isOf (f (r .f3)) (typeAt s (variableAt (x .chart) (x .body) (r .f1) (r .f2))) ≡ true
+      assign-types : not (eqb (r .f1) 0) and isPlain (indexAt s (variableAt (x .chart) (x .body) (r .f1) (r .f2))) and isOf (f (r .f3)) (typeAt s (variableAt (x .chart) (x .body) (r .f1) (r .f2))) ≡ true
       unfolding typeIn assignType
       assign-types = stated _ (typed assign q)
 
       pub assign-operand : IsExpression s w (r .f3)
-      assign-operand = expression (r .f3) assign-low _ (and-second _ _ assign-types)
+      assign-operand = expression (r .f3) assign-low _ (and-second _ _ (and-second _ _ assign-types))
+
+      pub assign-plain : isPlain (indexAt s (variableAt (x .chart) (x .body) (r .f1) (r .f2))) ≡ true
+      assign-plain = and-first _ _ (and-second _ _ assign-types)
 
       pub assign-inside : r .f2 < variablesAt (x .chart) (x .body) (r .f1)
       unfolding fieldsShape
@@ -194,7 +202,58 @@ module _ (s w : List ℕ) (st lo : List ℤ) (ready : Ready s w st lo) where
 
       pub assign-word : (depth l : ℕ) → runOf s depth x n (suc l) st lo ≡ thenWord (workOf (evalOf s x st lo (r .f3) l)) st lo (λ z m. assigned s x (r .f1) (r .f2) z m st lo)
       unfolding runIn assignOf
-      assign-word depth l = visited assign q depth l ∙ operand-word s _ _ st lo _ _ (gives (r .f3) assign-low _ l (and-second _ _ assign-types)) (λ v m k. provided-is _ st lo _ (variable-there s (ready .running .passed) x placed st lo (ready .state) (ready .locals) (r .f1) (r .f2) (v .kind) (lt-ltb _ _ assign-inside) k))
+      assign-word depth l = visited assign q depth l ∙ operand-word s _ _ st lo _ _ (gives (r .f3) assign-low _ l (and-second _ _ (and-second _ _ assign-types))) (λ v m k i. provided-is _ st lo _ (variable-there s (ready .running .passed) x placed st lo (ready .state) (ready .locals) (r .f1) (r .f2) (v .kind) (lt-ltb _ _ assign-inside) k assign-plain))
+
+    -- ---- an element of an array assigned
+
+    module _ (q : formOf (operator r) ≡ assignElement) where
+      pub element-below : r .f1 < chartVariables (x .chart) .count
+      unfolding fieldsShape
+      element-below = ltb-true _ _ (and-first _ _ (fields assignElement q))
+
+      element-low : (j : ℕ) → j < 2 → Lower level (fieldOf r (2 + j))
+      unfolding operandsIn operandAt
+      element-low j l = rw (operandAt, lt-ltb j 2 l) at (lower assignElement q j (omega arith))
+
+      abbrev d : ℕ
+      d = chartVariables (x .chart) .first + r .f1
+
+      element-types : indexedBy (indexAt s d) (f (r .f2)) and isOf (f (r .f3)) (typeAt s d) ≡ true
+      unfolding typeIn assignElementType
+      element-types = stated _ (typed assignElement q)
+
+      abbrev index : Indexed s (indexAt s d) (f (r .f2))
+      index = array-index s d (f (r .f2)) (and-first _ _ element-types)
+
+      pub index-operand : IsExpression s w (r .f2)
+      unfolding fieldOf
+      index-operand = expression (r .f2) (element-low 0 (omega arith)) (index .kind) (index .asked)
+
+      pub element-operand : IsExpression s w (r .f3)
+      unfolding fieldOf
+      element-operand = expression (r .f3) (element-low 1 (omega arith)) (typeAt s d) (and-second _ _ element-types)
+
+      put-here : (i z : ℤ) (l : ℕ) → elementAssigned s x (r .f1) (ranged (cellsTaken s d) i) z l st lo ≡ elementPut (cellIn w (r .f1)) (cellIn w (r .f1 + 1)) i z l st lo
+      unfolding elementAssigned elementPut variableAtCell
+      put-here i z l = go (isBelow i (cellsTaken s d)) ∙ ap {B = World} (λ c. elim (isBelow i c) [ true ↦ world (Done l) (set st (cellAt (cellIn w (r .f1) + natAbs i)) z) lo | false ↦ world (Refused 11 l) st lo ]) (sym (taken-is s w (ready .running) (r .f1) element-below))
+        where
+          go : (b : Bool) → elementAssigned s x (r .f1) (elim b [ true ↦ inside (natAbs i) | false ↦ outOfRange ]) z l st lo ≡ elim b [ true ↦ world (Done l) (set st (cellAt (cellIn w (r .f1) + natAbs i)) z) lo | false ↦ world (Refused 11 l) st lo ]
+          go true = ap (λ c. world (Done l) (set st c z) lo) (cell-is s w (ready .running) (r .f1) element-below (natAbs i))
+          go false = refl
+
+      pub element-word : (depth l : ℕ) →
+          runOf s depth x n (suc l) st lo ≡
+          thenWord (workOf (evalOf s x st lo (r .f2) l)) st lo (λ i l.
+          thenWord (workOf (evalOf s x st lo (r .f3) l)) st lo (λ z l.
+          elementPut (cellIn w (r .f1)) (cellIn w (r .f1 + 1)) i z l st lo))
+      unfolding runIn assignElementOf cellsTaken fieldOf
+      element-word depth l =
+          visited assignElement q depth l
+          ∙ operand-word s _ (index .kind) st lo _ _ (gives (r .f2) (element-low 0 (omega arith)) (index .kind) l (index .asked)) (λ v m k i.
+          operand-word s _ (typeAt s d) st lo _ _ (gives (r .f3) (element-low 1 (omega arith)) (typeAt s d) m (and-second _ _ element-types)) (λ v′ m′ k′ i′.
+          provided-is _ st lo _ (chart-variable-there s (ready .running .passed) x placed st lo (ready .state) (ready .locals) (r .f1) (eqb (v′ .kind)) (lt-ltb _ _ element-below) (eq-eqb _ _ k′))
+          ∙ ap (λ i. elementAssigned s x (r .f1) i (v′ .word) m′ st lo) (index .goes v k i)
+          ∙ put-here (v .word) (v′ .word) m′))
 
     -- ---- a choice, a loop, a sequence
 
@@ -221,7 +280,7 @@ module _ (s w : List ℕ) (st lo : List ℤ) (ready : Ready s w st lo) where
 
       pub choice-word : (depth l : ℕ) → runOf s depth x n (suc l) st lo ≡ thenWord (workOf (evalOf s x st lo (r .f1) l)) st lo (λ z m. elim (isZero z) [ true ↦ runOf s depth x (r .f3) m st lo | false ↦ runOf s depth x (r .f2) m st lo ])
       unfolding runIn choiceOf fieldOf
-      choice-word depth l = visited choice q depth l ∙ operand-word s _ Bool-type st lo _ _ (gives (r .f1) (choice-low 0 (omega arith)) Bool-type l (and-first _ _ choice-types)) (λ v m k. provided-is _ st lo _ (eq-eqb _ _ k))
+      choice-word depth l = visited choice q depth l ∙ operand-word s _ Bool-type st lo _ _ (gives (r .f1) (choice-low 0 (omega arith)) Bool-type l (and-first _ _ choice-types)) (λ v m k i. provided-is _ st lo _ (eq-eqb _ _ k))
 
     module _ (q : formOf (operator r) ≡ loop) where
       loop-low : (j : ℕ) → j < 2 → Lower level (fieldOf r (1 + j))
@@ -242,7 +301,7 @@ module _ (s w : List ℕ) (st lo : List ℤ) (ready : Ready s w st lo) where
 
       pub loop-word : (depth l : ℕ) → runOf s depth x n (suc l) st lo ≡ thenWord (workOf (evalOf s x st lo (r .f1) l)) st lo (λ z m. elim (isZero z) [ true ↦ world (Done m) st lo | false ↦ thenRun (runOf s depth x (r .f2) m st lo) (λ m st lo. runOf s depth x n m st lo) ])
       unfolding runIn choiceOf fieldOf
-      loop-word depth l = visited loop q depth l ∙ operand-word s _ Bool-type st lo _ _ (gives (r .f1) (loop-low 0 (omega arith)) Bool-type l (and-first _ _ loop-types)) (λ v m k. provided-is _ st lo _ (eq-eqb _ _ k))
+      loop-word depth l = visited loop q depth l ∙ operand-word s _ Bool-type st lo _ _ (gives (r .f1) (loop-low 0 (omega arith)) Bool-type l (and-first _ _ loop-types)) (λ v m k i. provided-is _ st lo _ (eq-eqb _ _ k))
 
     module _ (q : formOf (operator r) ≡ sequence) where
       sequence-low : (j : ℕ) → j < 2 → Lower level (fieldOf r (1 + j))
@@ -362,8 +421,8 @@ module _ (s w : List ℕ) (st lo : List ℤ) (ready : Ready s w st lo) where
         unfolding runIn externalSendOf nameValues
         external-word depth l =
             visited externalSend q depth l
-            ∙ operand-word s _ Component-type st lo _ _ (gives (r .f1) receiver-low Component-type l (and-first _ _ external-types)) (λ receiver m k.
-            operand-word s _ Port-type st lo _ _ (gives (r .f2) port-low Port-type m (and-first _ _ (and-second _ _ external-types))) (λ port m′ k′.
+            ∙ operand-word s _ Component-type st lo _ _ (gives (r .f1) receiver-low Component-type l (and-first _ _ external-types)) (λ receiver m k i.
+            operand-word s _ Port-type st lo _ _ (gives (r .f2) port-low Port-type m (and-first _ _ (and-second _ _ external-types))) (λ port m′ k′ i′.
             record-is _ a st lo _ e
             ∙ gathered (dataOf a) external-data (few-data s (ready .running .passed) (r .f3) a e) (name-declared s (ready .running .passed) (r .f3) a e) m′ _ _ (λ vs m″ are.
             provided-is _ st lo _ (and-true _ _ (eq-eqb _ _ k) (and-true _ _ (eq-eqb _ _ k′) are)))))
@@ -399,9 +458,9 @@ module _ (s w : List ℕ) (st lo : List ℤ) (ready : Ready s w st lo) where
             visited internalSend q depth l ∙ record-is _ a st lo _ e
             ∙ gathered (dataOf a) internal-data (few-data s (ready .running .passed) (r .f3) a e) (name-declared s (ready .running .passed) (r .f3) a e) l _ _ (λ vs m are. provided-is _ st lo _ are)
 
-    -- a chart variable whose type meets a test
-    has-clock : (j : ℕ) (p : ℕ → Bool) → j < chartVariables (x .chart) .count → p (typeAt s (chartVariables (x .chart) .first + j)) ≡ true → isVariable s x j p ≡ true
-    has-clock j p h e = clock-there s (ready .running .passed) x placed st lo (ready .state) (ready .locals) j p (lt-ltb _ _ h) e
+    -- a clock whose type meets a test
+    has-clock : (j : ℕ) (p : ℕ → Bool) → j < chartVariables (x .chart) .count → p (typeAt s (chartVariables (x .chart) .first + j)) ≡ true → isClock (typeAt s (chartVariables (x .chart) .first + j)) ≡ true → isPlainVariable s x j p ≡ true
+    has-clock j p h e c = clock-there s (ready .running .passed) x placed st lo (ready .state) (ready .locals) j p (lt-ltb _ _ h) e c
 
     -- ---- arming
 
@@ -431,6 +490,9 @@ module _ (s w : List ℕ) (st lo : List ℤ) (ready : Ready s w st lo) where
       pub arm-type : typeAt s (chartVariables (x .chart) .first + r .f1) ≡ clockOf (operator r)
       arm-type = eqb-true _ _ (and-first _ _ arm-types)
 
+      pub arm-clock : isClock (typeAt s (chartVariables (x .chart) .first + r .f1)) ≡ true
+      arm-clock = ap isClock arm-type ∙ armed-clock (operator r) q .0
+
       pub arm-name : (a : Record) × (recordOf s names (r .f3) ≡ Present a)
       arm-name = name-there (and-second _ _ arm-shape) (and-second _ _ (and-second _ _ (and-second _ _ arm-types))) 2 1 arm-low
 
@@ -442,14 +504,15 @@ module _ (s w : List ℕ) (st lo : List ℤ) (ready : Ready s w st lo) where
             runOf s depth x n (suc l) st lo ≡
             thenWord (workOf (evalOf s x st lo (r .f2) l)) st lo (λ period l.
             thenData (dataFrom (evalOf s x st lo) r (dataOf a .count) 0 l) st lo (λ zs l.
-            armed (cellAt (firstCell s (x .element) + r .f1)) (clockOf (operator r)) period (r .f3) zs l st lo))
+            armed (cellAt (cellIn w (r .f1))) (clockOf (operator r)) period (r .f3) zs l st lo))
         unfolding runIn armOf nameValues variableAtCell
         arm-word depth l =
             visited arm q depth l
-            ∙ operand-word s _ Int-type st lo _ _ (gives (r .f2) period-low Int-type l (and-first _ _ (and-second _ _ arm-types))) (λ period m k.
+            ∙ operand-word s _ Int-type st lo _ _ (gives (r .f2) period-low Int-type l (and-first _ _ (and-second _ _ arm-types))) (λ period m k i.
             record-is _ a st lo _ e
             ∙ gathered (dataOf a) arm-data (few-data s (ready .running .passed) (r .f3) a e) (name-declared s (ready .running .passed) (r .f3) a e) m _ _ (λ vs m′ are.
-            provided-is _ st lo _ (and-true _ _ (has-clock (r .f1) (eqb (clockOf (operator r))) arm-inside (eq-eqb _ _ (sym arm-type))) (and-true _ _ (eq-eqb _ _ k) are))))
+            provided-is _ st lo _ (and-true _ _ (has-clock (r .f1) (eqb (clockOf (operator r))) arm-inside (eq-eqb _ _ (sym arm-type)) arm-clock) (and-true _ _ (eq-eqb _ _ k) are))
+            ∙ ap (λ c. armed c (clockOf (operator r)) (period .word) (r .f3) (wordsIn vs) m′ st lo) (plain-is s w (ready .running) (r .f1) arm-inside)))
 
     -- ---- 38 start Timer, 39 stop any clock
 
@@ -465,22 +528,33 @@ module _ (s w : List ℕ) (st lo : List ℤ) (ready : Ready s w st lo) where
       abbrev acts : ℕ → Bool → World
       acts l b =
           elim b [
-            | true ↦ provided (isVariable s x (r .f1) (eqb Timer-type)) st lo (clockSet (variableAtCell s x (r .f1)) (pos 1) l st lo)
-            | false ↦ provided (isVariable s x (r .f1) isClock) st lo (clockSet (variableAtCell s x (r .f1)) (pos 0) l st lo)
+            | true ↦ provided (isPlainVariable s x (r .f1) (eqb Timer-type)) st lo (clockSet (variableAtCell s x (r .f1) 0) (pos 1) l st lo)
+            | false ↦ provided (isPlainVariable s x (r .f1) isClock) st lo (clockSet (variableAtCell s x (r .f1) 0) (pos 0) l st lo)
           ]
 
-      pub started-word : operator r ≡ 38 → (depth l : ℕ) → runOf s depth x n (suc l) st lo ≡ clockSet (cellAt (firstCell s (x .element) + r .f1)) (pos 1) l st lo
+      pub act-clock : isClock (chartVariableType s (x .chart) (r .f1)) ≡ true
+      act-clock = go (eqb (operator r) 38) act-types
+        where
+          go : (b : Bool) → elim b [ true ↦ eqb (chartVariableType s (x .chart) (r .f1)) Timer-type | false ↦ isClock (chartVariableType s (x .chart) (r .f1)) ] ≡ true → isClock (chartVariableType s (x .chart) (r .f1)) ≡ true
+          go true t = timer-clock (eqb-true _ _ t)
+          go false t = t
+
+      -- the cell by the body's numbers
+      set-here : (z : ℤ) (l : ℕ) → clockSet (cellOf s (x .element) (x .chart) (r .f1) 0) z l st lo ≡ clockSet (cellAt (cellIn w (r .f1))) z l st lo
+      set-here z l = ap (λ c. clockSet c z l st lo) (plain-is s w (ready .running) (r .f1) act-inside)
+
+      pub started-word : operator r ≡ 38 → (depth l : ℕ) → runOf s depth x n (suc l) st lo ≡ clockSet (cellAt (cellIn w (r .f1))) (pos 1) l st lo
       unfolding runIn clockActOf variableAtCell
       started-word h depth l =
           let b = eq-eqb (operator r) 38 h in
           let k : chartVariableType s (x .chart) (r .f1) ≡ Timer-type = eqb-true _ _ (subst (λ b. elim b [ true ↦ eqb (chartVariableType s (x .chart) (r .f1)) Timer-type | false ↦ isClock (chartVariableType s (x .chart) (r .f1)) ] ≡ true) b act-types) in
-          visited clockAct q depth l ∙ ap (acts l) b ∙ provided-is _ st lo _ (has-clock (r .f1) (eqb Timer-type) act-inside (eq-eqb _ _ (sym k)))
+          visited clockAct q depth l ∙ ap (acts l) b ∙ provided-is _ st lo _ (has-clock (r .f1) (eqb Timer-type) act-inside (eq-eqb _ _ (sym k)) act-clock) ∙ set-here (pos 1) l
 
-      pub stopped-word : (operator r ≡ 38 → ⊥) → (depth l : ℕ) → runOf s depth x n (suc l) st lo ≡ clockSet (cellAt (firstCell s (x .element) + r .f1)) (pos 0) l st lo
+      pub stopped-word : (operator r ≡ 38 → ⊥) → (depth l : ℕ) → runOf s depth x n (suc l) st lo ≡ clockSet (cellAt (cellIn w (r .f1))) (pos 0) l st lo
       unfolding runIn clockActOf variableAtCell
       stopped-word h depth l =
           let b = ne-eqb (operator r) 38 h in
-          visited clockAct q depth l ∙ ap (acts l) b ∙ provided-is _ st lo _ (has-clock (r .f1) isClock act-inside (subst (λ b. elim b [ true ↦ eqb (chartVariableType s (x .chart) (r .f1)) Timer-type | false ↦ isClock (chartVariableType s (x .chart) (r .f1)) ] ≡ true) b act-types))
+          visited clockAct q depth l ∙ ap (acts l) b ∙ provided-is _ st lo _ (has-clock (r .f1) isClock act-inside act-clock act-clock) ∙ set-here (pos 0) l
 
     -- ---- a call
 

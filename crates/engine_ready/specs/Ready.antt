@@ -1,22 +1,24 @@
 -- What an engine knows while a body runs.
-use Prim.Native.Nat.{ℕ, _+_, _<_}
+use Prim.Native.Nat.{ℕ, _+_, _-_, _<_, _≤_}
 use mathlib.Core.Path.{_≡_}
 use mathlib.Core.List.{List}
 use mathlib.Core.Bool.{true}
-use lib.ListN.{getD}
+use lib.ListN.{length, getD}
 use lib.IntN.{ℤ}
 use Rattle.sheet.specs.declared.Record.{Record}
 use Rattle.sheet.specs.declared.Range.{Range}
 use Rattle.sheet.specs.declared.Found.{Found}
 use Rattle.sheet.specs.declared.Found.the-variants.{Present, Absent}
-use Rattle.sheet.specs.Names.{charts, bodies, bindings, chartBodies}
+use Rattle.sheet.specs.Names.{charts, bodies, bindings, chartVariables, chartBodies}
 use Rattle.sheet.specs.Sheet.{recordOf}
 use Rattle.sheet_rules.specs.declared.Typed.the-variants.{Expression, Statement}
 use Rattle.sheet_rules.specs.declared.Checked.the-variants.{Passed}
 use Rattle.sheet_rules.specs.Fields.{fieldOf, typeAt}
+use Rattle.sheet_rules.specs.Indices.{cellsBefore}
 use Rattle.sheet_rules.specs.Shape.{treeShape}
 use Rattle.sheet_rules.specs.Types.{typeOf}
 use Rattle.machine.specs.Values.{firstCell}
+use Rattle.machine.specs.State.{cellAt}
 use Rattle.machine.specs.Valid.{OfSheet}
 use Rattle.machine.specs.Eval.{Context, evalOf}
 use Rattle.sheet_rules.specs.Check.{checkOf}
@@ -28,33 +30,35 @@ unfoldable pub recordOr0 : Found → Record
 recordOr0 (Present r) = r
 recordOr0 Absent = record { f0 = 0; f1 = 0; f2 = 0; f3 = 0; f4 = 0; f5 = 0; f6 = 0; f7 = 0 }
 
--- Where a body runs, as six numbers: the element, the cell of its first variable, its binding's number, its chart's, its chart's first body's, the body's.
+-- Where a body runs, as 38 numbers: the element, its binding's number, its chart's, its chart's first body's, the body's; then the first cell of each of its chart's variables, and one behind the last of them.
 abbrev pub elementIn : List ℕ → ℕ
 elementIn w = getD w 0 0
 
-abbrev pub firstCellIn : List ℕ → ℕ
-firstCellIn w = getD w 1 0
-
 abbrev pub bindingIn : List ℕ → ℕ
-bindingIn w = getD w 2 0
+bindingIn w = getD w 1 0
 
 abbrev pub chartIn : List ℕ → ℕ
-chartIn w = getD w 3 0
+chartIn w = getD w 2 0
 
 abbrev pub firstBodyIn : List ℕ → ℕ
-firstBodyIn w = getD w 4 0
+firstBodyIn w = getD w 3 0
 
 abbrev pub bodyIn : List ℕ → ℕ
-bodyIn w = getD w 5 0
+bodyIn w = getD w 4 0
+
+-- the first cell of variable n
+abbrev pub cellIn : List ℕ → ℕ → ℕ
+cellIn w n = getD w (5 + n) 0
 
 unfoldable pub contextAt : List ℕ → List ℕ → Context
 contextAt s w = record { element = elementIn w; binding = recordOr0 (recordOf s bindings (bindingIn w)); chart = recordOr0 (recordOf s charts (chartIn w)); body = recordOr0 (recordOf s bodies (bodyIn w)) }
 
 -- the numbers are those of a body of an element on a passed sheet
 pub record Running (s w : List ℕ) : Type 0 where
+  pub whole : length w ≡ 38
   pub passed : checkOf s ≡ Passed
   pub placed : Placed s (contextAt s w)
-  pub cell : firstCellIn w ≡ firstCell s (elementIn w)
+  pub cells : (n : ℕ) → n ≤ chartVariables (contextAt s w .chart) .count → cellIn w n ≡ firstCell s (elementIn w) + cellsBefore s (contextAt s w .chart) n
   pub binding : recordOf s bindings (bindingIn w) ≡ Present (contextAt s w .binding)
   pub first : firstBodyIn w ≡ chartBodies (contextAt s w .chart) .first
 
@@ -63,6 +67,20 @@ pub record Ready (s w : List ℕ) (st lo : List ℤ) : Type 0 where
   pub running : Running s w
   pub state : OfSheet s st
   pub locals : Locals s (contextAt s w) lo
+
+-- the cell of plain variable n lies in the state, which is short
+pub record Lies (w : List ℕ) (st : List ℤ) (n : ℕ) : Type 0 where
+  pub whole : length w ≡ 38
+  pub number : n < 32
+  pub inside : cellAt (cellIn w n) + 8 ≤ length st
+  pub short : length st ≤ 5128
+
+-- the cells of variable n, from its first one on and before the next variable's, lie in the state
+pub record Reaches (w : List ℕ) (st : List ℤ) (n : ℕ) : Type 0 where
+  pub whole : length w ≡ 38
+  pub number : n < 32
+  pub rise : cellIn w n ≤ cellIn w (n + 1)
+  pub inside : (k : ℕ) → k < cellIn w (n + 1) - cellIn w n → cellAt (cellIn w n + k) + 8 ≤ length st
 
 -- node n is an expression of the body
 pub record IsExpression (s w : List ℕ) (n : ℕ) : Type 0 where

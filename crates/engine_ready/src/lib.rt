@@ -1,16 +1,16 @@
-// Where a body runs, as six numbers, and what stands at each place of them; beside this, definitions
+// Where a body runs, as 38 numbers, and what stands at each place of them; beside this, definitions
 // and theorems: what an engine knows while a body runs, and what each form of node then comes to in words.
 
-// The element, and the cell of its first variable.
 pub const ELEMENT: usize = 0;
 
-pub const FIRST_CELL: usize = 1;
-
 // The numbers of the records in sections 7 and 4: the element's binding and its chart.
-pub const BINDING: usize = 2;
+pub const BINDING: usize = 1;
 
-pub const CHART: usize = 3;
+pub const CHART: usize = 2;
 
-// The number in section 5 of the chart's first body. The sixth is that of the body that runs: only
+// The number in section 5 of the chart's first body. Next to it is that of the body that runs: only
 // contracts ask for it.
-pub const FIRST_BODY: usize = 4;
+pub const FIRST_BODY: usize = 3;
+
+// From here on the first cell of each of the chart's variables, and the cell behind the last of them.
+pub const CELLS: usize = 5;

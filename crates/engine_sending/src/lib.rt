@@ -27,7 +27,7 @@ ghost use Rattle.engine_sending.specs.Sent.{dataAt, sent, sentTo};
 pub fn gather(
     sheet: &[u8],
     directory: &[usize; 16],
-    context: &[usize; 6],
+    context: &[usize; 38],
     st: &[i32],
     lo: &[i32; 16],
     r: Record,
@@ -83,7 +83,7 @@ fn append(st: &mut [i32], t: Telegram, left: u32) -> Ran
 fn send(
     sheet: &[u8],
     directory: &[usize; 16],
-    context: &[usize; 6],
+    context: &[usize; 38],
     st: &mut [i32],
     lo: &[i32; 16],
     r: Record,
@@ -125,7 +125,7 @@ fn send(
 fn send_to(
     sheet: &[u8],
     directory: &[usize; 16],
-    context: &[usize; 6],
+    context: &[usize; 38],
     st: &mut [i32],
     lo: &[i32; 16],
     n: usize,
@@ -161,7 +161,7 @@ fn send_to(
 pub fn external_send(
     sheet: &[u8],
     directory: &[usize; 16],
-    context: &[usize; 6],
+    context: &[usize; 38],
     st: &mut [i32],
     lo: &[i32; 16],
     n: usize,
@@ -188,7 +188,7 @@ pub fn external_send(
 pub fn internal_send(
     sheet: &[u8],
     directory: &[usize; 16],
-    context: &[usize; 6],
+    context: &[usize; 38],
     st: &mut [i32],
     lo: &[i32; 16],
     n: usize,

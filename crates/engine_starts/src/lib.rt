@@ -16,10 +16,17 @@ ghost use Rattle.machine.specs.State.{stateLength};
 ghost use Rattle.machine.specs.Play.{ended, answer, isInitial, elementBody, alone, ranBody, started};
 ghost use Rattle.sheet_rules.specs.Check.{checkOf};
 ghost use Rattle.machine_events.specs.Playing.{Playing};
+ghost use Rattle.engine_cells.specs.Cells.{CellTable};
 
 // The initial body of element e.
-fn initial(sheet: &[u8], directory: &[usize; 16], st: &mut [i32], e: usize) -> Ran
-    requires { ⌜ Playing (now sheet) (now directory) (now st) × (isBound (now sheet) e ≡ true) ⌝ }
+fn initial(
+    sheet: &[u8],
+    directory: &[usize; 16],
+    cells: &[usize; 2112],
+    st: &mut [i32],
+    e: usize,
+) -> Ran
+    requires { ⌜ Playing (now sheet) (now directory) (now st) × (isBound (now sheet) e ≡ true) × CellTable (now sheet) (now cells) ⌝ }
     ensures { λ r. ⌜ (r ≡ ranBody (now (sheet .entry)) e (alone (elementBody (now (sheet .entry)) e isInitial)) [] (now (st .entry)) .ran) × (now (st .exit) ≡ ranBody (now (sheet .entry)) e (alone (elementBody (now (sheet .entry)) e isInitial)) [] (now (st .entry)) .st) ⌝ }
 {
     let Found::Present(c) = engine_valid_values::chart_of(sheet, directory, e) else {
@@ -27,10 +34,10 @@ fn initial(sheet: &[u8], directory: &[usize; 16], st: &mut [i32], e: usize) -> R
     };
     let j = engine_finders::with_role(sheet, directory, c, 0);
     let none = [0i32; 4];
-    engine_bodies::run_body(sheet, directory, st, e, c.f4 as usize + j, &none)
+    engine_bodies::run_body(sheet, directory, cells, st, e, c.f4 as usize + j, &none)
 }
 
-// "after 6 to 10 its state is all zeros"
+// "after 6 to 10 its state is all zeros", and after 11
 fn refused(st: &mut [i32], number: u8, steps: u32) -> Answer
     ensures { λ a. ⌜ (a ≡ answer number steps Nothing) × (now (st .exit) ≡ replicate (length (now (st .entry))) (pos 0)) ⌝ }
 {
@@ -39,8 +46,13 @@ fn refused(st: &mut [i32], number: u8, steps: u32) -> Answer
 }
 
 // "all defaults, nothing waiting, then the initial bodies in element order"
-pub fn from_defaults(sheet: &[u8], directory: &[usize; 16], st: &mut [i32]) -> Answer
-    requires { ⌜ (now directory ≡ directoryOf (now sheet)) × (checkOf (now sheet) ≡ Passed) × (length (now st) ≡ stateLength (now sheet)) ⌝ }
+pub fn from_defaults(
+    sheet: &[u8],
+    directory: &[usize; 16],
+    cells: &[usize; 2112],
+    st: &mut [i32],
+) -> Answer
+    requires { ⌜ (now directory ≡ directoryOf (now sheet)) × (checkOf (now sheet) ≡ Passed) × (length (now st) ≡ stateLength (now sheet)) × CellTable (now sheet) (now cells) ⌝ }
     ensures { λ a. ⌜ ended a (now (st .exit)) ≡ started (now (sheet .entry)) ⌝ }
 {
     engine_defaults::default_state(sheet, directory, st);
@@ -50,7 +62,7 @@ pub fn from_defaults(sheet: &[u8], directory: &[usize; 16], st: &mut [i32]) -> A
     let mut steps: u32 = 0;
     let mut i: usize = 0;
     while i < count {
-        let r = initial(sheet, directory, st, first + i);
+        let r = initial(sheet, directory, cells, st, first + i);
         match r {
             Ran::Done { left } => {
                 steps += most - left;

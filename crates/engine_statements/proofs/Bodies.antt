@@ -1,17 +1,18 @@
 -- A call: the body that it names, its parameters, and the body's own variables.
 use Prim.Native.Nat.{ℕ, zero, suc, _+_, _-_, _<_, _≤_}
 use mathlib.Core.Path.{_≡_, refl, sym, ap, subst, _∙_, fun-ext}
-use mathlib.Core.List.{List, [], _∷_}
+use mathlib.Core.List.{List}
 use mathlib.Core.Bool.{Bool, true, false}
 use native.Mathlib.Omega.{arith}
 use native.Mathlib.Decide.{decLt}
+use lib.ListN.{length, getD}
 use lib.Dec.{ltb}
 use lib.IntN.{ℤ}
 use borrow.Author.Tests.{lt-ltb, le-ltb, leb-true}
 use Rattle.sheet.specs.declared.Record.{Record}
 use Rattle.sheet.specs.declared.Found.{Found}
 use Rattle.sheet.specs.declared.Found.the-variants.{Present, Absent}
-use Rattle.sheet.specs.Names.{bodies, chartBodies, bodyParameters, bodyLocals, root}
+use Rattle.sheet.specs.Names.{bodies, bindings, chartVariables, chartBodies, bodyParameters, bodyLocals, root}
 use Rattle.sheet.specs.Sheet.{recordOf}
 use Rattle.sheet.proofs.All.{true-false, and-first, and-second}
 use Rattle.sheet.proofs.Sheet.{count-limit}
@@ -19,11 +20,12 @@ use Rattle.machine.specs.declared.Ran.{Ran}
 use Rattle.machine.specs.declared.Ran.the-variants.{Refused, Stuck}
 use Rattle.sheet_rules.specs.Fields.{typeAt}
 use Rattle.sheet_rules.specs.Forms.{call, calledBody}
+use Rattle.sheet_rules.specs.Indices.{cellsBefore}
 use Rattle.sheet_rules.specs.Shape.{bodyShape, treeShape}
 use Rattle.sheet_rules.specs.Types.{typeOf}
 use Rattle.sheet_rules.specs.declared.Typed.the-variants.{Statement}
 use Rattle.sheet_rules.specs.Static.{bodyStatic}
-use Rattle.machine.specs.Values.{inType}
+use Rattle.machine.specs.Values.{inType, firstCell}
 use Rattle.machine.specs.Eval.{Context}
 use Rattle.machine.specs.Run.{World, world, provided, datum, localAt, listFrom, localsOf, localsThere, inBody, entered, runOf, openCalls}
 use Rattle.machine_passed.specs.Places.{Placed, Locals}
@@ -32,7 +34,7 @@ use Rattle.machine_passed.proofs.Charts.{body-tree, body-static}
 use Rattle.machine_passed.proofs.Declared.{locals-there}
 use Rattle.machine_sound.proofs.Locals.{fresh-locals}
 use Rattle.machine_sound.proofs.Run.{called-in, is-statement}
-use Rattle.engine_ready.specs.Ready.{elementIn, firstCellIn, bindingIn, chartIn, firstBodyIn, recordOr0, contextAt, Running, Ready, IsStatement, HasData}
+use Rattle.engine_ready.specs.Ready.{elementIn, firstBodyIn, recordOr0, contextAt, Running, Ready, IsStatement, HasData}
 use Rattle.engine_ready.specs.Words.{given, DataTold, ranData, fourWords}
 use Rattle.engine_ready.proofs.Statements.{called-there, call-data, call-told, call-word}
 use Rattle.engine_sending.specs.Visit.{Visit}
@@ -140,15 +142,7 @@ module _ (s : List ℕ) (y : Context) (depth : ℕ) (b : Record) (zs : List ℤ)
   unfolding entered provided
   body-runs h k o st′ lo′ e = rw (entered, lt-ltb depth openCalls h, provided, k) (ap (λ v. world (v .ran) (v .st) lo) e)
 
--- the six numbers inside
-abbrev pub innerOf : List ℕ → ℕ → List ℕ
-innerOf w k = elementIn w ∷ firstCellIn w ∷ bindingIn w ∷ chartIn w ∷ firstBodyIn w ∷ k ∷ []
-
 module _ (s w : List ℕ) (st : List ℤ) (k : ℕ) (b : Record) (zs : List ℤ) (c : Callable s w st k b zs) where
-  pub inner-context : contextAt s (innerOf w k) ≡ inBody (contextAt s w) b
-  unfolding contextAt recordOr0
-  inner-context = rw (c .there) refl
-
   placed : Placed s (inBody (contextAt s w) b)
   placed = record { element = c .running .placed .element; body = c .inside }
 
@@ -166,20 +160,38 @@ module _ (s w : List ℕ) (st : List ℤ) (k : ℕ) (b : Record) (zs : List ℤ)
   unfolding bodyShape
   few-variables = leb-true _ _ (and-first _ _ (and-second _ _ (and-second _ _ (and-second _ _ (and-second _ _ (and-second _ _ shaped))))))
 
-  inner-running : Running s (innerOf w k)
-  unfolding contextAt
-  inner-running = record { passed = c .running .passed; placed = subst (Placed s) (sym inner-context) placed; cell = c .running .cell; binding = c .running .binding; first = c .running .first }
+  -- the numbers inside are those outside, but for the body's own
+  module _ (w′ : List ℕ) (inside : (length w′ ≡ 38) × (getD w′ 4 0 ≡ k) × ((n : ℕ) → (n ≡ 4 → ⊥) → getD w′ n 0 ≡ getD w n 0)) where
+    same : (n : ℕ) → (n ≡ 4 → ⊥) → getD w′ n 0 ≡ getD w n 0
+    same = inside .2
 
-  pub inner-ready : Ready s (innerOf w k) st (localsOf s b zs)
-  inner-ready = record { running = inner-running; state = c .state; locals = subst (λ y. Locals s y (localsOf s b zs)) (sym inner-context) (fresh-locals s (c .running .passed) (inBody (contextAt s w) b) placed zs (c .parameters)) }
+    pub inner-context : contextAt s w′ ≡ inBody (contextAt s w) b
+    unfolding contextAt recordOr0
+    inner-context = rw (same 0 (λ q. omega arith), same 1 (λ q. omega arith), same 2 (λ q. omega arith), inside .1, c .there) refl
 
-  pub inner-statement : IsStatement s (innerOf w k) (root b)
-  unfolding bodyStatic
-  inner-statement = record {
-    levels = 64;
-    tree = subst (λ y. treeShape s (y .chart) (y .body) 64 (root b) ≡ true) (sym inner-context) (body-tree s (c .running .passed) _ _ (c .running .placed .element .chart) b (c .inside));
-    typed = subst (λ y. typeOf s (y .chart) (y .body) (root b) ≡ Statement) (sym inner-context) (is-statement _ (and-second _ _ (and-second _ _ (and-second _ _ (body-static s (c .running .passed) _ _ (c .running .placed .element .chart) b (c .inside))))));
-  }
+    abbrev chart-same : contextAt s w′ .chart ≡ contextAt s w .chart
+    chart-same = ap (λ y. y .chart) inner-context
+
+    inner-running : Running s w′
+    inner-running = record {
+      whole = inside .0;
+      passed = c .running .passed;
+      placed = subst (Placed s) (sym inner-context) placed;
+      cells = λ n h. same (5 + n) (λ q. omega arith) ∙ c .running .cells n (subst (λ c. n ≤ chartVariables c .count) chart-same h) ∙ sym (ap (λ e. firstCell s e + cellsBefore s (contextAt s w′ .chart) n) (same 0 (λ q. omega arith)) ∙ ap (λ c. firstCell s (elementIn w) + cellsBefore s c n) chart-same);
+      binding = ap (recordOf s bindings) (same 1 (λ q. omega arith)) ∙ c .running .binding ∙ ap (λ y. Present (y .binding)) (sym inner-context);
+      first = same 3 (λ q. omega arith) ∙ c .running .first ∙ ap (λ c. chartBodies c .first) (sym chart-same);
+    }
+
+    pub inner-ready : Ready s w′ st (localsOf s b zs)
+    inner-ready = record { running = inner-running; state = c .state; locals = subst (λ y. Locals s y (localsOf s b zs)) (sym inner-context) (fresh-locals s (c .running .passed) (inBody (contextAt s w) b) placed zs (c .parameters)) }
+
+    pub inner-statement : IsStatement s w′ (root b)
+    unfolding bodyStatic
+    inner-statement = record {
+      levels = 64;
+      tree = subst (λ y. treeShape s (y .chart) (y .body) 64 (root b) ≡ true) (sym inner-context) (body-tree s (c .running .passed) _ _ (c .running .placed .element .chart) b (c .inside));
+      typed = subst (λ y. typeOf s (y .chart) (y .body) (root b) ≡ Statement) (sym inner-context) (is-statement _ (and-second _ _ (and-second _ _ (and-second _ _ (body-static s (c .running .passed) _ _ (c .running .placed .element .chart) b (c .inside))))));
+    }
 
 module _ (s w : List ℕ) (st lo : List ℤ) (n : ℕ) (r : Record) (v : Visit s w st lo n r call) (b : Record) (there : recordOf s bodies (firstBodyIn w + r .f1) ≡ Present b) where
   pub given-left : (l : ℕ) (zs : List ℤ) (m : ℕ) → dataAt s w st lo r (bodyParameters b) l ≡ given zs m → m ≤ l

@@ -16,7 +16,8 @@ use Rattle.machine.specs.declared.Out.the-variants as out
 use Rattle.machine.specs.declared.Ran.{Ran}
 use Rattle.machine.specs.declared.Ran.the-variants.{Done, Refused, Stuck}
 use Rattle.sheet.specs.Table.{lookUp}
-use Rattle.sheet_rules.specs.Forms.{Form, literal, read, unary, binary, clock, assign, externalSend, internalSend, call, choice, loop, sequence, unknown, formOf}
+use Rattle.sheet.proofs.Table.{beyond}
+use Rattle.sheet_rules.specs.Forms.{Form, literal, read, unary, binary, clock, readElement, assign, externalSend, internalSend, call, choice, loop, sequence, assignElement, unknown, formOf}
 use Rattle.machine.specs.Values.{isZero}
 use Rattle.machine.specs.Eval.{Context, evalOf}
 use Rattle.machine.specs.Run.{World, world, goOn, thenRun, withRecord, runIn, runOf}
@@ -90,7 +91,7 @@ module _ (s w : List ℕ) (st lo : List ℤ) (ready : Ready s w st lo) (n : ℕ)
 
   module _ (r : Record) (there : recordOf s nodes n ≡ Present r) where
     -- "everything unknown", and expressions
-    pub other-stuck : (depth l : ℕ) → (32 ≤ r .f0 → r .f0 ≤ 43 → ⊥) → world Stuck st lo ≡ runOf s depth x n (suc l) st lo
+    pub other-stuck : (depth l : ℕ) → (32 ≤ r .f0 → r .f0 ≤ 44 → ⊥) → world Stuck st lo ≡ runOf s depth x n (suc l) st lo
     unfolding withRecord runIn formOf lookUp
     other-stuck depth l h = sym (run-visit s depth x n l st lo ∙ ap (λ f. withRecord f st lo (λ r. runIn s x (runOf s) depth n r l st lo (formOf (operator r)))) there ∙ form-stuck)
       where
@@ -108,7 +109,7 @@ module _ (s w : List ℕ) (st lo : List ℤ) (ready : Ready s w st lo) (n : ℕ)
                 | yes d ↦ stuck binary (form-binary (r .f0) (omega arith) (omega arith)) refl
                 | no d ↦ elim (decLt (r .f0) 19) [
                   | yes e ↦ stuck clock (form-clock (r .f0) (omega arith) (omega arith)) refl
-                  | no e ↦ stuck unknown (form-unknown (r .f0) (λ p q. omega arith) h) refl
+                  | no e ↦ elim (ℕ-discrete (r .f0) 19) [ yes f ↦ stuck readElement (ap formOf f) refl | no f ↦ stuck unknown (form-unknown (r .f0) (λ p q. omega arith) h) refl ]
                 ]
               ]
             ]
@@ -215,13 +216,17 @@ with-ran {st = st} {lo = lo} e h = ap (λ o. world o st lo) (sym e) ∙ h
 pub step-back : {v : World} (s : List ℕ) (depth : ℕ) (x : Context) (n l : ℕ) (st lo : List ℤ) → (l ≡ 0 → ⊥) → v ≡ runOf s depth x n (suc (l - 1)) st lo → v ≡ runOf s depth x n l st lo
 step-back s depth x n l st lo h e = e ∙ ap (λ l. runOf s depth x n l st lo) (sym (step-there l h))
 
-pub past-four : (op : ℕ) → 32 ≤ op → (op ≡ 32 → ⊥) → (op ≡ 33 → ⊥) → (op ≡ 34 → ⊥) → (op ≡ 35 → ⊥) → 36 ≤ op
-past-four op h a b c d = omega arith
+pub past-four : {m op : ℕ} → m ≤ op → (op ≡ m → ⊥) → (op ≡ suc m → ⊥) → (op ≡ suc (suc m) → ⊥) → (op ≡ suc (suc (suc m)) → ⊥) → suc (suc (suc (suc m))) ≤ op
+past-four h a b c d = beyond (beyond (beyond (beyond h a) b) c) d
 
 pub below-next : {a b : ℕ} → a < suc b → a ≤ b
 below-next h = omega arith
 
 module _ (op : ℕ) where
+  pub form-assign-element : op ≡ 44 → formOf op ≡ assignElement
+  unfolding formOf lookUp
+  form-assign-element e = ap formOf e
+
   pub form-assign : op ≡ 33 → formOf op ≡ assign
   unfolding formOf lookUp
   form-assign e = ap formOf e

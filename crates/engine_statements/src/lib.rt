@@ -1,10 +1,6 @@
 // What a statement does.
 use engine_ints::Work;
-use engine_ready::BINDING;
-use engine_ready::CHART;
-use engine_ready::ELEMENT;
 use engine_ready::FIRST_BODY;
-use engine_ready::FIRST_CELL;
 use machine::Ran;
 use sheet::Found;
 use sheet::Range;
@@ -25,7 +21,7 @@ ghost use Rattle.engine_statements.specs.Callable.{Callable};
 fn enter(
     sheet: &[u8],
     directory: &[usize; 16],
-    context: &[usize; 6],
+    context: &[usize; 38],
     st: &mut [i32],
     depth: u32,
     number: usize,
@@ -39,14 +35,7 @@ fn enter(
     if 16 <= depth {
         return Ran::Refused { number: 9, left };
     }
-    let inner = [
-        context[ELEMENT],
-        context[FIRST_CELL],
-        context[BINDING],
-        context[CHART],
-        context[FIRST_BODY],
-        number,
-    ];
+    let inner = engine_cells::inner(context, number);
     let mut locals = engine_defaults::fresh_locals(sheet, directory, b, d);
     run(
         sheet,
@@ -64,7 +53,7 @@ fn enter(
 fn call(
     sheet: &[u8],
     directory: &[usize; 16],
-    context: &[usize; 6],
+    context: &[usize; 38],
     st: &mut [i32],
     lo: &[i32; 16],
     depth: u32,
@@ -96,7 +85,7 @@ fn call(
 fn repeat(
     sheet: &[u8],
     directory: &[usize; 16],
-    context: &[usize; 6],
+    context: &[usize; 38],
     st: &mut [i32],
     lo: &mut [i32; 16],
     depth: u32,
@@ -148,7 +137,7 @@ fn repeat(
 pub fn run(
     sheet: &[u8],
     directory: &[usize; 16],
-    context: &[usize; 6],
+    context: &[usize; 38],
     st: &mut [i32],
     lo: &mut [i32; 16],
     depth: u32,
@@ -237,6 +226,7 @@ pub fn run(
                 Ran::Stuck => Ran::Stuck,
             }
         }
+        44 => engine_acts::assign_element(sheet, directory, context, st, lo, n, r, rest),
         _ => Ran::Stuck,
     }
 }

@@ -1,96 +1,69 @@
 -- Laws of the tests of a state, one for a path of the code.
-use Prim.Native.Nat.{ℕ, zero, suc, _+_, _*_, _-_, _≤_, _<_}
+use Prim.Native.Nat.{ℕ, _+_, _*_, _-_, _≤_, _<_}
 use mathlib.Core.Path.{_≡_, refl, sym, ap, _∙_}
 use mathlib.Core.List.{List}
 use mathlib.Core.Bool.{Bool, true, false}
 use native.Mathlib.Omega.{arith}
-use lib.ListN.{length, getD}
+use lib.ListN.{length}
 use lib.IntN.{ℤ, pos, natAbs}
 use lib.Signed.{leZ}
-use mir.Syntax.{w8}
-use mir.Val.{Fits}
 use Rattle.sheet.specs.declared.Record.{Record}
-use Rattle.sheet.specs.declared.Found.{Found}
 use Rattle.sheet.specs.declared.Found.the-variants.{Present, Absent}
-use Rattle.sheet.specs.All.{_and_, allBelow}
-use Rattle.sheet.specs.Names.{declarations, declaredType}
-use Rattle.sheet.specs.Sheet.{wordAt, offsetOf, recordAt, recordOf}
+use Rattle.sheet.specs.All.{allBelow}
+use Rattle.sheet.specs.Names.{declarations, declaredType, declaredIndex, chartVariables}
+use Rattle.sheet.specs.Sheet.{recordOf}
 use Rattle.sheet.proofs.All.{and-first}
-use Rattle.sheet.proofs.Sheet.{record-present, present-below}
-use Rattle.sheet_rules.specs.Fields.{numberOr0, declaredSo, sumBelow, componentsOf, externalsOf, elementsOf}
-use Rattle.sheet_rules.proofs.Fields.{number-present, holds-present, holds-absent, sum-more}
-use Rattle.sheet_rules.specs.Shape.{variablesBound, variablesOf}
+use Rattle.sheet_rules.specs.Fields.{declaredSo, sumBelow, componentsOf, externalsOf, elementsOf}
+use Rattle.sheet_rules.specs.Indices.{indexOf, cellsBy, cellsTaken, cellsBefore}
+use Rattle.sheet_rules.specs.Shape.{cellsBound}
+use Rattle.sheet_rules.proofs.Fields.{holds-present, holds-absent, sum-more}
+use Rattle.sheet_indices.proofs.Laws.{index-present}
 use Rattle.machine.specs.Values.{chartOf, firstCell}
-use Rattle.machine.specs.State.{cellAt, placeAt, stateLength, wordOf, waiting, telegramIn, telegramOf}
-use Rattle.machine.specs.Valid.{zeroWords, cellFits, elementFits, telegramFits, headFits, cellsFit, waitingFit, unusedZero}
+use Rattle.machine.specs.State.{cellAt, cellOf, placeAt, stateLength, wordOf, waiting, telegramIn, telegramOf}
+use Rattle.machine.specs.Valid.{zeroWords, cellFits, variableFits, elementFits, telegramFits, headFits, cellsFit, waitingFit, unusedZero}
 use Rattle.machine_states.proofs.Frame.{all-same}
 use Rattle.machine_states.proofs.Parts.{below-abs}
-use Rattle.machine_states.proofs.Elements.{element-count, element-cells}
+use Rattle.machine_states.proofs.Elements.{element-count, element-cells, variable-cells}
 use Rattle.engine_valid_words.proofs.Laws.{below-from}
-
--- ---- how many variables: a field is below 65,536, as bytes are below 256
-
-number-small : (f : Found) (g : Record → ℕ) (n : ℕ) → ((r : Record) → f ≡ Present r → g r ≤ n) → numberOr0 f g ≤ n
-unfolding numberOr0
-number-small (Present r) g n h = h r refl
-number-small Absent g n h = omega arith
-
-sum-small : (n : ℕ) (f : ℕ → ℕ) → ((i : ℕ) → f i ≤ 65535) → sumBelow n f ≤ 65535 * n
-unfolding sumBelow
-sum-small zero f h = omega arith
-sum-small (suc n) f h = omega (arith, sum-small n f h, h n)
-
-module _ (s : List ℕ) (byte : (i : ℕ) → Fits w8 (getD s i 0)) where
-  word-small : (at : ℕ) → wordAt s at ≤ 65535
-  word-small at = omega (arith, byte at .fits, byte (at + 1) .fits)
-
-  number-of : (k n : ℕ) (r : Record) (g : Record → ℕ) → recordOf s k n ≡ Present r → g r ≡ g (recordAt s (offsetOf s k + 16 * n))
-  number-of k n r g e = sym (number-present (recordOf s k n) r g e) ∙ number-present (recordOf s k n) _ g (record-present s k n (present-below s k n r e))
-
-  field-small : (k n : ℕ) (r : Record) → recordOf s k n ≡ Present r → r .f3 ≤ 65535
-  unfolding recordAt
-  field-small k n r e = omega (arith, number-of k n r (λ x. x .f3) e, word-small (offsetOf s k + 16 * n + 6))
-
-  elements-small : elementsOf s ≤ 65535
-  unfolding elementsOf componentsOf recordAt
-  elements-small = omega (arith, number-small (recordOf s 0 0) (λ r. r .f0) 65535 (λ r e. omega (arith, number-of 0 0 r (λ x. x .f0) e, word-small (offsetOf s 0 + 16 * 0))))
-
-  pub variables-small : variablesOf s ≤ 65535 * 65535
-  unfolding variablesOf variablesBound
-  variables-small = omega (arith, sum-small (elementsOf s) (variablesBound s) (λ i. number-small _ _ 65535 (λ b p. number-small _ _ 65535 (λ c q. field-small 4 (b .f0) c q))), elements-small)
 
 -- ---- the cells of an element
 
--- variable j of an element whose first cell is `first` and whose variables are declared from d on
-abbrev pub cellOf : List ℕ → List ℤ → ℕ → ℕ → ℕ → ℕ → Bool
-cellOf s st e d first j = declaredSo s (d + j) (λ t. cellFits s e t st (8 + 8 * (first + j)))
+module _ (s : List ℕ) (st : List ℤ) (e : ℕ) (c : Record) (p : chartOf s e ≡ Present c) where
+  pub element-is : allBelow (c .f3) (variableFits s st e c) ≡ elementFits s st e
+  unfolding elementFits
+  element-is = sym (holds-present (chartOf s e) c _ p)
 
-module _ (s : List ℕ) (st : List ℤ) (e : ℕ) (c : Record) (first : ℕ) (p : chartOf s e ≡ Present c) (q : first ≡ firstCell s e) where
-  pub element-is : allBelow (c .f3) (cellOf s st e (c .f2) first) ≡ elementFits s st e
-  unfolding elementFits cellAt
-  element-is = rw q (sym (holds-present (chartOf s e) c _ p))
+  pub variable-absent : (j : ℕ) → recordOf s declarations (c .f2 + j) ≡ Absent → variableFits s st e c j ≡ false
+  unfolding variableFits declaredSo
+  variable-absent j r = holds-absent _ _ r
 
-  pub cell-here : (j : ℕ) (d : Record) (b : Bool) → recordOf s declarations (c .f2 + j) ≡ Present d → b ≡ cellFits s e (declaredType d) st (8 + 8 * (first + j)) → b ≡ cellOf s st e (c .f2) first j
-  unfolding declaredSo
-  cell-here j d b r h = h ∙ sym (holds-present _ d _ r)
+  -- variable j, whose cells are x from `cell` on
+  module _ (j : ℕ) (d : Record) (r : recordOf s declarations (c .f2 + j) ≡ Present d) (x : ℕ) (taken : x ≡ cellsBy (indexOf s (declaredIndex d))) where
+    pub variable-taken : x ≡ cellsTaken s (chartVariables c .first + j)
+    unfolding cellsTaken
+    variable-taken = taken ∙ sym (ap cellsBy (index-present s (c .f2 + j) d r))
 
-  pub cell-absent : (j : ℕ) → recordOf s declarations (c .f2 + j) ≡ Absent → cellOf s st e (c .f2) first j ≡ false
-  unfolding declaredSo
-  cell-absent j r = holds-absent _ _ r
+    module _ (first cell : ℕ) (q : first ≡ firstCell s e) (from : cell ≡ first + cellsBefore s c j) where
+      pub variable-here : (b : Bool) → b ≡ allBelow x (λ k. cellFits s e (declaredType d) st (cellAt (cell + k))) → b ≡ variableFits s st e c j
+      unfolding variableFits declaredSo cellOf
+      variable-here b h = let z : cell ≡ firstCell s e + cellsBefore s c j = omega arith in h ∙ rw (z, variable-taken) (sym (holds-present _ d _ r))
 
-  pub cell-inside : (j : ℕ) → j < c .f3 → length st ≡ stateLength s → 8 + 8 * (first + j) + 8 ≤ length st
-  unfolding stateLength placeAt
-  cell-inside j l h = omega (arith, element-cells s e c p)
+      pub variable-inside : j < c .f3 → length st ≡ stateLength s → cellAt (cell + x) ≤ length st
+      unfolding stateLength placeAt cellAt
+      variable-inside l h = omega (arith, element-cells s e c p, variable-cells s c j (c .f3) l, variable-taken)
+
+pub element-end : (s : List ℕ) (c : Record) (first cell j : ℕ) → j ≤ c .f3 → c .f3 ≤ j → cell ≡ first + cellsBefore s c j → cell ≡ first + cellsBefore s c (chartVariables c .count)
+element-end s c first cell j l m q = let e : j ≡ c .f3 = omega arith in q ∙ ap (λ (n : ℕ). first + cellsBefore s c n) e
 
 -- ---- the cells of all elements
 
-module _ (s : List ℕ) (from i first : ℕ) (p : from ≡ externalsOf s) (q : first ≡ sumBelow i (variablesBound s)) where
+module _ (s : List ℕ) (from i first : ℕ) (p : from ≡ externalsOf s) (q : first ≡ sumBelow i (cellsBound s)) where
   pub first-is : first ≡ firstCell s (from + i)
   unfolding firstCell
   first-is = let e : from + i - externalsOf s ≡ i = omega arith in rw e q
 
-  pub first-next : (c : Record) → chartOf s (from + i) ≡ Present c → first + c .f3 ≡ sumBelow (i + 1) (variablesBound s)
-  first-next c h = let e : from + i - externalsOf s ≡ i = omega arith in let k : variablesBound s i ≡ c .f3 = rw e at (element-count s (from + i) c h) in sym (sum-more i (variablesBound s) ∙ omega (arith, k, q))
+  pub first-next : (c : Record) (next : ℕ) → chartOf s (from + i) ≡ Present c → next ≡ first + cellsBefore s c (chartVariables c .count) → next ≡ sumBelow (i + 1) (cellsBound s)
+  first-next c next h n = let e : from + i - externalsOf s ≡ i = omega arith in let k : cellsBound s i ≡ cellsBefore s c (chartVariables c .count) = rw e at (element-count s (from + i) c h) in omega (arith, sum-more i (cellsBound s))
 
 -- element i is one of those from `from` to `to`
 pub element-of : (s : List ℕ) (from to i : ℕ) → from ≡ externalsOf s → to ≡ componentsOf s → from + i < to → i < elementsOf s

@@ -3,20 +3,56 @@ use sheet::Found;
 use sheet::Record;
 ghost use mathlib.Core.Path.{_≡_};
 ghost use mathlib.Core.List.{List};
-ghost use Prim.Native.Nat.{ℕ, _≤_};
+ghost use mathlib.Core.Bool.{true};
+ghost use Prim.Native.Nat.{ℕ, _+_, _≤_};
 ghost use lib.ListN.{length};
 ghost use lib.IntN.{natAbs};
 ghost use Rattle.sheet.specs.declared.Found.the-variants.{Present};
+ghost use Rattle.sheet.specs.All.{allBelow};
+ghost use Rattle.sheet.specs.Names.{chartVariables};
 ghost use Rattle.sheet.specs.Sheet.{directoryOf};
+ghost use Rattle.sheet_rules.specs.Indices.{cellsBefore};
+ghost use Rattle.sheet_rules.specs.Shape.{cellsOf};
 ghost use Rattle.machine.specs.Values.{chartOf, firstCell};
-ghost use Rattle.machine.specs.State.{stateLength, wordOf};
-ghost use Rattle.machine.specs.Valid.{elementFits, headFits, cellsFit, waitingFit, unusedZero, contentFits};
+ghost use Rattle.machine.specs.State.{cellAt, stateLength, wordOf};
+ghost use Rattle.machine.specs.Valid.{cellFits, elementFits, headFits, cellsFit, waitingFit, unusedZero, contentFits};
 
-pub fn state_length(sheet: &[u8], directory: &[usize; 16]) -> usize
-    requires { ⌜ now directory ≡ directoryOf (now sheet) ⌝ }
-    ensures { λ n. ⌜ n ≡ stateLength (now (sheet .entry)) ⌝ }
+// How many words a state has. Elements have at most 512 cells together.
+pub fn state_length(cells: usize) -> usize
+    requires { ⌜ cells ≤ 512 ⌝ }
+    ensures { λ n. ⌜ ((s : List ℕ) → cells ≡ cellsOf s → n ≡ stateLength s) ⌝ }
 {
-    8 + 8 * sheet_elements::variables(sheet, directory) + 1024
+    8 + 8 * cells + 1024
+}
+
+// The n cells of a variable of type t of element e, from a cell on.
+fn variable_fits(
+    sheet: &[u8],
+    directory: &[usize; 16],
+    e: usize,
+    t: usize,
+    cell: usize,
+    n: usize,
+    st: &[i32],
+) -> bool
+    requires { ⌜ (now directory ≡ directoryOf (now sheet)) × (cellAt (cell + n) ≤ length (now st)) ⌝ }
+    ensures { λ b. ⌜ b ≡ allBelow n (λ k. cellFits (now (sheet .entry)) e t (now (st .entry)) (cellAt (cell + k))) ⌝ }
+{
+    let mut k: usize = 0;
+    while k < n {
+        let at = 8 + 8 * (cell + k);
+        if !engine_valid_cells::cell_fits(sheet, directory, e, t, st, at) {
+            return false;
+        }
+        k += 1;
+    }
+    true
+}
+
+// Whether an element's cells fit, and if so the cell behind them.
+struct Judged {
+    fits: bool,
+    behind: usize,
 }
 
 // The cells of element e, which is bound to chart c, from cell `first` on.
@@ -27,24 +63,34 @@ fn element_fits(
     c: Record,
     first: usize,
     st: &[i32],
-) -> bool
+) -> Judged
     requires { ⌜ (now directory ≡ directoryOf (now sheet)) × (chartOf (now sheet) e ≡ Present c) × (first ≡ firstCell (now sheet) e) × (length (now st) ≡ stateLength (now sheet)) ⌝ }
-    ensures { λ b. ⌜ b ≡ elementFits (now (sheet .entry)) (now (st .entry)) e ⌝ }
+    ensures { λ r. ⌜ (r .fits ≡ elementFits (now (sheet .entry)) (now (st .entry)) e) × (r .fits ≡ true → r .behind ≡ first + cellsBefore (now (sheet .entry)) c (chartVariables c .count)) ⌝ }
 {
-    let declared = c.f2 as usize;
     let count = c.f3 as usize;
+    let mut cell = first;
     let mut j: usize = 0;
     while j < count {
-        let at = 8 + 8 * (first + j);
-        let Found::Present(d) = sheet_reader::read(sheet, directory, 2, declared + j) else {
-            return false;
+        let Found::Present(d) = sheet_reader::read(sheet, directory, 2, c.f2 as usize + j) else {
+            return Judged {
+                fits: false,
+                behind: cell,
+            };
         };
-        if !engine_valid_cells::cell_fits(sheet, directory, e, d.f0 as usize, st, at) {
-            return false;
+        let taken = sheet_indices::cells_by(sheet, directory, d.f1);
+        if !variable_fits(sheet, directory, e, d.f0 as usize, cell, taken, st) {
+            return Judged {
+                fits: false,
+                behind: cell,
+            };
         }
+        cell += taken;
         j += 1;
     }
-    true
+    Judged {
+        fits: true,
+        behind: cell,
+    }
 }
 
 fn head_fits(st: &[i32]) -> bool
@@ -69,10 +115,11 @@ fn cells_fit(sheet: &[u8], directory: &[usize; 16], st: &[i32]) -> bool
         let Found::Present(c) = engine_valid_values::chart_of(sheet, directory, from + i) else {
             return false;
         };
-        if !element_fits(sheet, directory, from + i, c, first, st) {
+        let judged = element_fits(sheet, directory, from + i, c, first, st);
+        if !judged.fits {
             return false;
         }
-        first += c.f3 as usize;
+        first = judged.behind;
         i += 1;
     }
     true

@@ -13,10 +13,10 @@ use Rattle.sheet.specs.All.{_and_}
 use Rattle.sheet.specs.Table.{lookUp}
 use Rattle.sheet.specs.Sheet.{recordOf}
 use Rattle.sheet.proofs.All.{and-true, and-false, false-and}
-use Rattle.sheet_rules.specs.Fields.{componentsOf, externalsOf, portsOf}
+use Rattle.sheet_rules.specs.Fields.{componentsOf, externalsOf, portsOf, membersOf}
 use Rattle.sheet_rules.specs.DataTypes.{dataTypeOf}
 use Rattle.sheet_rules.proofs.DataTypes.{type-no-data, type-enumerated}
-use Rattle.machine.specs.Values.{fits32, isBelow, membersOf, inDataType, inType, isBound, bindingOf, chartOf}
+use Rattle.machine.specs.Values.{fits32, isBelow, inDataType, inType, isBound, bindingOf, chartOf}
 
 -- ---- bound elements
 

@@ -5,8 +5,8 @@ ghost use Prim.Native.Nat.{_+_, _<_, _≤_};
 ghost use lib.ListN.{length};
 ghost use Rattle.sheet.specs.Sheet.{directoryOf};
 ghost use Rattle.sheet.specs.All.{_and_};
-ghost use Rattle.sheet_rules.specs.Fields.{componentsOf, externalsOf, portsOf};
-ghost use Rattle.machine.specs.Values.{isBelow, membersOf, inType, isBound, bindingOf, chartOf};
+ghost use Rattle.sheet_rules.specs.Fields.{componentsOf, externalsOf, portsOf, membersOf};
+ghost use Rattle.machine.specs.Values.{isBelow, inType, isBound, bindingOf, chartOf};
 ghost use Rattle.machine.specs.State.{wordOf};
 
 // ---- numbers of the sheet

@@ -1,3 +1,4 @@
 pub mod Appending
 pub mod Samples
 pub mod NotPassed
+pub mod Arrays

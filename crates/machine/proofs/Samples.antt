@@ -8,13 +8,13 @@ use Rattle.sheet.specs.All.{_and_}
 use Rattle.sheet.specs.Table.{lookUp}
 use Rattle.sheet_rules.specs.Forms.{binaryOf}
 use Rattle.sheet_rules.proofs.Samples.{sheetOf, rec3, rec6, body, check, assigning}
-use Rattle.machine.specs.Values.{fits32, isBelow, recordBy, isZero, membersOf, inDataType, inType, defaultIn, defaultOf, hasDefault, isBound, bindingOf, chartOf, firstCell}
-use Rattle.machine.specs.State.{cellAt, placeAt, stateLength, wordOf, waiting, setWaiting, telegramIn, telegramOf, putWords, withTelegram, appended, withoutTelegram}
-use Rattle.machine.specs.Valid.{dataFit, nameFits, reactionAwaits, zeroWords, runningClock, clockCell, cellFits, elementFits, internalFits, externalFits, telegramFits, headFits, cellsFit, waitingFit, unusedZero, contentFits}
-use Rattle.machine.specs.Eval.{val, isVariable, andThen, needs, onRecord, intOut, quotient, remainder, dividing, notVal, onInts, combined, binaryVal, written, literalValue, within, ofType, parameterVal, variableAtCell, readAs, readVal, clockWord, clockVal, evalIn, evalStep, evalF, evalOf}
-use Rattle.machine.specs.Run.{goOn, thenOperand, withRecord, provided, before, nextValue, valuesFrom, thenValues, areOf, wordsIn, localAt, listFrom, localsOf, localsThere, append, armed, clockSet, fewer, assigned, hasVariable, assignOf, nameValues, externalSendOf, internalSendOf, armOf, clockActOf, entered, callOf, choiceOf, runIn, runStep, runF, runOf}
+use Rattle.machine.specs.Values.{fits32, isBelow, recordBy, isZero, inDataType, inType, defaultIn, defaultOf, hasDefault, isBound, bindingOf, chartOf, firstCell}
+use Rattle.machine.specs.State.{cellAt, cellOf, placeAt, stateLength, wordOf, waiting, setWaiting, telegramIn, telegramOf, putWords, withTelegram, appended, withoutTelegram}
+use Rattle.machine.specs.Valid.{dataFit, nameFits, reactionAwaits, zeroWords, runningClock, clockCell, cellFits, variableFits, elementFits, internalFits, externalFits, telegramFits, headFits, cellsFit, waitingFit, unusedZero, contentFits}
+use Rattle.machine.specs.Eval.{val, isVariable, isPlainVariable, andThen, needs, onRecord, intOut, quotient, remainder, dividing, notVal, onInts, combined, binaryVal, written, literalValue, within, ofType, parameterVal, variableAtCell, reached, elementAs, elementVal, readAs, readVal, clockWord, clockVal, evalIn, evalStep, evalF, evalOf}
+use Rattle.machine.specs.Run.{goOn, thenOperand, withRecord, provided, before, nextValue, valuesFrom, thenValues, areOf, wordsIn, localAt, listFrom, localsOf, localsThere, append, armed, clockSet, fewer, assigned, hasVariable, assignOf, elementAssigned, assignElementOf, nameValues, externalSendOf, internalSendOf, armOf, clockActOf, entered, callOf, choiceOf, runIn, runStep, runF, runOf}
 use Rattle.machine.specs.Kinds.{kindOf}
-use Rattle.machine.specs.Play.{Outcome, ended, stuck, answer, limitOf, bodyFrom, bodyWhere, ranBody, elementBody, alone, eventEnd, defaultCell, defaultCells, elementCells, cellsFrom, defaultState, hasHead, elementThere, elementsThere, startNext, startFrom, started, oldestFrom, oldest, taking, sameDeclared, brought, reacting, panicking, withNumber, outside, bodiesThere, received, delivered, deliver, corrupt, inner, thenSlice, fires, ticks, slicedCell, slicedVariable, slicedCells, slicedElement, slicedFrom, changeEnd, slice, restZero, wellFormed, isEvent, happensAs, happens, ifPassed, startCall, eventCall}
+use Rattle.machine.specs.Play.{Outcome, ended, stuck, answer, limitOf, bodyFrom, bodyWhere, ranBody, elementBody, alone, eventEnd, defaultCell, alike, defaultCells, elementCells, cellsFrom, defaultState, hasHead, elementThere, elementsThere, startNext, startFrom, started, oldestFrom, oldest, taking, sameDeclared, brought, reacting, panicking, withNumber, outside, bodiesThere, received, delivered, deliver, corrupt, inner, thenSlice, fires, ticks, slicedCell, slicedEach, slicedVariable, slicedCells, slicedElement, slicedFrom, changeEnd, slice, restZero, wellFormed, isEvent, happensAs, happens, ifPassed, startCall, eventCall}
 use Rattle.machine.specs.declared.Out.{Out}
 use Rattle.machine.specs.declared.Out.the-variants.{Val, Refused}
 use Rattle.machine.specs.declared.Handed.the-variants.{Nothing}
@@ -52,7 +52,7 @@ mod-zero l = refl
 -- ---- start and events, with every definition open
 
 unfoldable pub start : List (List ℕ) → Outcome
-unfolding check fits32 isBelow recordBy isZero membersOf inDataType inType defaultIn defaultOf hasDefault isBound bindingOf chartOf firstCell cellAt placeAt stateLength wordOf waiting setWaiting telegramIn telegramOf putWords withTelegram appended withoutTelegram dataFit nameFits reactionAwaits zeroWords runningClock clockCell cellFits elementFits internalFits externalFits telegramFits headFits cellsFit waitingFit unusedZero contentFits andThen needs onRecord intOut quotient remainder dividing notVal onInts combined binaryVal written literalValue within ofType parameterVal variableAtCell readAs readVal clockWord clockVal evalIn evalStep evalF evalOf goOn thenOperand withRecord provided before nextValue valuesFrom thenValues areOf wordsIn localAt listFrom localsOf localsThere append armed clockSet fewer assigned hasVariable assignOf nameValues externalSendOf internalSendOf isVariable armOf clockActOf entered callOf choiceOf runIn runStep runF runOf limitOf bodyFrom bodyWhere ranBody elementBody alone eventEnd defaultCell defaultCells elementCells cellsFrom defaultState hasHead elementThere elementsThere startNext startFrom started oldestFrom oldest taking sameDeclared brought reacting panicking withNumber outside bodiesThere received delivered deliver corrupt inner thenSlice fires ticks slicedCell slicedVariable slicedCells slicedElement slicedFrom changeEnd slice restZero wellFormed kindOf isEvent happensAs happens ifPassed startCall eventCall
+unfolding check fits32 isBelow recordBy isZero inDataType inType defaultIn defaultOf hasDefault isBound bindingOf chartOf firstCell cellAt cellOf placeAt stateLength wordOf waiting setWaiting telegramIn telegramOf putWords withTelegram appended withoutTelegram dataFit nameFits reactionAwaits zeroWords runningClock clockCell cellFits variableFits elementFits internalFits externalFits telegramFits headFits cellsFit waitingFit unusedZero contentFits andThen needs onRecord intOut quotient remainder dividing notVal onInts combined binaryVal written literalValue within ofType parameterVal variableAtCell reached elementAs elementVal readAs readVal clockWord clockVal evalIn evalStep evalF evalOf goOn thenOperand withRecord provided before nextValue valuesFrom thenValues areOf wordsIn localAt listFrom localsOf localsThere append armed clockSet fewer assigned hasVariable assignOf elementAssigned assignElementOf nameValues externalSendOf internalSendOf isVariable isPlainVariable armOf clockActOf entered callOf choiceOf runIn runStep runF runOf limitOf bodyFrom bodyWhere ranBody elementBody alone eventEnd defaultCell alike defaultCells elementCells cellsFrom defaultState hasHead elementThere elementsThere startNext startFrom started oldestFrom oldest taking sameDeclared brought reacting panicking withNumber outside bodiesThere received delivered deliver corrupt inner thenSlice fires ticks slicedCell slicedEach slicedVariable slicedCells slicedElement slicedFrom changeEnd slice restZero wellFormed kindOf isEvent happensAs happens ifPassed startCall eventCall
 start ss = startCall (sheetOf ss) (replicate (stateLength (sheetOf ss)) (pos 0))
 
 -- the machine alone, without the tests of sheet, state and event that a call makes before

@@ -3,7 +3,7 @@ use Prim.Native.Nat.{ℕ, zero, suc, _+_, _*_, _-_}
 use mathlib.Core.List.{List}
 use mathlib.Core.Bool.{Bool, true, false, not}
 use lib.Dec.{ltb, eqb}
-use lib.IntN.{ℤ, pos, _+ℤ_, _-ℤ_, _*ℤ_}
+use lib.IntN.{ℤ, pos, natAbs, _+ℤ_, _-ℤ_, _*ℤ_}
 use lib.Signed.{quotZ, ltZ}
 use mir.Syntax.{w32}
 use mir.Val.{toZ}
@@ -18,11 +18,12 @@ use Rattle.machine.specs.declared.Value.{Value}
 use Rattle.machine.specs.declared.Out.{Out}
 use Rattle.machine.specs.declared.Out.the-variants.{Val, Refused, Stuck}
 use Rattle.sheet_rules.specs.Fields.{isField, declaredSo}
-use Rattle.sheet_rules.specs.Forms.{Form, literal, read, unary, binary, clock, skip, assign, externalSend, internalSend, arm, clockAct, call, choice, loop, sequence, unknown, formOf, Literal, bool, int, member, component, port, self, literalOf, Binary, both, equal, less, plus, minus, times, div, modulo, binaryOf}
+use Rattle.sheet_rules.specs.Forms.{Form, literal, read, unary, binary, clock, readElement, skip, assign, externalSend, internalSend, arm, clockAct, call, choice, loop, sequence, assignElement, unknown, formOf, Literal, bool, int, member, component, port, self, literalOf, Binary, both, equal, less, plus, minus, times, div, modulo, binaryOf}
+use Rattle.sheet_rules.specs.Indices.{Index, plain, over, noIndex, indexAt, isPlain}
 use Rattle.sheet_rules.specs.Shape.{variablesAt, constantOf}
-use Rattle.sheet_rules.specs.Types.{variableAt}
-use Rattle.machine.specs.Values.{fits32, isZero, sameWord, inType, firstCell}
-use Rattle.machine.specs.State.{cellAt, wordOf}
+use Rattle.sheet_rules.specs.Types.{variableAt, chartVariableIndex}
+use Rattle.machine.specs.Values.{fits32, isBelow, isZero, sameWord, inType}
+use Rattle.machine.specs.State.{cellOf, wordOf}
 
 -- ---- how parts follow each other
 
@@ -117,6 +118,10 @@ pub record Context : Type 0 where
 unfoldable pub isVariable : List ℕ → Context → ℕ → (ℕ → Bool) → Bool
 isVariable s x n p = ltb n (chartVariables (x .chart) .count) and declaredSo s (chartVariables (x .chart) .first + n) p
 
+-- the same of a plain variable
+unfoldable pub isPlainVariable : List ℕ → Context → ℕ → (ℕ → Bool) → Bool
+isPlainVariable s x n p = isVariable s x n p and isPlain (chartVariableIndex s (x .chart) n)
+
 -- a value of a type, where a type is needed
 unfoldable pub ofType : ℕ → Value → Out → Out
 ofType t x o = needs (eqb (x .kind) t) o
@@ -133,19 +138,41 @@ parameterVal s x n t l = needs (isField (1 + n)) (onRecord (recordOf s nodes (co
 abbrev pub bodyWords : ℕ
 bodyWords = 16
 
--- the word of the element's variable n
-unfoldable pub variableAtCell : List ℕ → Context → ℕ → ℕ
-variableAtCell s x n = cellAt (firstCell s (x .element) + n)
+-- the first word of cell k of the element's variable n
+unfoldable pub variableAtCell : List ℕ → Context → ℕ → ℕ → ℕ
+variableAtCell s x n k = cellOf s (x .element) (x .chart) n k
+
+-- Where in a variable an index leads: to one of its cells; out of range, which is 11; or it is no index of it, and the machine is stuck.
+pub data Reached : Type 0 where
+  inside : ℕ → Reached
+  outOfRange : Reached
+  unfit : Reached
+
+-- "with an index of the array's index type (Int for a number)"; "11, index outside its number": a value of another type is never outside it
+unfoldable pub reached : Index → Value → Reached
+reached plain v = unfit
+reached (over t n) v = elim (eqb (v .kind) t) [ true ↦ elim (isBelow (v .word) n) [ true ↦ inside (natAbs (v .word)) | false ↦ elim (eqb t Int-type) [ true ↦ outOfRange | false ↦ unfit ] ] | false ↦ unfit ]
+reached noIndex v = unfit
 
 module _ (s : List ℕ) (x : Context) (st : List ℤ) where
   -- "17 gives the clock's running word, 18 its value, 0 when stopped"
   unfoldable pub clockWord : ℕ → ℤ
-  clockWord n = elim (isZero (wordOf st (variableAtCell s x n))) [ true ↦ pos 0 | false ↦ wordOf st (variableAtCell s x n + 1) ]
+  clockWord n = elim (isZero (wordOf st (variableAtCell s x n 0))) [ true ↦ pos 0 | false ↦ wordOf st (variableAtCell s x n 0 + 1) ]
 
   unfoldable pub clockVal : ℕ → ℕ → ℕ → Out
   clockVal op n l =
-      needs (isVariable s x n isClock)
-      (elim (eqb op 17) [ true ↦ within s (val Bool-type (wordOf st (variableAtCell s x n))) l | false ↦ within s (val Int-type (clockWord n)) l ])
+      needs (isPlainVariable s x n isClock)
+      (elim (eqb op 17) [ true ↦ within s (val Bool-type (wordOf st (variableAtCell s x n 0))) l | false ↦ within s (val Int-type (clockWord n)) l ])
+
+  -- a variable of type t, where an index leads
+  unfoldable pub elementAs : ℕ → ℕ → Reached → ℕ → Out
+  elementAs n t (inside k) l = within s (val t (wordOf st (variableAtCell s x n k))) l
+  elementAs n t outOfRange l = Refused 11 l
+  elementAs n t unfit l = Stuck
+
+  -- "read (19: f1 variable, f2 index)"
+  unfoldable pub elementVal : ℕ → Value → ℕ → Out
+  elementVal n i l = needs (ltb n (chartVariables (x .chart) .count)) (onType s (chartVariables (x .chart) .first + n) (λ t. elementAs n t (reached (chartVariableIndex s (x .chart) n) i) l))
 
 module _ (s : List ℕ) (x : Context) (st lo : List ℤ) where
   -- f1: 0 chart parameter, 1 chart variable, 2 body parameter or local; f2 its number; t its declared type
@@ -153,11 +180,11 @@ module _ (s : List ℕ) (x : Context) (st lo : List ℤ) where
   readAs place n t l =
       elim (eqb place Names.chartParameter) [
         | true ↦ parameterVal s x n t l
-        | false ↦ elim (eqb place Names.chartVariable) [ true ↦ within s (val t (wordOf st (variableAtCell s x n))) l | false ↦ needs (ltb n bodyWords) (within s (val t (wordOf lo n)) l) ]
+        | false ↦ elim (eqb place Names.chartVariable) [ true ↦ within s (val t (wordOf st (variableAtCell s x n 0))) l | false ↦ needs (ltb n bodyWords) (within s (val t (wordOf lo n)) l) ]
       ]
 
   unfoldable pub readVal : ℕ → ℕ → ℕ → Out
-  readVal place n l = needs (ltb n (variablesAt (x .chart) (x .body) place)) (onType s (variableAt (x .chart) (x .body) place n) (λ t. readAs place n t l))
+  readVal place n l = needs (ltb n (variablesAt (x .chart) (x .body) place) and isPlain (indexAt s (variableAt (x .chart) (x .body) place n))) (onType s (variableAt (x .chart) (x .body) place n) (λ t. readAs place n t l))
 
   -- ---- a node
 
@@ -168,6 +195,7 @@ module _ (s : List ℕ) (x : Context) (st lo : List ℤ) where
   evalIn f r l unary = andThen (f (r .f1) l) notVal
   evalIn f r l binary = andThen (f (r .f1) l) (λ a l. andThen (f (r .f2) l) (λ b l. binaryVal (operator r) a b l))
   evalIn f r l clock = clockVal s x st (operator r) (r .f1) l
+  evalIn f r l readElement = andThen (f (r .f2) l) (λ i l. elementVal s x st (r .f1) i l)
   evalIn f r l skip = Stuck
   evalIn f r l assign = Stuck
   evalIn f r l externalSend = Stuck
@@ -178,6 +206,7 @@ module _ (s : List ℕ) (x : Context) (st lo : List ℤ) where
   evalIn f r l choice = Stuck
   evalIn f r l loop = Stuck
   evalIn f r l sequence = Stuck
+  evalIn f r l assignElement = Stuck
   evalIn f r l unknown = Stuck
 
   -- "a visit that would pass [the limit] is refused"

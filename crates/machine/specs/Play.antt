@@ -20,6 +20,7 @@ use Rattle.machine.specs.declared.Answer.{Answer}
 use Rattle.machine.specs.declared.Ran.{Ran}
 use Rattle.machine.specs.declared.Ran.the-variants.{Done, Refused, Stuck}
 use Rattle.sheet_rules.specs.Fields.{holds, numberOr0, declaredSo, typeAt, componentsOf, externalsOf, portsOf, elementsOf, inSection}
+use Rattle.sheet_rules.specs.Indices.{cellsTaken}
 use Rattle.sheet_rules.specs.Types.{reactsTo}
 use Rattle.machine.specs.Values.{isBelow, recordBy, isZero, sameWord, defaultOf, hasDefault, bindingOf, chartOf, firstCell}
 use Rattle.machine.specs.State.{places, cellAt, stateLength, wordOf, waiting, telegramOf, putWords, Changed, on, off, lost, counted, appended, withoutTelegram}
@@ -78,7 +79,7 @@ unfoldable pub alone : Found → Found
 alone (Present b) = elim (eqb (bodyParameters b .count) 0) [ true ↦ Present b | false ↦ Absent ]
 alone Absent = Absent
 
--- an event's body: "6 to 10" leave a copy of the old state
+-- an event's body: "6 to 10", and 11 "with the same remains", leave a copy of the old state
 unfoldable pub eventEnd : List ℕ → List ℤ → Ran → List ℤ → Outcome
 eventEnd s old (Done l) st = ended (answer 0 (limitOf s - l) Nothing) st
 eventEnd s old (Refused n l) st = ended (answer n (limitOf s - l) Nothing) old
@@ -89,14 +90,21 @@ bodyEvent s old e f zs st = let w = ranBody s e f zs st in eventEnd s old (w .ra
 
 -- ---- start: "all defaults, nothing waiting, then the initial bodies in element order"
 
--- the cells of element e
+-- a cell of a variable of type t
 unfoldable pub defaultCell : List ℕ → ℕ → List ℤ
 defaultCell s t = defaultOf s t ∷ replicate 7 (pos 0)
 
+-- n cells alike
+unfoldable pub alike : ℕ → List ℤ → List ℤ
+alike zero ws = []
+alike (suc n) ws = ws ++ alike n ws
+
+-- of n variables from declaration d on
 unfoldable pub defaultCells : List ℕ → ℕ → ℕ → List ℤ
 defaultCells s zero d = []
-defaultCells s (suc n) d = defaultCell s (typeAt s d) ++ defaultCells s n (suc d)
+defaultCells s (suc n) d = alike (cellsTaken s d) (defaultCell s (typeAt s d)) ++ defaultCells s n (suc d)
 
+-- of element e
 unfoldable pub elementCells : List ℕ → ℕ → List ℤ
 elementCells s e = elim (chartOf s e) [ Present c ↦ defaultCells s (chartVariables c .count) (chartVariables c .first) | Absent ↦ [] ]
 
@@ -248,14 +256,19 @@ ticks s e t at st =
 unfoldable pub slicedCell : List ℕ → ℕ → ℕ → ℕ → List ℤ → Changed
 slicedCell s e t at st = elim (isClock t and not (isZero (wordOf st at))) [ true ↦ ticks s e t at st | false ↦ on st ]
 
--- the variable of a declaration
-unfoldable pub slicedVariable : List ℕ → ℕ → ℕ → ℕ → List ℤ → Changed
-slicedVariable s e d at st = elim (recordOf s declarations d) [ Present r ↦ slicedCell s e (declaredType r) at st | Absent ↦ lost ]
+-- n cells of a variable of type t, from cell i on
+unfoldable pub slicedEach : List ℕ → ℕ → ℕ → ℕ → ℕ → List ℤ → Changed
+slicedEach s e t zero i st = on st
+slicedEach s e t (suc n) i st = thenSlice (slicedCell s e t (cellAt i) st) (slicedEach s e t n (suc i))
 
--- n variables of element e, of declaration d and cell i on
+-- the variable of declaration d, whose first cell is i
+unfoldable pub slicedVariable : List ℕ → ℕ → ℕ → ℕ → List ℤ → Changed
+slicedVariable s e d i st = elim (recordOf s declarations d) [ Present r ↦ slicedEach s e (declaredType r) (cellsTaken s d) i st | Absent ↦ lost ]
+
+-- n variables of element e, from declaration d and cell i on
 unfoldable pub slicedCells : List ℕ → ℕ → ℕ → ℕ → ℕ → List ℤ → Changed
 slicedCells s e zero d i st = on st
-slicedCells s e (suc n) d i st = thenSlice (slicedVariable s e d (cellAt i) st) (slicedCells s e n (suc d) (suc i))
+slicedCells s e (suc n) d i st = thenSlice (slicedVariable s e d i st) (slicedCells s e n (suc d) (i + cellsTaken s d))
 
 unfoldable pub slicedElement : List ℕ → ℕ → List ℤ → Changed
 slicedElement s e st = elim (chartOf s e) [ Present c ↦ slicedCells s e (chartVariables c .count) (chartVariables c .first) (firstCell s e) st | Absent ↦ lost ]

@@ -20,12 +20,13 @@ use Rattle.machine.specs.declared.Ran.{Ran}
 use Rattle.machine.specs.declared.Ran.the-variants.{Done, Refused, Stuck}
 use Rattle.machine.specs.declared.Telegram.{Telegram}
 use Rattle.sheet_rules.specs.Fields.{isField, fieldOf, declaredSo, typeAt}
-use Rattle.sheet_rules.specs.Forms.{Form, literal, read, unary, binary, clock, skip, assign, externalSend, internalSend, arm, clockAct, call, choice, loop, sequence, unknown, formOf, calledBody}
+use Rattle.sheet_rules.specs.Forms.{Form, literal, read, unary, binary, clock, readElement, skip, assign, externalSend, internalSend, arm, clockAct, call, choice, loop, sequence, assignElement, unknown, formOf, calledBody}
+use Rattle.sheet_rules.specs.Indices.{indexAt, isPlain}
 use Rattle.sheet_rules.specs.Shape.{variablesAt}
-use Rattle.sheet_rules.specs.Types.{variableAt, clockOf}
+use Rattle.sheet_rules.specs.Types.{variableAt, chartVariableIndex, clockOf}
 use Rattle.machine.specs.Values.{isZero, defaultOf, hasDefault}
 use Rattle.machine.specs.State.{on, off, lost, putWords, appended}
-use Rattle.machine.specs.Eval.{Context, isVariable, bodyWords, variableAtCell, evalOf}
+use Rattle.machine.specs.Eval.{Context, isVariable, isPlainVariable, bodyWords, variableAtCell, Reached, inside, outOfRange, unfit, reached, evalOf}
 
 -- how a statement ended, and the state and the body's variables then
 pub record World : Type 0 where
@@ -159,22 +160,37 @@ module _ (s : List ℕ) (x : Context) where
   unfoldable pub assigned : ℕ → ℕ → ℤ → ℕ → List ℤ → List ℤ → World
   assigned place n z l st lo =
       elim (eqb place Names.chartVariable) [
-        | true ↦ world (Done l) (set st (variableAtCell s x n) z) lo
+        | true ↦ world (Done l) (set st (variableAtCell s x n 0) z) lo
         | false ↦ elim (eqb place Names.bodyVariable) [ true ↦ world (Done l) st (set lo n z) | false ↦ world Stuck st lo ]
       ]
 
-  -- the body has variable n of a place, and it is of type t
+  -- the body has plain variable n of a place, and it is of type t
   unfoldable pub hasVariable : ℕ → ℕ → ℕ → Bool
   hasVariable place n t =
       ltb n (variablesAt (x .chart) (x .body) place)
       and elim (eqb place Names.bodyVariable) [ true ↦ ltb n bodyWords | false ↦ true ]
       and declaredSo s (variableAt (x .chart) (x .body) place n) (eqb t)
+      and isPlain (indexAt s (variableAt (x .chart) (x .body) place n))
 
   unfoldable pub assignOf : Record → ℕ → List ℤ → List ℤ → World
   assignOf r l st lo =
       thenOperand (evalOf s x st lo (r .f3) l) st lo (λ v l.
       provided (hasVariable (r .f1) (r .f2) (v .kind)) st lo
       (assigned (r .f1) (r .f2) (v .word) l st lo))
+
+  -- a value to a variable, where an index leads
+  unfoldable pub elementAssigned : ℕ → Reached → ℤ → ℕ → List ℤ → List ℤ → World
+  elementAssigned n (inside k) z l st lo = world (Done l) (set st (variableAtCell s x n k) z) lo
+  elementAssigned n outOfRange z l st lo = world (Refused 11 l) st lo
+  elementAssigned n unfit z l st lo = world Stuck st lo
+
+  -- "assign (44: f1 variable, f2 index, f3 value) an element"
+  unfoldable pub assignElementOf : Record → ℕ → List ℤ → List ℤ → World
+  assignElementOf r l st lo =
+      thenOperand (evalOf s x st lo (r .f2) l) st lo (λ i l.
+      thenOperand (evalOf s x st lo (r .f3) l) st lo (λ value l.
+      provided (isVariable s x (r .f1) (eqb (value .kind))) st lo
+      (elementAssigned (r .f1) (reached (chartVariableIndex s (x .chart) (r .f1)) i) (value .word) l st lo)))
 
   -- the data that a node hands to a name: as many as the name has
   unfoldable pub nameValues : Record → Record → ℕ → List ℤ → List ℤ → Values
@@ -202,15 +218,15 @@ module _ (s : List ℕ) (x : Context) where
       thenOperand (evalOf s x st lo (r .f2) l) st lo (λ period l.
       withRecord (recordOf s names (r .f3)) st lo (λ n.
       thenValues (nameValues n r l st lo) st lo (λ vs l.
-      provided (isVariable s x (r .f1) (eqb (clockOf (operator r))) and eqb (period .kind) Int-type and areOf s (dataOf n .first) vs) st lo
-      (armed (variableAtCell s x (r .f1)) (clockOf (operator r)) (period .word) (r .f3) (wordsIn vs) l st lo))))
+      provided (isPlainVariable s x (r .f1) (eqb (clockOf (operator r))) and eqb (period .kind) Int-type and areOf s (dataOf n .first) vs) st lo
+      (armed (variableAtCell s x (r .f1) 0) (clockOf (operator r)) (period .word) (r .f3) (wordsIn vs) l st lo))))
 
   -- 38 start Timer, 39 stop any clock
   unfoldable pub clockActOf : Record → ℕ → List ℤ → List ℤ → World
   clockActOf r l st lo =
       elim (eqb (operator r) 38) [
-        | true ↦ provided (isVariable s x (r .f1) (eqb Timer-type)) st lo (clockSet (variableAtCell s x (r .f1)) (pos 1) l st lo)
-        | false ↦ provided (isVariable s x (r .f1) isClock) st lo (clockSet (variableAtCell s x (r .f1)) (pos 0) l st lo)
+        | true ↦ provided (isPlainVariable s x (r .f1) (eqb Timer-type)) st lo (clockSet (variableAtCell s x (r .f1) 0) (pos 1) l st lo)
+        | false ↦ provided (isPlainVariable s x (r .f1) isClock) st lo (clockSet (variableAtCell s x (r .f1) 0) (pos 0) l st lo)
       ]
 
   -- "a 17th open call": 9. The called body has variables of its own
@@ -238,6 +254,7 @@ module _ (s : List ℕ) (x : Context) where
   runIn f depth n r l st lo unary = world Stuck st lo
   runIn f depth n r l st lo binary = world Stuck st lo
   runIn f depth n r l st lo clock = world Stuck st lo
+  runIn f depth n r l st lo readElement = world Stuck st lo
   runIn f depth n r l st lo skip = world (Done l) st lo
   runIn f depth n r l st lo assign = assignOf r l st lo
   runIn f depth n r l st lo externalSend = externalSendOf r l st lo
@@ -249,6 +266,7 @@ module _ (s : List ℕ) (x : Context) where
   -- "42 is visited anew before each test"
   runIn f depth n r l st lo loop = choiceOf (r .f1) l st lo (λ l. thenRun (f depth x (r .f2) l st lo) (λ l st lo. f depth x n l st lo)) (λ l. world (Done l) st lo)
   runIn f depth n r l st lo sequence = thenRun (f depth x (r .f1) l st lo) (λ l st lo. f depth x (r .f2) l st lo)
+  runIn f depth n r l st lo assignElement = assignElementOf r l st lo
   runIn f depth n r l st lo unknown = world Stuck st lo
 
 unfoldable pub runStep : List ℕ → Runs → Runs

@@ -1,13 +1,15 @@
--- The state's words: head, a cell for each variable, 128 places for telegrams.
+-- The state's words: head, the cells of the variables, 128 places for telegrams.
 use Prim.Native.Nat.{ℕ, _+_, _*_, _-_}
 use mathlib.Core.List.{List, [], _∷_, _++_}
 use mathlib.Core.Bool.{Bool, true, false}
 use lib.ListN.{length, getD, take, drop, set, replicate}
 use lib.Dec.{ltb}
 use lib.IntN.{ℤ, pos, natAbs}
+use Rattle.sheet.specs.declared.Record.{Record}
 use Rattle.machine.specs.declared.Telegram.{Telegram}
-use Rattle.sheet_rules.specs.Shape.{variablesOf}
-use Rattle.machine.specs.Values.{isBelow}
+use Rattle.sheet_rules.specs.Indices.{cellsBefore}
+use Rattle.sheet_rules.specs.Shape.{cellsOf}
+use Rattle.machine.specs.Values.{isBelow, firstCell}
 
 -- ---- where things lie: "8 head words ..; 8 words per variable ..; 128 telegram places of 8 words"
 
@@ -17,8 +19,12 @@ places = 128
 unfoldable pub cellAt : ℕ → ℕ
 cellAt i = 8 + 8 * i
 
+-- the first word of cell k of variable n of element e, whose chart is c; a plain variable has cell 0 only
+unfoldable pub cellOf : List ℕ → ℕ → Record → ℕ → ℕ → ℕ
+cellOf s e c n k = cellAt (firstCell s e + cellsBefore s c n + k)
+
 unfoldable pub placeAt : List ℕ → ℕ → ℕ
-placeAt s j = 8 + 8 * variablesOf s + 8 * j
+placeAt s j = 8 + 8 * cellsOf s + 8 * j
 
 unfoldable pub stateLength : List ℕ → ℕ
 stateLength s = placeAt s places
@@ -53,6 +59,10 @@ putWords st at ws = take at st ++ ws ++ drop (at + length ws) st
 -- "Sends append": the telegram after the last one that waits
 unfoldable pub withTelegram : List ℕ → List ℤ → Telegram → List ℤ
 withTelegram s st t = setWaiting (putWords st (placeAt s (waiting st)) (wordsOf t)) (waiting st + 1)
+
+-- the last number of the table of answers: a run is refused with one from 6 to this
+abbrev pub lastRefusal : ℕ
+lastRefusal = 11
 
 -- what a change of the state comes to: the new state, or the number of its refusal; or the machine is stuck
 pub data Changed : Type 0 where

@@ -7,15 +7,17 @@ use lib.ListN.{length, getD}
 use lib.Dec.{ltb, eqb}
 use lib.IntN.{ℤ, pos, negsuc, natAbs}
 use lib.Signed.{leZ, ltZ}
+use Rattle.sheet.specs.declared.Record.{Record}
 use Rattle.sheet.specs.declared.Range.{Range}
 use Rattle.sheet.specs.All.{_and_, allBelow}
 use Rattle.sheet.specs.Names.{names, external, internal, chartVariables, Timer-type, Timeout-type, isClock}
 use Rattle.sheet.specs.Sheet.{countOf}
 use Rattle.machine.specs.declared.Telegram.{Telegram}
 use Rattle.sheet_rules.specs.Fields.{holds, declaredSo, componentsOf, externalsOf, portsOf, elementsOf}
+use Rattle.sheet_rules.specs.Indices.{cellsTaken}
 use Rattle.sheet_rules.specs.Types.{hasClass, hasReaction, nameRange}
-use Rattle.machine.specs.Values.{fits32, isBelow, isZero, sameWord, inType, isBound, chartOf, firstCell}
-use Rattle.machine.specs.State.{places, cellAt, placeAt, stateLength, wordOf, waiting, counted, telegramOf}
+use Rattle.machine.specs.Values.{fits32, isBelow, isZero, sameWord, inType, isBound, chartOf}
+use Rattle.machine.specs.State.{places, cellOf, placeAt, stateLength, wordOf, waiting, counted, telegramOf}
 
 -- ---- data: "Surplus data are zero." "Data, also a clock's, fit their name's types"
 
@@ -52,13 +54,17 @@ runningClock s e t st at =
 unfoldable pub clockCell : List ℕ → ℕ → ℕ → List ℤ → ℕ → Bool
 clockCell s e t st at = elim (isZero (wordOf st at)) [ true ↦ zeroWords st at 1 | false ↦ isBelow (wordOf st at) 2 and runningClock s e t st at ]
 
--- the cell of a variable of type t of element e
+-- a cell of a variable of type t of element e
 unfoldable pub cellFits : List ℕ → ℕ → ℕ → List ℤ → ℕ → Bool
 cellFits s e t st at = elim (isClock t) [ true ↦ clockCell s e t st at | false ↦ inType s t (wordOf st at) and zeroWords st at 1 ]
 
+-- the cells of variable j of element e, whose chart is c: each "per index in order"
+unfoldable pub variableFits : List ℕ → List ℤ → ℕ → Record → ℕ → Bool
+variableFits s st e c j = declaredSo s (chartVariables c .first + j) (λ t. allBelow (cellsTaken s (chartVariables c .first + j)) (λ k. cellFits s e t st (cellOf s e c j k)))
+
 -- the cells of element e, "variables in order"
 unfoldable pub elementFits : List ℕ → List ℤ → ℕ → Bool
-elementFits s st e = holds (chartOf s e) (λ c. allBelow (chartVariables c .count) (λ j. declaredSo s (chartVariables c .first + j) (λ t. cellFits s e t st (cellAt (firstCell s e + j)))))
+elementFits s st e = holds (chartOf s e) (λ c. allBelow (chartVariables c .count) (variableFits s st e c))
 
 -- ---- telegrams
 

@@ -7,12 +7,12 @@ use lib.IntN.{ℤ, pos, negsuc}
 use lib.Signed.{mag, leZ}
 use Rattle.sheet.specs.declared.Found.{Found}
 use Rattle.sheet.specs.declared.Found.the-variants.{Present, Absent}
-use Rattle.sheet.specs.Names.{enumeratedTypes, charts, bindings, size, defaultMember, boundChart, isClock}
+use Rattle.sheet.specs.Names.{enumeratedTypes, charts, bindings, defaultMember, boundChart, isClock}
 use Rattle.sheet.specs.All.{_and_}
 use Rattle.sheet.specs.Sheet.{recordOf}
-use Rattle.sheet_rules.specs.Fields.{numberOr0, declaredSo, sumBelow, componentsOf, externalsOf, portsOf}
+use Rattle.sheet_rules.specs.Fields.{numberOr0, declaredSo, sumBelow, componentsOf, externalsOf, portsOf, membersOf}
 use Rattle.sheet_rules.specs.DataTypes.{DataType, bool, int, component, port, enumeratedType, noData, dataTypeOf}
-use Rattle.sheet_rules.specs.Shape.{variablesBound}
+use Rattle.sheet_rules.specs.Shape.{cellsBound}
 
 -- ---- words: 32-bit signed numbers
 
@@ -39,10 +39,6 @@ abbrev pub sameWord : ℤ → ℤ → Bool
 sameWord a b = leZ a b and leZ b a
 
 -- ---- data types
-
--- how many values an enumerated type has, 0 where there is no such type
-unfoldable pub membersOf : List ℕ → ℕ → ℕ
-membersOf s k = numberOr0 (recordOf s enumeratedTypes k) size
 
 -- "Every value is in its type": false, true; 32 bits; a component; a port; a member. A clock is no value
 unfoldable pub inDataType : List ℕ → DataType → ℤ → Bool
@@ -84,6 +80,6 @@ bindingOf s e = elim (isBound s e) [ true ↦ recordOf s bindings (e - externals
 unfoldable pub chartOf : List ℕ → ℕ → Found
 chartOf s e = elim (bindingOf s e) [ Present b ↦ recordOf s charts (boundChart b) | Absent ↦ Absent ]
 
--- the cell of an element's first variable: "elements in order, variables in order"
+-- an element's first cell: "elements in order, variables in order"
 unfoldable pub firstCell : List ℕ → ℕ → ℕ
-firstCell s e = sumBelow (e - externalsOf s) (variablesBound s)
+firstCell s e = sumBelow (e - externalsOf s) (cellsBound s)

@@ -12,8 +12,8 @@ use Rattle.sheet.specs.Sheet.{recordOf}
 use Rattle.machine.specs.declared.Value.{Value}
 use Rattle.machine.specs.declared.Out.{Out}
 use Rattle.machine.specs.declared.Out.the-variants.{Val, Refused, Stuck}
-use Rattle.sheet_rules.specs.Forms.{Form, literal, read, unary, binary, clock, skip, assign, externalSend, internalSend, arm, clockAct, call, choice, loop, sequence, unknown, formOf}
-use Rattle.machine.specs.Eval.{Context, andThen, onRecord, notVal, binaryVal, evalIn, evalStep, evalF, evalOf}
+use Rattle.sheet_rules.specs.Forms.{Form, literal, read, unary, binary, clock, readElement, skip, assign, externalSend, internalSend, arm, clockAct, call, choice, loop, sequence, assignElement, unknown, formOf}
+use Rattle.machine.specs.Eval.{Context, andThen, onRecord, notVal, binaryVal, elementVal, evalIn, evalStep, evalF, evalOf}
 use Rattle.machine_equations.proofs.Left.{Within, evalF-in}
 
 -- what follows a value matters with fewer steps left only
@@ -40,6 +40,7 @@ module _ (s : List ℕ) (x : Context) (st lo : List ℤ) where
         same-then (f (r .f1) l) _ _ l (bound (r .f1) l) (λ a m q. ap (λ o. andThen o (λ b l. binaryVal (operator r) a b l)) (h (r .f2) m (omega arith)))
         ∙ ap (λ o. andThen o (λ a l. andThen (g (r .f2) l) (λ b l. binaryVal (operator r) a b l))) (h (r .f1) l (omega arith))
     same-act r clock = refl
+    same-act r readElement = ap (λ o. andThen o (λ i l. elementVal s x st (r .f1) i l)) (h (r .f2) l (omega arith))
     same-act r skip = refl
     same-act r assign = refl
     same-act r externalSend = refl
@@ -50,6 +51,7 @@ module _ (s : List ℕ) (x : Context) (st lo : List ℤ) where
     same-act r choice = refl
     same-act r loop = refl
     same-act r sequence = refl
+    same-act r assignElement = refl
     same-act r unknown = refl
 
     same-visit : (n : ℕ) → evalStep s x st lo f n (suc l) ≡ evalStep s x st lo g n (suc l)

@@ -11,7 +11,7 @@ use Rattle.sheet.specs.declared.Record.{Record}
 use Rattle.sheet.specs.declared.Found.{Found}
 use Rattle.sheet.specs.declared.Found.the-variants.{Present, Absent}
 use Rattle.sheet.specs.All.{_and_}
-use Rattle.sheet.specs.Names.{declarations, names, nodes, dataOf, bodyParameters, root, operator, Bool-type, Int-type, Component-type, Port-type, Timer-type, isClock, isLiteral, chartParameter, chartVariable, bodyVariable}
+use Rattle.sheet.specs.Names.{declarations, names, nodes, declaredType, dataOf, chartVariables, bodyParameters, root, operator, Bool-type, Int-type, Component-type, Port-type, Timer-type, isClock, isLiteral, chartParameter, chartVariable, bodyVariable}
 use Rattle.sheet.specs.Sheet.{recordOf}
 use Rattle.machine.specs.declared.Value.{Value}
 use Rattle.machine.specs.declared.Out.{Out}
@@ -20,13 +20,14 @@ use Rattle.machine.specs.declared.Ran.{Ran}
 use Rattle.machine.specs.declared.Ran.the-variants as ran
 use Rattle.machine.specs.declared.Telegram.{Telegram}
 use Rattle.sheet_rules.specs.Fields.{isField, fieldOf}
-use Rattle.sheet_rules.specs.Forms.{Form, literal, read, unary, binary, clock, skip, assign, externalSend, internalSend, arm, clockAct, call, choice, loop, sequence, unknown, formOf, calledBody, Binary, both, equal, less, plus, minus, times, div, modulo, binaryOf}
+use Rattle.sheet_rules.specs.Forms.{Form, literal, read, unary, binary, clock, readElement, skip, assign, externalSend, internalSend, arm, clockAct, call, choice, loop, sequence, assignElement, unknown, formOf, calledBody, Binary, both, equal, less, plus, minus, times, div, modulo, binaryOf}
+use Rattle.sheet_rules.specs.Indices.{indexAt, isPlain}
 use Rattle.sheet_rules.specs.Shape.{variablesAt, constantOf}
-use Rattle.sheet_rules.specs.Types.{variableAt, clockOf}
+use Rattle.sheet_rules.specs.Types.{variableAt, chartVariableIndex, clockOf}
 use Rattle.machine.specs.Values.{fits32, isZero, inType}
 use Rattle.machine.specs.State.{Changed, on, off, lost, appended}
-use Rattle.machine.specs.Eval.{Context, isVariable, andThen, needs, onRecord, intOut, quotient, remainder, dividing, notVal, onInts, combined, binaryVal, literalValue, within, ofType, bodyWords, parameterVal, readAs, readVal, clockVal, evalIn, evalStep, evalF, evalOf}
-use Rattle.machine.specs.Run.{World, goOn, thenOperand, withRecord, provided, Values, given, refused, stuck, before, nextValue, valuesFrom, thenValues, areOf, wordsIn, localsOf, localsThere, append, armed, clockSet, Runs, fewer, inBody, assigned, hasVariable, assignOf, nameValues, externalSendOf, internalSendOf, armOf, clockActOf, entered, callOf, choiceOf, runIn, runStep, runF, runOf, world, openCalls}
+use Rattle.machine.specs.Eval.{Context, isVariable, isPlainVariable, Reached, inside, outOfRange, unfit, reached, elementAs, elementVal, andThen, needs, onRecord, intOut, quotient, remainder, dividing, notVal, onInts, combined, binaryVal, literalValue, within, ofType, bodyWords, parameterVal, readAs, readVal, clockVal, evalIn, evalStep, evalF, evalOf}
+use Rattle.machine.specs.Run.{World, goOn, thenOperand, withRecord, provided, Values, given, refused, stuck, before, nextValue, valuesFrom, thenValues, areOf, wordsIn, localsOf, localsThere, append, armed, clockSet, Runs, fewer, inBody, assigned, hasVariable, assignOf, elementAssigned, assignElementOf, nameValues, externalSendOf, internalSendOf, armOf, clockActOf, entered, callOf, choiceOf, runIn, runStep, runF, runOf, world, openCalls}
 
 -- ---- expressions
 
@@ -111,7 +112,7 @@ module _ (s : List ℕ) (x : Context) (st lo : List ℤ) where
   read-in : (place n l : ℕ) → Within (suc l) (readVal s x st lo place n l)
   unfolding readVal readAs
   read-in place n l =
-      needs-in (ltb n (variablesAt (x .chart) (x .body) place)) _ (suc l)
+      needs-in (ltb n (variablesAt (x .chart) (x .body) place) and isPlain (indexAt s (variableAt (x .chart) (x .body) place n))) _ (suc l)
       (record-in (recordOf s declarations (variableAt (x .chart) (x .body) place n)) _ (suc l) (λ r.
       either (eqb place chartParameter) _ _ (suc l) (parameter-in s x n _ l)
       (either (eqb place chartVariable) _ _ (suc l) (within-in s _ l) (needs-in (ltb n bodyWords) _ (suc l) (within-in s _ l)))))
@@ -119,8 +120,21 @@ module _ (s : List ℕ) (x : Context) (st lo : List ℤ) where
   clock-in : (op n l : ℕ) → Within (suc l) (clockVal s x st op n l)
   unfolding clockVal
   clock-in op n l =
-      needs-in (isVariable s x n isClock) _ (suc l)
+      needs-in (isPlainVariable s x n isClock) _ (suc l)
       (either (eqb op 17) _ _ (suc l) (within-in s _ l) (within-in s _ l))
+
+  elementAs-in : (n t : ℕ) (i : Reached) (l : ℕ) → Within (suc l) (elementAs s x st n t i l)
+  unfolding elementAs
+  elementAs-in n t (inside k) l = within-in s _ l
+  elementAs-in n t outOfRange l = next l
+  elementAs-in n t unfit l = tt
+
+  element-in : (n : ℕ) (i : Value) (l : ℕ) → Within (suc l) (elementVal s x st n i l)
+  unfolding elementVal
+  element-in n i l =
+      needs-in (ltb n (chartVariables (x .chart) .count)) _ (suc l)
+      (record-in (recordOf s declarations (chartVariables (x .chart) .first + n)) _ (suc l) (λ r.
+      elementAs-in n (declaredType r) (reached (chartVariableIndex s (x .chart) n) i) l))
 
   module _ (f : ℕ → ℕ → Out) (h : (n l : ℕ) → Within l (f n l)) where
     evalIn-in : (r : Record) (l : ℕ) (form : Form) → Within (suc l) (evalIn s x st lo f r l form)
@@ -132,6 +146,7 @@ module _ (s : List ℕ) (x : Context) (st lo : List ℤ) where
         then-in (f (r .f1) l) _ (suc l) (wider (f (r .f1) l) (h (r .f1) l) (next l)) (λ v m q.
         then-in (f (r .f2) m) _ (suc l) (wider (f (r .f2) m) (h (r .f2) m) (omega arith)) (λ w m′ q′. wider (binaryVal (operator r) v w m′) (binary-in (operator r) v w m′) q′))
     evalIn-in r l clock = clock-in (operator r) (r .f1) l
+    evalIn-in r l readElement = then-in (f (r .f2) l) _ (suc l) (wider (f (r .f2) l) (h (r .f2) l) (next l)) (λ v m q. wider (elementVal s x st (r .f1) v m) (element-in (r .f1) v m) q)
     evalIn-in r l skip = tt
     evalIn-in r l assign = tt
     evalIn-in r l externalSend = tt
@@ -142,6 +157,7 @@ module _ (s : List ℕ) (x : Context) (st lo : List ℤ) where
     evalIn-in r l choice = tt
     evalIn-in r l loop = tt
     evalIn-in r l sequence = tt
+    evalIn-in r l assignElement = tt
     evalIn-in r l unknown = tt
 
     evalStep-in : (n l : ℕ) → Within l (evalStep s x st lo f n l)
@@ -272,6 +288,20 @@ module _ (s : List ℕ) (x : Context) where
       provided-in (hasVariable s x (r .f1) (r .f2) (v .kind)) st lo _ (suc l)
       (ran-wider (assigned s x (r .f1) (r .f2) (v .word) m st lo .ran) (assigned-in (r .f1) (r .f2) (v .word) m st lo) q))
 
+  elementAssigned-in : (n : ℕ) (i : Reached) (z : ℤ) (l : ℕ) (st lo : List ℤ) → RanWithin (suc l) (elementAssigned s x n i z l st lo .ran)
+  unfolding elementAssigned
+  elementAssigned-in n (inside k) z l st lo = le-refl (suc l)
+  elementAssigned-in n outOfRange z l st lo = next l
+  elementAssigned-in n unfit z l st lo = tt
+
+  assignElement-in : (r : Record) (l : ℕ) (st lo : List ℤ) → RanWithin (suc l) (assignElementOf s x r l st lo .ran)
+  unfolding assignElementOf
+  assignElement-in r l st lo =
+      from-operand (r .f2) l (suc l) st lo st lo _ (next l) (λ i m q.
+      from-operand (r .f3) m (suc l) st lo st lo _ (omega arith) (λ v m′ q′.
+      provided-in (isVariable s x (r .f1) (eqb (v .kind))) st lo _ (suc l)
+      (ran-wider (elementAssigned s x (r .f1) _ (v .word) m′ st lo .ran) (elementAssigned-in (r .f1) _ (v .word) m′ st lo) q′)))
+
   externalSend-in : (r : Record) (l : ℕ) (st lo : List ℤ) → RanWithin (suc l) (externalSendOf s x r l st lo .ran)
   unfolding externalSendOf
   externalSend-in r l st lo =
@@ -296,15 +326,15 @@ module _ (s : List ℕ) (x : Context) where
       from-operand (r .f2) l (suc l) st lo st lo _ (next l) (λ period m q.
       withRecord-in (recordOf s names (r .f3)) st lo _ (suc l) (λ n.
       from-values n r m (suc l) st lo _ (omega arith) (λ vs m′ q′.
-      provided-in (isVariable s x (r .f1) (eqb (clockOf (operator r))) and eqb (period .kind) Int-type and areOf s (dataOf n .first) vs) st lo _ (suc l)
+      provided-in (isPlainVariable s x (r .f1) (eqb (clockOf (operator r))) and eqb (period .kind) Int-type and areOf s (dataOf n .first) vs) st lo _ (suc l)
       (ran-wider (armed _ (clockOf (operator r)) (period .word) (r .f3) (wordsIn vs) m′ st lo .ran) (armed-in _ (clockOf (operator r)) (period .word) (r .f3) (wordsIn vs) m′ st lo) (omega arith)))))
 
   clockAct-in : (r : Record) (l : ℕ) (st lo : List ℤ) → RanWithin (suc l) (clockActOf s x r l st lo .ran)
   unfolding clockActOf
   clockAct-in r l st lo =
       eitherRan (eqb (operator r) 38) _ _ (suc l)
-      (provided-in (isVariable s x (r .f1) (eqb Timer-type)) st lo _ (suc l) (clockSet-in _ (pos 1) l st lo))
-      (provided-in (isVariable s x (r .f1) isClock) st lo _ (suc l) (clockSet-in _ (pos 0) l st lo))
+      (provided-in (isPlainVariable s x (r .f1) (eqb Timer-type)) st lo _ (suc l) (clockSet-in _ (pos 1) l st lo))
+      (provided-in (isPlainVariable s x (r .f1) isClock) st lo _ (suc l) (clockSet-in _ (pos 0) l st lo))
 
   choice-in : (n l : ℕ) (st lo : List ℤ) (K L : ℕ → World) → ((m : ℕ) → m ≤ l → RanWithin (suc l) (K m .ran)) → ((m : ℕ) → m ≤ l → RanWithin (suc l) (L m .ran)) → RanWithin (suc l) (choiceOf s x n l st lo K L .ran)
   unfolding choiceOf
@@ -333,6 +363,7 @@ module _ (s : List ℕ) (x : Context) where
     runIn-in depth n r l st lo unary = tt
     runIn-in depth n r l st lo binary = tt
     runIn-in depth n r l st lo clock = tt
+    runIn-in depth n r l st lo readElement = tt
     runIn-in depth n r l st lo skip = le-refl (suc l)
     runIn-in depth n r l st lo assign = assign-in r l st lo
     runIn-in depth n r l st lo externalSend = externalSend-in r l st lo
@@ -346,6 +377,7 @@ module _ (s : List ℕ) (x : Context) where
         (λ m q. goOn-in (f depth x (r .f2) m st lo .ran) _ _ _ (suc l) (again depth x (r .f2) m (suc l) st lo (omega arith)) (λ m′ st lo q′. again depth x n m′ (suc l) st lo (omega arith)))
         (λ m q. omega arith)
     runIn-in depth n r l st lo sequence = goOn-in (f depth x (r .f1) l st lo .ran) _ _ _ (suc l) (again depth x (r .f1) l (suc l) st lo (next l)) (λ m st lo q. again depth x (r .f2) m (suc l) st lo (omega arith))
+    runIn-in depth n r l st lo assignElement = assignElement-in r l st lo
     runIn-in depth n r l st lo unknown = tt
 
 module _ (s : List ℕ) where

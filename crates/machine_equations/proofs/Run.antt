@@ -17,7 +17,7 @@ use Rattle.machine.specs.declared.Out.{Out}
 use Rattle.machine.specs.declared.Out.the-variants as out
 use Rattle.machine.specs.declared.Ran.{Ran}
 use Rattle.machine.specs.declared.Ran.the-variants.{Done, Refused, Stuck}
-use Rattle.sheet_rules.specs.Forms.{Form, literal, read, unary, binary, clock, skip, assign, externalSend, internalSend, arm, clockAct, call, choice, loop, sequence, unknown, formOf, calledBody}
+use Rattle.sheet_rules.specs.Forms.{Form, literal, read, unary, binary, clock, readElement, skip, assign, externalSend, internalSend, arm, clockAct, call, choice, loop, sequence, assignElement, unknown, formOf, calledBody}
 use Rattle.machine.specs.Values.{isZero}
 use Rattle.machine.specs.Eval.{Context, evalOf}
 use Rattle.machine.specs.Run.{World, world, goOn, thenRun, thenOperand, withRecord, provided, Values, given, refused, stuck, valuesFrom, thenValues, areOf, wordsIn, localsOf, localsThere, Runs, fewer, inBody, entered, callOf, choiceOf, runIn, runStep, runF, runOf, openCalls}
@@ -104,6 +104,7 @@ module _ (s : List ℕ) (x : Context) (depth l : ℕ) where
   free-run n r st lo unary = refl
   free-run n r st lo binary = refl
   free-run n r st lo clock = refl
+  free-run n r st lo readElement = refl
   free-run n r st lo skip = refl
   free-run n r st lo assign = refl
   free-run n r st lo externalSend = refl
@@ -114,6 +115,7 @@ module _ (s : List ℕ) (x : Context) (depth l : ℕ) where
   free-run n r st lo choice = free-choice (r .f1) st lo _ _ _ _ (λ m h. free depth x (r .f2) m st lo h) (λ m h. free depth x (r .f3) m st lo h)
   free-run n r st lo loop = free-choice (r .f1) st lo _ _ _ _ (λ m h. free-then (r .f2) n m st lo h) (λ m h. refl)
   free-run n r st lo sequence = free-then (r .f1) (r .f2) l st lo (omega arith)
+  free-run n r st lo assignElement = refl
   free-run n r st lo unknown = refl
 
 -- ---- the equations

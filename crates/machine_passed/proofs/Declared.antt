@@ -16,12 +16,12 @@ use Rattle.sheet.specs.Sheet.{countOf, recordOf, recordAt, offsetOf}
 use Rattle.sheet.proofs.All.{true-false, and-first, and-second, and-true}
 use Rattle.sheet.proofs.Sheet.{record-present}
 use Rattle.sheet_rules.specs.declared.Checked.the-variants.{Passed}
-use Rattle.sheet_rules.specs.Fields.{numberOr0, componentsOf, externalsOf, portsOf, elementsOf, declaredSo, typeAt, inSection}
+use Rattle.sheet_rules.specs.Fields.{numberOr0, componentsOf, externalsOf, portsOf, elementsOf, declaredSo, typeAt, inSection, membersOf}
 use Rattle.sheet_rules.specs.DataTypes.{dataTypeOf}
 use Rattle.sheet_rules.proofs.DataTypes.{type-enumerated}
 use Rattle.sheet_rules.specs.Shape.{enumeratedShape, typeExists, nameShape, chartShape, bodyShape, variablesAt}
 use Rattle.sheet_rules.specs.Types.{variableAt}
-use Rattle.machine.specs.Values.{isBelow, fits32, inDataType, inType, defaultIn, defaultOf, hasDefault, membersOf, isBound, chartOf}
+use Rattle.machine.specs.Values.{isBelow, fits32, inDataType, inType, defaultIn, defaultOf, hasDefault, isBound, chartOf}
 use Rattle.machine.specs.Run.{localsThere}
 use Rattle.machine.specs.Play.{hasHead, elementThere, elementsThere, bodiesThere, isInitial}
 use Rattle.sheet_rules.specs.Check.{checkOf}

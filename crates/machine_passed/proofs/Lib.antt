@@ -1,3 +1,4 @@
 pub mod Records
 pub mod Charts
 pub mod Declared
+pub mod Indices

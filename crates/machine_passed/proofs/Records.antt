@@ -17,8 +17,8 @@ pub use Rattle.sheet.proofs.Sheet.{present-below}
 use Rattle.sheet_rules.specs.declared.Checked.{Checked}
 use Rattle.sheet_rules.specs.declared.Checked.the-variants.{Passed, Shape, Static}
 use Rattle.sheet_rules.specs.Fields.{holds, numberOr0, typeAt, componentsOf, externalsOf, portsOf, elementsOf}
-use Rattle.sheet_rules.specs.Shape.{headShape, enumeratedShape, typeExists, declarationShape, nameShape, chartShape, bodyShape, bindingShape, elementsBound, variablesOf, treesShape, recordShape, sectionShape}
-use Rattle.sheet_rules.specs.Static.{nameStatic, chartStatic, bindingStatic, recordStatic, sectionStatic, static}
+use Rattle.sheet_rules.specs.Shape.{headShape, enumeratedShape, typeExists, declarationShape, nameShape, chartShape, bodyShape, bindingShape, elementsBound, cellsOf, treesShape, recordShape, sectionShape}
+use Rattle.sheet_rules.specs.Static.{declarationStatic, nameStatic, chartStatic, bindingStatic, recordStatic, sectionStatic, static}
 use Rattle.sheet_rules.specs.Check.{nodesShape, sectionsShape, shape, checkOf, checkNumber}
 use Rattle.sheet_rules.proofs.Fields.{holds-present, number-present}
 
@@ -75,9 +75,9 @@ module _ (s : List ℕ) (ok : checkOf s ≡ Passed) where
   unfolding elementsOf
   elements-are = omega (arith, elements-bound)
 
-  pub variables-limit : variablesOf s ≤ 512
+  pub cells-limit : cellsOf s ≤ 512
   unfolding shape
-  variables-limit = leb-true _ _ (and-first _ _ (and-second _ _ (and-second _ _ (and-second _ _ (and-second _ _ (and-second _ _ shaped))))))
+  cells-limit = leb-true _ _ (and-first _ _ (and-second _ _ (and-second _ _ (and-second _ _ (and-second _ _ (and-second _ _ shaped))))))
 
   trees : nodesShape s ≡ true
   unfolding shape
@@ -122,6 +122,10 @@ module _ (s : List ℕ) (ok : checkOf s ≡ Passed) where
     pub trees-shape : recordOf s charts n ≡ Present r → treesShape s r ≡ true
     unfolding nodesShape
     trees-shape e = sym (holds-present (recordOf s charts n) r (treesShape s) e) ∙ all-at (countOf s charts) _ trees n (present-below s charts n r e)
+
+    pub declaration-static : recordOf s declarations n ≡ Present r → declarationStatic s r ≡ true
+    unfolding recordStatic lookUp
+    declaration-static e = record-static 2 n r (omega arith) e
 
     pub name-static : recordOf s names n ≡ Present r → nameStatic s r ≡ true
     unfolding recordStatic lookUp

@@ -11,10 +11,11 @@ use Rattle.sheet.specs.declared.Found.the-variants.{Present, Absent}
 use Rattle.sheet.specs.Names.{charts, bodies, bindings, chartVariables, chartBodies, bodyParameters, bodyLocals, boundChart, bodyVariable}
 use Rattle.sheet.specs.Sheet.{recordOf}
 use Rattle.sheet_rules.specs.Fields.{typeAt, externalsOf}
+use Rattle.sheet_rules.specs.Indices.{cellsTaken}
 use Rattle.sheet_rules.specs.Types.{variableAt}
 use Rattle.sheet_rules.specs.Static.{bodyOf}
-use Rattle.machine.specs.Values.{inType, isBound, firstCell}
-use Rattle.machine.specs.State.{cellAt, wordOf}
+use Rattle.machine.specs.Values.{inType, isBound}
+use Rattle.machine.specs.State.{cellOf, wordOf}
 use Rattle.machine.specs.Valid.{cellFits}
 use Rattle.machine.specs.Eval.{Context}
 use Rattle.machine.specs.Play.{bodyWhere}
@@ -43,7 +44,7 @@ pub record Locals (s : List ℕ) (x : Context) (lo : List ℤ) : Type 0 where
 
 -- the cells of a body's element
 abbrev pub Cells : List ℕ → Context → List ℤ → Type 0
-Cells s x st = (j : ℕ) → j < chartVariables (x .chart) .count → cellFits s (x .element) (typeAt s (chartVariables (x .chart) .first + j)) st (cellAt (firstCell s (x .element) + j)) ≡ true
+Cells s x st = (j k : ℕ) → j < chartVariables (x .chart) .count → k < cellsTaken s (chartVariables (x .chart) .first + j) → cellFits s (x .element) (typeAt s (chartVariables (x .chart) .first + j)) st (cellOf s (x .element) (x .chart) j k) ≡ true
 
 -- number j of chart c is the first body that meets a test; the count of its bodies if none does
 pub record StandsAt (s : List ℕ) (c : Record) (p : Record → Bool) (j : ℕ) : Type 0 where

@@ -25,6 +25,7 @@ use Rattle.sheet_rules.specs.Check.{checkOf}
 use Rattle.sheet_rules.proofs.Fields.{holds-present, number-present}
 use Rattle.machine_passed.proofs.Records.{held, body-shape}
 use Rattle.machine_passed.proofs.Charts.{One, body-there, chart-element, some-reacts}
+use Rattle.machine_passed.proofs.Indices.{has-cell, clock-plain}
 use Rattle.machine_states.proofs.Parts.{cell-of, telegram-of}
 use Rattle.machine_states.proofs.Clocks.{running, clock-awaits}
 use Rattle.machine_promise.specs.Promise.{reactionsTo, OneReaction}
@@ -95,5 +96,5 @@ module _ (s : List ℕ) (ok : checkOf s ≡ Passed) where
   unfolding internalFits reactionAwaits
   one-reaction st o = record {
     waits = λ j l i. one-of _ _ (and-second _ _ (and-second _ _ (and-second _ _ (internal-part s ok _ (telegram-of s st o j l) i))));
-    armed = λ e c j a. one-of e _ (clock-awaits s e _ st _ (running s e _ st _ (cell-of s st o e c (a .chart) j (a .variable)) (a .clock) (a .runs)) (a .noTimer));
+    armed = λ e c j a. one-of e _ (clock-awaits s e _ st _ (running s e _ st _ (cell-of s st o e c (a .chart) j (a .variable) 0 (has-cell s _ (clock-plain s ok _ (a .clock)))) (a .clock) (a .runs)) (a .noTimer));
   }

@@ -15,8 +15,8 @@ use Rattle.machine.specs.declared.Answer.{Answer}
 use Rattle.sheet_rules.specs.declared.Checked.the-variants.{Passed}
 use Rattle.sheet_rules.specs.Fields.{holds, numberOr0, countBelow, typeAt}
 use Rattle.sheet_rules.specs.Types.{reactsTo}
-use Rattle.machine.specs.Values.{isZero, chartOf, firstCell}
-use Rattle.machine.specs.State.{cellAt, stateLength, wordOf, waiting, telegramOf}
+use Rattle.machine.specs.Values.{isZero, chartOf}
+use Rattle.machine.specs.State.{cellOf, lastRefusal, stateLength, wordOf, waiting, telegramOf}
 use Rattle.machine.specs.Valid.{isInternal, OfSheet}
 use Rattle.machine.specs.Play.{Outcome, ended, stuck, startCall, eventCall}
 use Rattle.sheet_rules.specs.Check.{checkOf}
@@ -24,11 +24,11 @@ use Rattle.machine.specs.Lists.{Played, played, nowhere, eventsOf}
 
 -- ---- answers
 
--- 0, or a number from a to 10
+-- 0, or a number from a to 11
 abbrev pub OneOf : ℕ → ℕ → Type 0
-OneOf a n = (n ≡ 0) ⊎ ((a ≤ n) × (n ≤ 10))
+OneOf a n = (n ≡ 0) ⊎ ((a ≤ n) × (n ≤ lastRefusal))
 
--- every answer of a list is 0 or from 4 to 10
+-- every answer of a list is 0 or from 4 to 11
 abbrev pub AllAnswered : List Answer → Type 0
 AllAnswered [] = Unit {0}
 AllAnswered (a ∷ rest) = OneOf 4 (a .number) × AllAnswered rest
@@ -39,9 +39,9 @@ AllAnswered (a ∷ rest) = OneOf 4 (a .number) × AllAnswered rest
 unfoldable pub reactionsTo : List ℕ → ℕ → ℕ → ℕ
 reactionsTo s e n = numberOr0 (chartOf s e) (λ c. countBelow (chartBodies c .count) (λ j. holds (recordOf s bodies (chartBodies c .first + j)) (reactsTo n)))
 
--- the word of variable j of element e
-abbrev pub variableWord : List ℕ → ℕ → ℕ → ℕ
-variableWord s e j = cellAt (firstCell s e + j)
+-- the first word of clock j of element e, whose chart is c
+abbrev pub clockWord : List ℕ → ℕ → Record → ℕ → ℕ
+clockWord s e c j = cellOf s e c j 0
 
 -- variable j of element e, whose chart is c, is a Timeout or a Cycler, and runs
 pub record Armed (s : List ℕ) (st : List ℤ) (e : ℕ) (c : Record) (j : ℕ) : Type 0 where
@@ -49,29 +49,29 @@ pub record Armed (s : List ℕ) (st : List ℤ) (e : ℕ) (c : Record) (j : ℕ)
   pub variable : j < chartVariables c .count
   pub clock : isClock (typeAt s (chartVariables c .first + j)) ≡ true
   pub noTimer : eqb (typeAt s (chartVariables c .first + j)) Timer-type ≡ false
-  pub runs : isZero (wordOf st (variableWord s e j)) ≡ false
+  pub runs : isZero (wordOf st (clockWord s e c j)) ≡ false
 
 -- its name is the fourth word of its cell
-abbrev pub armedName : List ℕ → List ℤ → ℕ → ℕ → ℕ
-armedName s st e j = natAbs (wordOf st (variableWord s e j + 3))
+abbrev pub armedName : List ℕ → List ℤ → ℕ → Record → ℕ → ℕ
+armedName s st e c j = natAbs (wordOf st (clockWord s e c j + 3))
 
 pub record OneReaction (s : List ℕ) (st : List ℤ) : Type 0 where
   pub waits : (j : ℕ) → j < waiting st → isInternal (telegramOf s st j) ≡ true → reactionsTo s (natAbs (telegramOf s st j .receiver)) (natAbs (telegramOf s st j .name)) ≡ 1
-  pub armed : (e : ℕ) (c : Record) (j : ℕ) → Armed s st e c j → reactionsTo s e (armedName s st e j) ≡ 1
+  pub armed : (e : ℕ) (c : Record) (j : ℕ) → Armed s st e c j → reactionsTo s e (armedName s st e c j) ≡ 1
 
 -- ---- start, an event, a list
 
--- start isn't stuck; it is 0 or 6 to 10; after 0 its state is of the sheet
+-- start isn't stuck; it is 0 or 6 to 11; after 0 its state is of the sheet
 abbrev pub StartKept : List ℕ → Outcome → Type 0
 StartKept s (ended a st) = OneOf 6 (a .number) × (a .number ≡ 0 → OfSheet s st)
 StartKept s stuck = ⊥
 
--- an event isn't stuck; it is 0 or 4 to 10; after 0 the new state is of the sheet, after another answer the state is the old one
+-- an event isn't stuck; it is 0 or 4 to 11; after 0 the new state is of the sheet, after another answer the state is the old one
 abbrev pub EventKept : List ℕ → List ℤ → Outcome → Type 0
 EventKept s old (ended a st) = OneOf 4 (a .number) × (a .number ≡ 0 → OfSheet s st) × ((a .number ≡ 0 → ⊥) → st ≡ old)
 EventKept s old stuck = ⊥
 
--- a list isn't stuck; every answer is 0 or 4 to 10; the last state is of the sheet, and every internal name that waits or is armed has one reaction
+-- a list isn't stuck; every answer is 0 or 4 to 11; the last state is of the sheet, and every internal name that waits or is armed has one reaction
 abbrev pub ListKept : List ℕ → Played → Type 0
 ListKept s (played answers st) = AllAnswered answers × OfSheet s st × OneReaction s st
 ListKept s nowhere = ⊥

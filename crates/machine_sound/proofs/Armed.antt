@@ -11,7 +11,7 @@ use Rattle.sheet.specs.All.{_and_}
 use Rattle.sheet.specs.Table.{Line, lookUp}
 use Rattle.sheet.specs.Names.{Timer-type, isClock}
 use Rattle.sheet.proofs.All.{true-false}
-use Rattle.sheet_rules.specs.Forms.{Form, literal, read, unary, binary, clock, skip, assign, externalSend, internalSend, arm, clockAct, call, choice, loop, sequence, unknown, formTable, formOf}
+use Rattle.sheet_rules.specs.Forms.{Form, literal, read, unary, binary, clock, readElement, skip, assign, externalSend, internalSend, arm, clockAct, call, choice, loop, sequence, assignElement, unknown, formTable, formOf}
 use Rattle.sheet_rules.specs.Types.{clockOf}
 
 isArm : Form → Bool
@@ -20,6 +20,7 @@ isArm read = false
 isArm unary = false
 isArm binary = false
 isArm clock = false
+isArm readElement = false
 isArm skip = false
 isArm assign = false
 isArm externalSend = false
@@ -30,6 +31,7 @@ isArm call = false
 isArm choice = false
 isArm loop = false
 isArm sequence = false
+isArm assignElement = false
 isArm unknown = false
 
 -- a line of the table that is another's is passed
@@ -68,8 +70,8 @@ pasts (suc n) (b ∷ bs) op q e = let p = both _ _ q in pasts n bs op (p .1) (pa
 arms : (op : ℕ) → formOf op ≡ arm → (36 ≤ op) × (op < 38)
 unfolding formOf isArm lookUp
 arms op e =
-    let p = past (record { below = 36; means = internalSend }) (drop 11 formTable) op refl (pasts 10 formTable op refl e) in
-    (p .0, here (record { below = 38; means = arm }) (drop 12 formTable) op (p .1) (λ h. true-false (ap isArm (pasts 5 (drop 12 formTable) op refl h)) refl))
+    let p = past (record { below = 36; means = internalSend }) (drop 12 formTable) op refl (pasts 11 formTable op refl e) in
+    (p .0, here (record { below = 38; means = arm }) (drop 13 formTable) op (p .1) (λ h. true-false (ap isArm (pasts 6 (drop 13 formTable) op refl h)) refl))
 
 -- it is a Timeout or a Cycler that is armed
 pub armed-clock : (op : ℕ) → formOf op ≡ arm → (isClock (clockOf op) ≡ true) × (eqb (clockOf op) Timer-type ≡ false)

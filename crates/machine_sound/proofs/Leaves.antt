@@ -20,13 +20,13 @@ use Rattle.machine.specs.declared.Out.{Out}
 use Rattle.machine.specs.declared.Out.the-variants.{Val, Refused, Stuck}
 use Rattle.sheet_rules.specs.declared.Typed.{Typed}
 use Rattle.sheet_rules.specs.declared.Typed.the-variants.{Expression, Statement, Wrong}
-use Rattle.sheet_rules.specs.Fields.{componentsOf}
+use Rattle.sheet_rules.specs.Fields.{componentsOf, membersOf}
 use Rattle.sheet_rules.specs.Forms.{Literal, bool, int, member, component, port, self, literalOf, Binary, both, equal, less, plus, minus, times, div, modulo, binaryOf}
 use Rattle.sheet_rules.specs.DataTypes.{enumeratedType, dataTypeOf}
 use Rattle.sheet_rules.proofs.DataTypes.{type-enumerated}
 use Rattle.sheet_rules.specs.Shape.{literalFields, literalShape}
 use Rattle.sheet_rules.specs.Types.{given, isOf, sameType, writtenType, literalType, ofInts, combinedType, binaryType, notType}
-use Rattle.machine.specs.Values.{fits32, isBelow, isZero, sameWord, membersOf, inDataType, inType}
+use Rattle.machine.specs.Values.{fits32, isBelow, isZero, sameWord, inDataType, inType}
 use Rattle.machine.specs.Eval.{andThen, needs, val, boolWord, intOut, dividing, isOne, notVal, onInts, combined, binaryVal, written, literalValue, within, quotient, remainder}
 use Rattle.machine_sound.specs.Gives.{Gives}
 

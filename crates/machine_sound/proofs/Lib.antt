@@ -5,3 +5,4 @@ pub mod Data
 pub mod Then
 pub mod Armed
 pub mod Run
+pub mod Indices

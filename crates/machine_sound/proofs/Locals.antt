@@ -15,7 +15,7 @@ use Rattle.sheet_rules.specs.declared.Checked.the-variants.{Passed}
 use Rattle.sheet_rules.specs.Fields.{typeAt}
 use Rattle.sheet_rules.specs.Shape.{bodyShape}
 use Rattle.sheet_rules.specs.Types.{variableAt}
-use Rattle.sheet_rules.specs.Static.{noClocks, bodyStatic}
+use Rattle.sheet_rules.specs.Static.{plainData, bodyStatic}
 use Rattle.machine.specs.Values.{inType}
 use Rattle.machine.specs.State.{wordOf}
 use Rattle.machine.specs.Eval.{Context}
@@ -44,8 +44,8 @@ module _ (s : List ℕ) (ok : checkOf s ≡ Passed) (x : Context) (placed : Plac
   few = leb-true _ _ (and-first _ _ (and-second _ _ (and-second _ _ (and-second _ _ (and-second _ _ (and-second _ _ (body-shape s ok _ _ (placed .body .there))))))))
 
   no-clock : (j : ℕ) → j < bodyLocals (x .body) .count → isClock (typeAt s (bodyLocals (x .body) .first + j)) ≡ false
-  unfolding bodyStatic noClocks
-  no-clock j l = not-true _ (all-at _ _ (and-first _ _ (and-second _ _ (body-static s ok _ _ (placed .element .chart) (x .body) (placed .body)))) j l)
+  unfolding bodyStatic plainData
+  no-clock j l = not-true _ (and-first _ _ (all-at _ _ (and-first _ _ (and-second _ _ (body-static s ok _ _ (placed .element .chart) (x .body) (placed .body)))) j l))
 
   -- parameters of their types make the body's variables so
   module _ (zs : List ℤ) (parameters : (i : ℕ) → i < bodyParameters (x .body) .count → inType s (typeAt s (bodyParameters (x .body) .first + i)) (datum zs i) ≡ true) where

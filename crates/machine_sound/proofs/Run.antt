@@ -26,16 +26,17 @@ use Rattle.sheet_rules.specs.declared.Operands.{Operands}
 use Rattle.machine.specs.declared.Ran.{Ran}
 use Rattle.machine.specs.declared.Ran.the-variants.{Done, Refused, Stuck}
 use Rattle.sheet_rules.specs.Fields.{fieldOf, typeAt}
-use Rattle.sheet_rules.specs.Forms.{Form, literal, read, unary, binary, clock, skip, assign, externalSend, internalSend, arm, clockAct, call, choice, loop, sequence, unknown, formOf, nameData, calledBody, callData, operands, operandsIn, operandsOf, operandAt, operandCount, Binary, both, equal, less, plus, minus, times, div, modulo, binaryOf}
+use Rattle.sheet_rules.specs.Forms.{Form, literal, read, unary, binary, clock, readElement, skip, assign, externalSend, internalSend, arm, clockAct, call, choice, loop, sequence, assignElement, unknown, formOf, nameData, calledBody, callData, operands, operandsIn, operandsOf, operandAt, operandCount, Binary, both, equal, less, plus, minus, times, div, modulo, binaryOf}
 use Rattle.sheet_rules.specs.Shape.{bodyShape, variablesAt, sendShape, fieldsShape, treeShape}
 use Rattle.sheet_rules.specs.DataTypes.{dataTypeOf}
-use Rattle.sheet_rules.specs.Types.{given, isOf, isStatement, chartVariableType, variableAt, internalName, nameRange, parametersOf, clockOf, dataMatch, lowerType, readType, clockType, notType, ofInts, combinedType, binaryType, assignType, externalType, internalType, armType, clockActType, callType, choiceType, loopType, sequenceType, typeIn, typeOf}
+use Rattle.sheet_rules.specs.Indices.{indexAt, isPlain, cellsTaken}
+use Rattle.sheet_rules.specs.Types.{given, isOf, isStatement, chartVariableType, variableAt, internalName, nameRange, parametersOf, clockOf, dataMatch, lowerType, readType, clockType, notType, ofInts, combinedType, binaryType, assignType, readElementType, assignElementType, chartVariableIndex, externalType, internalType, armType, clockActType, callType, choiceType, loopType, sequenceType, typeIn, typeOf}
 use Rattle.sheet_rules.specs.Static.{bodyStatic}
-use Rattle.machine.specs.Values.{isZero, inDataType, inType, chartOf, firstCell}
-use Rattle.machine.specs.State.{cellAt}
+use Rattle.machine.specs.Values.{isZero, inDataType, inType, chartOf}
+use Rattle.machine.specs.State.{cellOf}
 use Rattle.machine.specs.Valid.{nameFits, reactionAwaits, OfSheet}
-use Rattle.machine.specs.Eval.{Context, isVariable, bodyWords, variableAtCell, evalOf}
-use Rattle.machine.specs.Run.{World, valuesFrom, thenValues, areOf, wordsIn, datum, localsOf, armed, clockSet, inBody, assigned, hasVariable, assignOf, nameValues, externalSendOf, internalSendOf, armOf, clockActOf, entered, callOf, choiceOf, runIn, runOf, openCalls}
+use Rattle.machine.specs.Eval.{Context, isVariable, isPlainVariable, bodyWords, variableAtCell, Reached, inside, outOfRange, unfit, reached, evalOf}
+use Rattle.machine.specs.Run.{World, valuesFrom, thenValues, areOf, wordsIn, datum, localsOf, armed, clockSet, inBody, assigned, hasVariable, assignOf, elementAssigned, assignElementOf, nameValues, externalSendOf, internalSendOf, armOf, clockActOf, entered, callOf, choiceOf, runIn, runOf, openCalls}
 use Rattle.sheet_rules.specs.Check.{checkOf}
 use Rattle.sheet_rules.proofs.Fields.{number-present}
 use Rattle.sheet_rules.proofs.Types.{lower-type}
@@ -50,7 +51,9 @@ use Rattle.machine_states.proofs.Kept.{data-set}
 use Rattle.machine_states.proofs.Telegrams.{own-telegram, sent-telegram}
 use Rattle.machine_states.proofs.Acts.{armed-kept, stopped-kept, started-kept}
 use Rattle.machine_sound.specs.Gives.{Gives, WordsOf, DataGive, Ends}
+use Rattle.machine_passed.proofs.Indices.{has-cell, clock-plain}
 use Rattle.machine_sound.proofs.Leaves.{is-type}
+use Rattle.machine_sound.proofs.Indices.{Leads, array-index, array-leads}
 use Rattle.machine_sound.proofs.Eval.{no-place, type-at, eval-gives}
 use Rattle.machine_sound.proofs.Data.{data-gives, range-of, few-data, name-fits, awaited}
 use Rattle.machine_sound.proofs.Locals.{few, fresh-locals, local-set}
@@ -139,6 +142,10 @@ not-clock s (suc (suc (suc (suc (suc zero))))) z h = absurd (true-false h refl)
 not-clock s (suc (suc (suc (suc (suc (suc zero)))))) z h = absurd (true-false h refl)
 not-clock s (suc (suc (suc (suc (suc (suc (suc t))))))) z h = and-false (leb 4 (suc (suc (suc (suc (suc (suc (suc t)))))))) _ (lt-leb (suc (suc (suc (suc (suc (suc (suc t))))))) 6 (omega arith))
 
+pub timer-clock : {t : ℕ} → t ≡ Timer-type → isClock t ≡ true
+unfolding isClock _and_
+timer-clock e = ap isClock e
+
 module _ (s : List ℕ) (ok : checkOf s ≡ Passed) where
   -- what is said of every statement with at most L steps left
   abbrev Steps : ℕ → Type 0
@@ -149,12 +156,12 @@ module _ (s : List ℕ) (ok : checkOf s ≡ Passed) where
     there = element-chart s (x .element) (x .binding) (x .chart) (placed .element)
 
     cells : Cells s x st
-    cells j l = cell-of s st o (x .element) (x .chart) there j l
+    cells j k l m = cell-of s st o (x .element) (x .chart) there j l k m
 
     -- a variable that the body has, of the type that its declaration says
-    pub variable-there : (place n t : ℕ) → ltb n (variablesAt (x .chart) (x .body) place) ≡ true → t ≡ typeAt s (variableAt (x .chart) (x .body) place n) → hasVariable s x place n t ≡ true
+    pub variable-there : (place n t : ℕ) → ltb n (variablesAt (x .chart) (x .body) place) ≡ true → t ≡ typeAt s (variableAt (x .chart) (x .body) place n) → isPlain (indexAt s (variableAt (x .chart) (x .body) place n)) ≡ true → hasVariable s x place n t ≡ true
     unfolding hasVariable variablesAt
-    variable-there place n t h e = and-true _ _ h (and-true _ _ (worded place h) (declared-so s _ (eqb t) (variable-declared s ok _ _ (placed .element .chart) (x .body) (placed .body) place n (ltb-true _ _ h)) ∙ eq-eqb _ _ e))
+    variable-there place n t h e p = and-true _ _ h (and-true _ _ (worded place h) (and-true _ _ (declared-so s _ (eqb t) (variable-declared s ok _ _ (placed .element .chart) (x .body) (placed .body) place n (ltb-true _ _ h)) ∙ eq-eqb _ _ e) p))
       where
         worded : (place : ℕ) → ltb n (variablesAt (x .chart) (x .body) place) ≡ true → _≡_ {A = Bool} (elim (eqb place Names.bodyVariable) [ true ↦ ltb n bodyWords | false ↦ true ]) true
         worded zero h = refl
@@ -162,16 +169,27 @@ module _ (s : List ℕ) (ok : checkOf s ≡ Passed) where
         worded (suc (suc zero)) h = lt-ltb n bodyWords (let l : n < bodyParameters (x .body) .count + bodyLocals (x .body) .count = ltb-true _ _ h in omega (arith, few s ok x placed))
         worded (suc (suc (suc k))) h = rw (ne-eqb (suc (suc (suc k))) 2 (λ q. absurd (omega arith))) refl
 
-    pub clock-there : (n : ℕ) (p : ℕ → Bool) → ltb n (chartVariables (x .chart) .count) ≡ true → p (typeAt s (chartVariables (x .chart) .first + n)) ≡ true → isVariable s x n p ≡ true
+    pub chart-variable-there : (n : ℕ) (p : ℕ → Bool) → ltb n (chartVariables (x .chart) .count) ≡ true → p (typeAt s (chartVariables (x .chart) .first + n)) ≡ true → isVariable s x n p ≡ true
     unfolding isVariable
-    clock-there n p h e = and-true _ _ h (declared-so s _ p (chart-variable-declared s ok _ _ (placed .element .chart) n (ltb-true _ _ h)) ∙ e)
+    chart-variable-there n p h e = and-true _ _ h (declared-so s _ p (chart-variable-declared s ok _ _ (placed .element .chart) n (ltb-true _ _ h)) ∙ e)
 
-    assign-ends : (place n l : ℕ) (z : ℤ) → not (eqb place 0) ≡ true → ltb n (variablesAt (x .chart) (x .body) place) ≡ true → inType s (typeAt s (variableAt (x .chart) (x .body) place n)) z ≡ true → Good s x (assigned s x place n z l st lo)
+    pub clock-there : (n : ℕ) (p : ℕ → Bool) → ltb n (chartVariables (x .chart) .count) ≡ true → p (typeAt s (chartVariables (x .chart) .first + n)) ≡ true → isClock (typeAt s (chartVariables (x .chart) .first + n)) ≡ true → isPlainVariable s x n p ≡ true
+    unfolding isPlainVariable
+    clock-there n p h e c = and-true _ _ (chart-variable-there n p h e) (clock-plain s ok _ c)
+
+    assign-ends : (place n l : ℕ) (z : ℤ) → not (eqb place 0) ≡ true → ltb n (variablesAt (x .chart) (x .body) place) ≡ true → isPlain (indexAt s (variableAt (x .chart) (x .body) place n)) ≡ true → inType s (typeAt s (variableAt (x .chart) (x .body) place n)) z ≡ true → Good s x (assigned s x place n z l st lo)
     unfolding assigned variableAt variablesAt variableAtCell
-    assign-ends zero n l z a h t = absurd (true-false a refl)
-    assign-ends (suc zero) n l z a h t = (data-set s st o (x .element) (x .chart) there n (ltb-true _ _ h) z (not-clock s _ z t) t, locals)
-    assign-ends (suc (suc zero)) n l z a h t = (o, local-set s ok x placed lo locals n z (ltb-true _ _ h) t)
-    assign-ends (suc (suc (suc k))) n l z a h t = absurd (let q = ltb-true n 0 (rw (no-place s ok x placed st lo cells locals k) at h) in omega arith)
+    assign-ends zero n l z a h p t = absurd (true-false a refl)
+    assign-ends (suc zero) n l z a h p t = (data-set s st o (x .element) (x .chart) there n (ltb-true _ _ h) 0 (has-cell s _ p) z (not-clock s _ z t) t, locals)
+    assign-ends (suc (suc zero)) n l z a h p t = (o, local-set s ok x placed lo locals n z (ltb-true _ _ h) t)
+    assign-ends (suc (suc (suc k))) n l z a h p t = absurd (let q = ltb-true n 0 (rw (no-place s ok x placed st lo cells locals k) at h) in omega arith)
+
+    -- a value to a cell of an array; "11, index outside its number"
+    element-ends : (n l : ℕ) (z : ℤ) → n < chartVariables (x .chart) .count → inType s (typeAt s (chartVariables (x .chart) .first + n)) z ≡ true → (i : Reached) → Leads (cellsTaken s (chartVariables (x .chart) .first + n)) i → Good s x (elementAssigned s x n i z l st lo)
+    unfolding elementAssigned variableAtCell
+    element-ends n l z h t (inside k) b = (data-set s st o (x .element) (x .chart) there n h k b z (not-clock s _ z t) t, locals)
+    element-ends n l z h t outOfRange b = (omega arith, omega arith)
+    element-ends n l z h t unfit b = absurd b
 
     -- ---- a node, in a tree whose operands have at most k levels
 
@@ -226,12 +244,12 @@ module _ (s : List ℕ) (ok : checkOf s ≡ Passed) where
               (λ vs m′ g v w. h vs m′ g v (omega arith))
 
         -- "period below 1": 7
-        armed-ends : (j : ℕ) (h : j < chartVariables (x .chart) .count) (op : ℕ) → formOf op ≡ arm → typeAt s (chartVariables (x .chart) .first + j) ≡ clockOf op → (period : ℤ) → inType s Int-type period ≡ true → (name : ℕ) (zs : List ℤ) (l : ℕ) → nameFits s internal (pos name) (datum zs) ≡ true → reactionAwaits s (x .element) (pos name) ≡ true → Good s x (armed (cellAt (firstCell s (x .element) + j)) (clockOf op) period name zs l st lo)
+        armed-ends : (j : ℕ) (h : j < chartVariables (x .chart) .count) (op : ℕ) → formOf op ≡ arm → typeAt s (chartVariables (x .chart) .first + j) ≡ clockOf op → (period : ℤ) → inType s Int-type period ≡ true → (name : ℕ) (zs : List ℤ) (l : ℕ) → nameFits s internal (pos name) (datum zs) ≡ true → reactionAwaits s (x .element) (pos name) ≡ true → Good s x (armed (cellOf s (x .element) (x .chart) j 0) (clockOf op) period name zs l st lo)
         unfolding armed inType inDataType dataTypeOf lookUp
         armed-ends j h op g t period w name zs l a b =
             let c = armed-clock op g in
-            subst (λ u. Good s x (armed (cellAt (firstCell s (x .element) + j)) u period name zs l st lo)) t
-            (kept-ends s x (leZ (pos 1) period) l 7 st _ lo (armed-kept s st o (x .element) (x .chart) there j h (ap isClock t ∙ c .0) (ap (λ u. eqb u Timer-type) t ∙ c .1) period w name zs a b l lo) locals (omega arith, omega arith))
+            subst (λ u. Good s x (armed (cellOf s (x .element) (x .chart) j 0) u period name zs l st lo)) t
+            (kept-ends s x (leZ (pos 1) period) l 7 st _ lo (armed-kept s st o (x .element) (x .chart) there j h (has-cell s _ (clock-plain s ok _ (ap isClock t ∙ c .0))) (ap isClock t ∙ c .0) (ap (λ u. eqb u Timer-type) t ∙ c .1) period w name zs a b l lo) locals (omega arith, omega arith))
 
         -- "a 17th open call": 9
         entered-ends : (b : Record) → InChart s (x .chart) b → (zs : List ℤ) (l : ℕ) → WordsOf s (bodyParameters b) (bodyParameters b .count) 0 zs → l ≤ L → Good s x (entered s x (runOf s) depth b zs l st lo)
@@ -247,19 +265,20 @@ module _ (s : List ℕ) (ok : checkOf s ≡ Passed) where
             (λ p. (omega arith, omega arith))
 
         act-ends : (F : Form) (l : ℕ) → l ≤ L → formOf (operator r) ≡ F → fieldsShape s (x .chart) (x .body) r F ≡ true → Lower (operandsIn s (x .chart) r F) → typeIn s (x .chart) (x .body) f r F ≡ Statement → Good s x (runIn s x (runOf s) depth n r l st lo F)
-        unfolding fieldsShape operandsIn operandAt fieldOf typeIn runIn readType notType binaryType clockType assignType externalType internalType internalName armType clockActType callType choiceType loopType sequenceType assignOf externalSendOf internalSendOf armOf clockActOf callOf choiceOf callData variableAtCell clockSet inType inDataType dataTypeOf lookUp
+        unfolding fieldsShape operandsIn operandAt fieldOf typeIn runIn readType notType binaryType clockType assignType readElementType assignElementType externalType internalType internalName armType clockActType callType choiceType loopType sequenceType assignOf assignElementOf externalSendOf internalSendOf armOf clockActOf callOf choiceOf callData variableAtCell clockSet inType inDataType dataTypeOf lookUp
         act-ends literal l q g h low e = no-expression e
         act-ends read l q g h low e = no-value _ _ e
         act-ends unary l q g h low e = no-value _ _ e
         act-ends binary l q g h low e = no-binary (binaryOf (operator r)) (f (r .f1)) (f (r .f2)) e
         act-ends clock l q g h low e = no-value _ _ e
+        act-ends readElement l q g h low e = no-value _ _ e
         act-ends skip l q g h low e = (o, locals)
         act-ends assign l q g h low e =
             let t = stated _ e in
             let inside = and-first _ _ h in
-            operand-ends s x _ _ l st lo _ (operand-gives _ (low 0 (omega arith)) _ l (and-second _ _ t)) (eval-left s x st lo _ l) (λ v m k w p.
-            provided-ends s x _ st lo _ (variable-there (r .f1) (r .f2) (v .kind) inside k)
-            (assign-ends (r .f1) (r .f2) m (v .word) (and-first _ _ t) inside w))
+            operand-ends s x _ _ l st lo _ (operand-gives _ (low 0 (omega arith)) _ l (and-second _ _ (and-second _ _ t))) (eval-left s x st lo _ l) (λ v m k w p.
+            provided-ends s x _ st lo _ (variable-there (r .f1) (r .f2) (v .kind) inside k (and-first _ _ (and-second _ _ t)))
+            (assign-ends (r .f1) (r .f2) m (v .word) (and-first _ _ t) inside (and-first _ _ (and-second _ _ t)) w))
         act-ends externalSend l q g h low e =
             let t = stated _ e in
             let d = and-second _ _ (and-second _ _ (and-second _ _ t)) in
@@ -291,7 +310,7 @@ module _ (s : List ℕ) (ok : checkOf s ≡ Passed) where
             operand-ends s x _ Int-type l st lo _ (operand-gives _ (low 0 (omega arith)) _ l (and-first _ _ (and-second _ _ t))) (eval-left s x st lo _ l) (λ period m k w p.
             record-ends s x _ (name .0) st lo _ (name .1)
             (name-ends l q shape d 2 1 m low (omega arith) _ (λ vs m′ are v p′.
-            provided-ends s x _ st lo _ (and-true _ _ (clock-there (r .f1) (eqb (clockOf (operator r))) (and-first _ _ h) (eq-eqb _ _ (sym kind))) (and-true _ _ (eq-eqb _ _ k) are))
+            provided-ends s x _ st lo _ (and-true _ _ (clock-there (r .f1) (eqb (clockOf (operator r))) (and-first _ _ h) (eq-eqb _ _ (sym kind)) (ap isClock kind ∙ armed-clock (operator r) g .0)) (and-true _ _ (eq-eqb _ _ k) are))
             (armed-ends (r .f1) (ltb-true _ _ (and-first _ _ h)) (operator r) g kind (period .word) w (r .f3) (wordsIn vs) m′
             (name-fits s ok (r .f3) internal (name .0) (name .1) (and-first _ _ (and-first _ _ i)) (wordsIn vs) v)
             (awaited s ok (r .f3) internal (name .0) (name .1) (and-first _ _ (and-first _ _ i)) (wordsIn vs) v (x .element) (x .binding) (x .chart) (placed .element) (and-second _ _ (and-first _ _ i)))))))
@@ -300,9 +319,9 @@ module _ (s : List ℕ) (ok : checkOf s ≡ Passed) where
             let v = and-first _ _ h in
             either-ends s x (eqb (operator r) 38) _ _
             (λ b. let k = eqb-true _ _ (subst Acts b t) in
-            provided-ends s x _ st lo _ (clock-there (r .f1) (eqb Timer-type) v (eq-eqb _ _ (sym k))) (started-kept s st o (x .element) (x .chart) there (r .f1) (ltb-true _ _ v) k l lo, locals))
+            provided-ends s x _ st lo _ (clock-there (r .f1) (eqb Timer-type) v (eq-eqb _ _ (sym k)) (timer-clock k)) (started-kept s st o (x .element) (x .chart) there (r .f1) (ltb-true _ _ v) (has-cell s _ (clock-plain s ok _ (timer-clock k))) k l lo, locals))
             (λ b. let k = subst Acts b t in
-            provided-ends s x _ st lo _ (clock-there (r .f1) isClock v k) (stopped-kept s st o (x .element) (x .chart) there (r .f1) (ltb-true _ _ v) k l lo, locals))
+            provided-ends s x _ st lo _ (clock-there (r .f1) isClock v k k) (stopped-kept s st o (x .element) (x .chart) there (r .f1) (ltb-true _ _ v) (has-cell s _ (clock-plain s ok _ k)) k l lo, locals))
           where
             Acts : Bool → Type 0
             Acts b = elim b [ true ↦ eqb (chartVariableType s (x .chart) (r .f1)) Timer-type | false ↦ isClock (chartVariableType s (x .chart) (r .f1)) ] ≡ true
@@ -335,6 +354,14 @@ module _ (s : List ℕ) (ok : checkOf s ≡ Passed) where
             let t = stated _ e in
             run-ends s x l _ _ _ _ (below-ends _ l st lo o locals q (low 0 (omega arith)) (and-first _ _ t)) (run-left s depth x _ l st lo) (λ m o′ k′ p.
             below-ends _ m _ _ o′ k′ (omega arith) (low 1 (omega arith)) (and-second _ _ t))
+        act-ends assignElement l q g h low e =
+            let t = stated _ e in
+            let i = array-index s _ (f (r .f2)) (and-first _ _ t) in
+            let inside = and-first _ _ h in
+            operand-ends s x _ (i .kind) l st lo _ (operand-gives _ (low 0 (omega arith)) _ l (i .asked)) (eval-left s x st lo _ l) (λ v m k w p.
+            operand-ends s x _ _ m st lo _ (operand-gives _ (low 1 (omega arith)) _ m (and-second _ _ t)) (eval-left s x st lo _ m) (λ v′ m′ k′ w′ p′.
+            provided-ends s x _ st lo _ (chart-variable-there (r .f1) (eqb (v′ .kind)) inside (eq-eqb _ _ k′))
+            (element-ends (r .f1) m′ (v′ .word) (ltb-true _ _ inside) w′ (reached (chartVariableIndex s (x .chart) (r .f1)) v) (array-leads s _ (f (r .f2)) (and-first _ _ t) v k w))))
         act-ends unknown l q g h low e = not-wrong e
 
   none-left : (depth : ℕ) (x : Context) (n : ℕ) (st lo : List ℤ) → Good s x (runOf s depth x n zero st lo)

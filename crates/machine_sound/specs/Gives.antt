@@ -12,14 +12,15 @@ use Rattle.machine.specs.declared.Ran.{Ran}
 use Rattle.machine.specs.declared.Ran.the-variants.{Done, Refused, Stuck}
 use Rattle.sheet_rules.specs.Fields.{typeAt}
 use Rattle.machine.specs.Values.{inType}
+use Rattle.machine.specs.State.{lastRefusal}
 use Rattle.machine.specs.Valid.{OfSheet}
 use Rattle.machine.specs.Eval.{Context}
 use Rattle.machine.specs.Run.{Values, given, refused, stuck, areOf, wordsIn, datum}
 use Rattle.machine_passed.specs.Places.{Locals}
 
--- "6 to 10, the first met"
+-- "6 to 10, the first met", and 11
 abbrev pub Refusal : ℕ → Type 0
-Refusal k = (6 ≤ k) × (k ≤ 10)
+Refusal k = (6 ≤ k) × (k ≤ lastRefusal)
 
 -- an expression of type t gives a value of the type, or is refused; it is not stuck
 abbrev pub Gives : List ℕ → ℕ → Out → Type 0

@@ -1,6 +1,6 @@
 -- Each change of a state of the sheet leaves a state of the sheet.
 use Prim.Native.Nat.{ℕ, _+_, _-_, _<_, _≤_}
-use mathlib.Core.Path.{_≡_, sym, ap, _∙_}
+use mathlib.Core.Path.{_≡_, ap, _∙_}
 use mathlib.Core.List.{List}
 use mathlib.Core.Bool.{true, false}
 use native.Mathlib.Omega.{arith}
@@ -14,41 +14,37 @@ use Rattle.sheet.specs.Names.{chartVariables, isClock}
 use Rattle.sheet.proofs.All.{and-second, and-true}
 use Rattle.machine.proofs.Appending.{appending}
 use Rattle.machine.specs.declared.Telegram.{Telegram}
-use Rattle.sheet_rules.specs.Fields.{typeAt, numberOr0}
+use Rattle.sheet_rules.specs.Fields.{typeAt}
+use Rattle.sheet_rules.specs.Indices.{cellsTaken, cellsBefore}
 use Rattle.machine.specs.Values.{isBelow, inType, chartOf, firstCell}
-use Rattle.machine.specs.State.{places, cellAt, placeAt, stateLength, wordOf, waiting, telegramOf, putWords, withTelegram, withoutTelegram, Changed, on, off, lost, appended}
+use Rattle.machine.specs.State.{places, cellAt, cellOf, placeAt, stateLength, wordOf, waiting, telegramOf, putWords, withTelegram, withoutTelegram, lastRefusal, Changed, on, off, lost, appended}
 use Rattle.machine.specs.Valid.{cellFits, telegramFits, headFits, cellsFit, OfSheet}
-use Rattle.sheet_rules.proofs.Fields.{number-present}
 use Rattle.machine_states.proofs.Frame.{Same, zero-from, zero-same, telegram-same, cell-same}
 use Rattle.machine_states.proofs.Words.{length-put, word-put-in, word-put-before, word-put-behind, word-set, word-set-other, with-length, with-head, with-waiting, with-before, with-behind, with-last, with-earlier, without-length, without-head, without-waiting, without-before, without-last, without-closed, without-earlier, without-later}
-use Rattle.machine_states.proofs.Elements.{element-cells, cells-apart}
+use Rattle.machine_states.proofs.Elements.{cell-below, cells-apart}
 use Rattle.machine_states.proofs.Parts.{zeros, is-counted, waiting-limit, head-zero, has-chart, has-declared, cell-of, telegram-of, unused-of, cells-fit, telegrams-fit, rest-unused}
 
 -- a change leaves a state of the sheet, or is refused
 abbrev pub ChangeKept : List ℕ → Changed → Type 0
 ChangeKept s (on st) = OfSheet s st
-ChangeKept s (off n) = (6 ≤ n) × (n ≤ 10)
+ChangeKept s (off n) = (6 ≤ n) × (n ≤ lastRefusal)
 ChangeKept s lost = ⊥
 
 -- ---- a cell
 
--- two charts of one element have the same variables
-one-chart : (s : List ℕ) (e e′ : ℕ) (c c′ : Record) → e ≡ e′ → chartOf s e ≡ Present c → chartOf s e′ ≡ Present c′ → chartVariables c .first ≡ chartVariables c′ .first
-one-chart s e e′ c c′ q p p′ = sym (number-present (chartOf s e) c (λ r. chartVariables r .first) p) ∙ ap (λ (x : ℕ). numberOr0 (chartOf s x) (λ r. chartVariables r .first)) q ∙ number-present (chartOf s e′) c′ (λ r. chartVariables r .first) p′
-
-module _ (s : List ℕ) (st : List ℤ) (o : OfSheet s st) (e : ℕ) (c : Record) (p : chartOf s e ≡ Present c) (j : ℕ) (l : j < chartVariables c .count) where
+module _ (s : List ℕ) (st : List ℤ) (o : OfSheet s st) (e : ℕ) (c : Record) (p : chartOf s e ≡ Present c) (j : ℕ) (l : j < chartVariables c .count) (v : ℕ) (here : v < cellsTaken s (chartVariables c .first + j)) where
   abbrev cell : ℕ
-  cell = cellAt (firstCell s e + j)
+  cell = cellOf s e c j v
 
   abbrev kind : ℕ
   kind = typeAt s (chartVariables c .first + j)
 
   pub cell-inside : cell + 8 ≤ placeAt s 0
-  unfolding cellAt placeAt
-  cell-inside = omega (arith, element-cells s e c p)
+  unfolding cellOf cellAt placeAt
+  cell-inside = omega (arith, cell-below s e c p j v l here)
 
   cell-late : 8 ≤ cell
-  unfolding cellAt
+  unfolding cellOf cellAt
   cell-late = omega arith
 
   pub cell-in-state : cell + 8 ≤ length st
@@ -69,15 +65,15 @@ module _ (s : List ℕ) (st : List ℤ) (o : OfSheet s st) (e : ℕ) (c : Record
     place-kept n k m = behind (placeAt s n + k) (omega (arith, cell-inside))
 
     -- another cell lies before or behind
-    other-kept : (i : ℕ) → (i ≡ firstCell s e + j → ⊥) → Same st′ (cellAt i) st (cellAt i)
-    unfolding cellAt
-    other-kept i n k m = elim (decLt i (firstCell s e + j)) [
+    other-kept : (i : ℕ) → (i ≡ firstCell s e + cellsBefore s c j + v → ⊥) → Same st′ (cellAt i) st (cellAt i)
+    unfolding cellOf cellAt
+    other-kept i n k m = elim (decLt i (firstCell s e + cellsBefore s c j + v)) [
       | yes q ↦ before (cellAt i + k) (omega arith)
       | no q ↦ behind (cellAt i + k) (omega arith)
     ]
 
     pub cell-kept : cellFits s e kind st′ cell ≡ true → OfSheet s st′
-    unfolding telegramOf
+    unfolding telegramOf cellOf
     cell-kept fits = record {
       whole = whole ∙ o .whole;
       head = head-kept;
@@ -86,10 +82,10 @@ module _ (s : List ℕ) (st : List ℤ) (o : OfSheet s st) (e : ℕ) (c : Record
       unused = rest-unused s st′ (waiting st) waiting-kept (λ n m q. zero-same st′ (placeAt s n) st (placeAt s n) (place-kept n) 0 ∙ unused-of s st o n m q);
     }
       where
-        each : (e′ : ℕ) (c′ : Record) → chartOf s e′ ≡ Present c′ → (j′ : ℕ) → j′ < chartVariables c′ .count → cellFits s e′ (typeAt s (chartVariables c′ .first + j′)) st′ (cellAt (firstCell s e′ + j′)) ≡ true
-        each e′ c′ p′ j′ l′ = elim (ℕ-discrete (firstCell s e′ + j′) (firstCell s e + j)) [
-          | yes q ↦ (let same = cells-apart s e′ c′ p′ e c p j′ j l′ l q in rw (one-chart s e′ e c′ c (same .0) p′ p, same .0, same .1) fits)
-          | no q ↦ cell-same st′ (cellAt (firstCell s e′ + j′)) st (cellAt (firstCell s e′ + j′)) (other-kept (firstCell s e′ + j′) q) s e′ _ ∙ cell-of s st o e′ c′ p′ j′ l′
+        each : (e′ : ℕ) (c′ : Record) → chartOf s e′ ≡ Present c′ → (j′ : ℕ) → j′ < chartVariables c′ .count → (v′ : ℕ) → v′ < cellsTaken s (chartVariables c′ .first + j′) → cellFits s e′ (typeAt s (chartVariables c′ .first + j′)) st′ (cellOf s e′ c′ j′ v′) ≡ true
+        each e′ c′ p′ j′ l′ v′ m′ = elim (ℕ-discrete (firstCell s e′ + cellsBefore s c′ j′ + v′) (firstCell s e + cellsBefore s c j + v)) [
+          | yes q ↦ (let same = cells-apart s e′ c′ p′ e c p j′ j v′ v l′ l m′ here q in rw (same .0, same .1, same .2, same .3) fits)
+          | no q ↦ cell-same st′ (cellOf s e′ c′ j′ v′) st (cellOf s e′ c′ j′ v′) (other-kept (firstCell s e′ + cellsBefore s c′ j′ + v′) q) s e′ _ ∙ cell-of s st o e′ c′ p′ j′ l′ v′ m′
         ]
 
   -- a cell written anew
@@ -104,7 +100,7 @@ module _ (s : List ℕ) (st : List ℤ) (o : OfSheet s st) (e : ℕ) (c : Record
   unfolding cellFits
   data-set z n t =
       cell-kept (set st cell z) (length-set st cell z) (λ i m. word-set-other st cell i z (λ q. omega arith)) (λ i m. word-set-other st cell i z (λ q. omega arith))
-      (rw (cellFits, n) (and-true _ _ (ap (inType s kind) (word-set st cell z (omega (arith, cell-in-state))) ∙ t) (zero-from (set st cell z) cell st cell 1 (λ k m q. word-set-other st cell (cell + k) z (λ q. omega arith)) ∙ and-second _ _ (rw (cellFits, n) at (cell-of s st o e c p j l)))))
+      (rw (cellFits, n) (and-true _ _ (ap (inType s kind) (word-set st cell z (omega (arith, cell-in-state))) ∙ t) (zero-from (set st cell z) cell st cell 1 (λ k m q. word-set-other st cell (cell + k) z (λ q. omega arith)) ∙ and-second _ _ (rw (cellFits, n) at (cell-of s st o e c p j l v here)))))
 
 -- ---- telegrams
 
@@ -115,8 +111,7 @@ head-of s st o st′ n e l h = and-true _ _ (ap (λ (z : ℤ). isBelow z 129) e 
 
 -- the cells, where all their words are as they were
 cells-of : (s : List ℕ) (st : List ℤ) → OfSheet s st → (st′ : List ℤ) → ((i : ℕ) → 0 < i → i < placeAt s 0 → wordOf st′ i ≡ wordOf st i) → cellsFit s st′ ≡ true
-unfolding cellAt
-cells-of s st o st′ h = cells-fit s st′ (has-chart s st o) (has-declared s st o) (λ e c p j l. cell-same st′ (cellAt (firstCell s e + j)) st (cellAt (firstCell s e + j)) (λ k m. h (cellAt (firstCell s e + j) + k) (omega arith) (omega (arith, cell-inside s st o e c p j l))) s e _ ∙ cell-of s st o e c p j l)
+cells-of s st o st′ h = cells-fit s st′ (has-chart s st o) (has-declared s st o) (λ e c p j l v m. cell-same st′ (cellOf s e c j v) st (cellOf s e c j v) (λ k b. h (cellOf s e c j v + k) (omega (arith, cell-late s st o e c p j l v m)) (omega (arith, cell-inside s st o e c p j l v m))) s e _ ∙ cell-of s st o e c p j l v m)
 
 pub telegram-kept : (s : List ℕ) (st : List ℤ) → OfSheet s st → (t : Telegram) → waiting st < places → telegramFits s t ≡ true → OfSheet s (withTelegram s st t)
 unfolding placeAt

@@ -13,10 +13,12 @@ use Rattle.sheet.specs.declared.Found.the-variants.{Present, Absent}
 use Rattle.sheet.specs.Names.{declarations, chartVariables}
 use Rattle.sheet.specs.Sheet.{countOf}
 use Rattle.sheet.proofs.All.{and-first, and-second, and-true, all-at}
+use Rattle.sheet.specs.All.{allBelow}
 use Rattle.sheet_rules.specs.Fields.{declaredSo, typeAt, externalsOf, elementsOf}
-use Rattle.machine.specs.Values.{isBelow, isZero, chartOf, firstCell}
-use Rattle.machine.specs.State.{places, cellAt, placeAt, stateLength, wordOf, waiting, counted, telegramOf}
-use Rattle.machine.specs.Valid.{zeroWords, cellFits, elementFits, telegramFits, headFits, cellsFit, waitingFit, unusedZero, contentFits, OfSheet}
+use Rattle.sheet_rules.specs.Indices.{cellsTaken}
+use Rattle.machine.specs.Values.{isBelow, isZero, chartOf}
+use Rattle.machine.specs.State.{places, cellOf, placeAt, stateLength, wordOf, waiting, counted, telegramOf}
+use Rattle.machine.specs.Valid.{zeroWords, cellFits, variableFits, elementFits, telegramFits, headFits, cellsFit, waitingFit, unusedZero, contentFits, OfSheet}
 use Rattle.sheet_rules.proofs.Fields.{holds-present, holds-absent}
 use Rattle.machine_passed.proofs.Declared.{declared-so, declared-below, declared-true}
 use Rattle.machine_states.proofs.Frame.{all-true}
@@ -73,19 +75,19 @@ module _ (s : List ℕ) (st : List ℤ) (o : OfSheet s st) where
   unfolding elementFits
   has-chart i l q = true≢false (sym (element-fits i l) ∙ holds-absent (chartOf s (externalsOf s + i)) _ q)
 
-  variable-of : (e : ℕ) (c : Record) → chartOf s e ≡ Present c → (j : ℕ) → j < chartVariables c .count → declaredSo s (chartVariables c .first + j) (λ t. cellFits s e t st (cellAt (firstCell s e + j))) ≡ true
-  unfolding elementFits
+  variable-of : (e : ℕ) (c : Record) → chartOf s e ≡ Present c → (j : ℕ) → j < chartVariables c .count → declaredSo s (chartVariables c .first + j) (λ t. allBelow (cellsTaken s (chartVariables c .first + j)) (λ k. cellFits s e t st (cellOf s e c j k))) ≡ true
+  unfolding elementFits variableFits
   variable-of e c p j l =
       let same : externalsOf s + (e - externalsOf s) ≡ e = omega (arith, element-from s e c p) in
       let fits : elementFits s st e ≡ true = rw same at (element-fits (e - externalsOf s) (element-number s e c p)) in
       all-at (chartVariables c .count) _ (sym (holds-present (chartOf s e) c _ p) ∙ fits) j l
 
-  pub cell-of : (e : ℕ) (c : Record) → chartOf s e ≡ Present c → (j : ℕ) → j < chartVariables c .count → cellFits s e (typeAt s (chartVariables c .first + j)) st (cellAt (firstCell s e + j)) ≡ true
-  cell-of e c p j l = declared-true s _ (λ t. cellFits s e t st (cellAt (firstCell s e + j))) (variable-of e c p j l)
+  pub cell-of : (e : ℕ) (c : Record) → chartOf s e ≡ Present c → (j : ℕ) → j < chartVariables c .count → (k : ℕ) → k < cellsTaken s (chartVariables c .first + j) → cellFits s e (typeAt s (chartVariables c .first + j)) st (cellOf s e c j k) ≡ true
+  cell-of e c p j l k m = all-at _ _ (declared-true s _ (λ t. allBelow (cellsTaken s (chartVariables c .first + j)) (λ k. cellFits s e t st (cellOf s e c j k))) (variable-of e c p j l)) k m
 
   -- it is declared
   pub has-declared : (e : ℕ) (c : Record) → chartOf s e ≡ Present c → (j : ℕ) → j < chartVariables c .count → chartVariables c .first + j < countOf s declarations
-  has-declared e c p j l = declared-below s _ (λ t. cellFits s e t st (cellAt (firstCell s e + j))) (variable-of e c p j l)
+  has-declared e c p j l = declared-below s _ (λ t. allBelow (cellsTaken s (chartVariables c .first + j)) (λ k. cellFits s e t st (cellOf s e c j k))) (variable-of e c p j l)
 
   pub telegram-of : (j : ℕ) → j < waiting st → telegramFits s (telegramOf s st j) ≡ true
   unfolding waitingFit
@@ -98,12 +100,12 @@ module _ (s : List ℕ) (st : List ℤ) (o : OfSheet s st) where
 -- ---- what is enough
 
 module _ (s : List ℕ) (st : List ℤ) where
-  pub cells-fit : ((i : ℕ) → i < elementsOf s → chartOf s (externalsOf s + i) ≡ Absent → ⊥) → ((e : ℕ) (c : Record) → chartOf s e ≡ Present c → (j : ℕ) → j < chartVariables c .count → chartVariables c .first + j < countOf s declarations) → ((e : ℕ) (c : Record) → chartOf s e ≡ Present c → (j : ℕ) → j < chartVariables c .count → cellFits s e (typeAt s (chartVariables c .first + j)) st (cellAt (firstCell s e + j)) ≡ true) → cellsFit s st ≡ true
-  unfolding cellsFit elementFits
+  pub cells-fit : ((i : ℕ) → i < elementsOf s → chartOf s (externalsOf s + i) ≡ Absent → ⊥) → ((e : ℕ) (c : Record) → chartOf s e ≡ Present c → (j : ℕ) → j < chartVariables c .count → chartVariables c .first + j < countOf s declarations) → ((e : ℕ) (c : Record) → chartOf s e ≡ Present c → (j : ℕ) → j < chartVariables c .count → (k : ℕ) → k < cellsTaken s (chartVariables c .first + j) → cellFits s e (typeAt s (chartVariables c .first + j)) st (cellOf s e c j k) ≡ true) → cellsFit s st ≡ true
+  unfolding cellsFit elementFits variableFits
   cells-fit some declared fits = all-true (elementsOf s) _ (λ i l. go i l (chartOf s (externalsOf s + i)) refl)
     where
       go : (i : ℕ) → i < elementsOf s → (f : Found) → chartOf s (externalsOf s + i) ≡ f → elementFits s st (externalsOf s + i) ≡ true
-      go i l (Present c) p = holds-present (chartOf s (externalsOf s + i)) c _ p ∙ all-true (chartVariables c .count) _ (λ j m. declared-so s _ _ (declared (externalsOf s + i) c p j m) ∙ fits (externalsOf s + i) c p j m)
+      go i l (Present c) p = holds-present (chartOf s (externalsOf s + i)) c _ p ∙ all-true (chartVariables c .count) _ (λ j m. declared-so s _ _ (declared (externalsOf s + i) c p j m) ∙ all-true _ _ (fits (externalsOf s + i) c p j m))
       go i l Absent p = absurd (some i l p)
 
   pub telegrams-fit : (n : ℕ) → waiting st ≡ n → ((j : ℕ) → j < n → telegramFits s (telegramOf s st j) ≡ true) → waitingFit s st ≡ true

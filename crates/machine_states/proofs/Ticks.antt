@@ -19,15 +19,17 @@ use Rattle.machine.proofs.Appending.{appending}
 use Rattle.sheet_rules.specs.declared.Checked.the-variants.{Passed}
 use Rattle.machine.specs.declared.Telegram.{Telegram}
 use Rattle.sheet_rules.specs.Fields.{typeAt, externalsOf, elementsOf}
+use Rattle.sheet_rules.specs.Indices.{cellsTaken, cellsBefore}
 use Rattle.machine.specs.Values.{isBelow, isZero, chartOf, firstCell, sameWord}
-use Rattle.machine.specs.State.{places, cellAt, placeAt, wordOf, waiting, putWords, withTelegram, Changed, on, off, lost, appended}
+use Rattle.machine.specs.State.{places, cellAt, cellOf, placeAt, wordOf, waiting, putWords, withTelegram, Changed, on, off, lost, appended}
 use Rattle.machine.specs.Valid.{OfSheet}
-use Rattle.machine.specs.Play.{thenSlice, fires, ticks, slicedCell, slicedVariable, slicedCells, slicedElement, slicedFrom, clockTelegram}
+use Rattle.machine.specs.Play.{thenSlice, fires, ticks, slicedCell, slicedEach, slicedVariable, slicedCells, slicedElement, slicedFrom, clockTelegram}
 use Rattle.sheet_rules.specs.Check.{checkOf}
 use Rattle.machine_passed.proofs.Charts.{element-chart, number-bound, bound-element}
 use Rattle.machine_passed.proofs.Declared.{declared-record, element-declared}
 use Rattle.machine_states.proofs.Words.{with-before}
 use Rattle.machine_states.proofs.Parts.{is-counted}
+use Rattle.machine_states.proofs.Elements.{cells-none, cells-next}
 use Rattle.machine_states.proofs.Kept.{cell-inside, cell-put, telegram-kept, ChangeKept}
 use Rattle.machine_states.proofs.Running.{is-running, value-set, put-again}
 use Rattle.machine_states.proofs.Clocks.{timer-value, timer-int, timeout-value, cycler-value, cycler-again, timer-fits, timeout-fits, cycler-fits, value-int, period-int, timer-runs, timeout-runs, cycler-runs, clock-named, clock-telegram, stopped-fits}
@@ -44,14 +46,14 @@ unfolding fires
 fires-named s e at ws st h = rw (fires, h) refl
 
 -- a variable that is declared
-pub sliced-variable : (s : List ℕ) (e d at : ℕ) (st : List ℤ) → d < countOf s declarations → slicedVariable s e d at st ≡ slicedCell s e (typeAt s d) at st
+pub sliced-variable : (s : List ℕ) (e d i : ℕ) (st : List ℤ) → d < countOf s declarations → slicedVariable s e d i st ≡ slicedEach s e (typeAt s d) (cellsTaken s d) i st
 unfolding slicedVariable
-sliced-variable s e d at st l = let r = declared-record s d l in rw (slicedVariable, r .1) (ap (λ (t : ℕ). slicedCell s e t at st) (r .2))
+sliced-variable s e d i st l = let r = declared-record s d l in rw (slicedVariable, r .1) (ap (λ (t : ℕ). slicedEach s e t (cellsTaken s d) i st) (r .2))
 
--- a running clock in the cell of variable j of element e
-module _ (s : List ℕ) (st : List ℤ) (o : OfSheet s st) (e : ℕ) (c : Record) (p : chartOf s e ≡ Present c) (j : ℕ) (l : j < chartVariables c .count) where
+-- a running clock in cell v of variable j of element e
+module _ (s : List ℕ) (st : List ℤ) (o : OfSheet s st) (e : ℕ) (c : Record) (p : chartOf s e ≡ Present c) (j : ℕ) (l : j < chartVariables c .count) (v : ℕ) (here : v < cellsTaken s (chartVariables c .first + j)) where
   abbrev cell : ℕ
-  cell = cellAt (firstCell s e + j)
+  cell = cellOf s e c j v
 
   abbrev kind : ℕ
   kind = typeAt s (chartVariables c .first + j)
@@ -65,24 +67,24 @@ module _ (s : List ℕ) (st : List ℤ) (o : OfSheet s st) (e : ℕ) (c : Record
       fires-kept : (ws : List ℤ) → (waiting st < places → OfSheet s (withTelegram s st own) → OfSheet s (putWords (withTelegram s st own) cell ws)) → ChangeKept s (fires s e cell ws st)
       unfolding thenSlice
       fires-kept ws h =
-          let running = is-running s st o e c p j l clock runs in
+          let running = is-running s st o e c p j l v here clock runs in
           rw (fires-named s e cell ws st (clock-named s e kind st cell running named))
           (appending s st own (is-counted s st o) (λ r. ChangeKept s (thenSlice r (λ st′. on (putWords st′ cell ws)))) (λ room. h room (telegram-kept s st o own room (clock-telegram s e kind c st cell p running named))) (omega arith, omega arith))
 
       -- the telegram lies behind the cells
       cell-word : waiting st < places → (k : ℕ) → k < 8 → wordOf (withTelegram s st own) (cell + k) ≡ wordOf st (cell + k)
-      unfolding placeAt cellAt
-      cell-word room k m = with-before s st own (o .whole) room (cell + k) (omega arith) (omega (arith, cell-inside s st o e c p j l))
+      unfolding placeAt cellOf cellAt
+      cell-word room k m = with-before s st own (o .whole) room (cell + k) (omega arith) (omega (arith, cell-inside s st o e c p j l v here))
 
       stop-kept : ChangeKept s (fires s e cell (replicate 8 (pos 0)) st)
-      stop-kept = fires-kept (replicate 8 (pos 0)) (λ room o₁. cell-put s (withTelegram s st own) o₁ e c p j l (replicate 8 (pos 0)) refl (stopped-fits s e kind clock))
+      stop-kept = fires-kept (replicate 8 (pos 0)) (λ room o₁. cell-put s (withTelegram s st own) o₁ e c p j l v here (replicate 8 (pos 0)) refl (stopped-fits s e kind clock))
 
       again-kept : eqb kind Timeout-type ≡ false → ChangeKept s (fires s e cell (pos 1 ∷ (wordOf st (cell + 2) -ℤ pos 1) ∷ []) st)
       again-kept q = fires-kept (pos 1 ∷ (wordOf st (cell + 2) -ℤ pos 1) ∷ []) (λ room o₁.
           let f : cell + 0 ≡ cell = omega arith in
           let first : wordOf (withTelegram s st own) cell ≡ wordOf st cell = (rw f at (cell-word room 0 (omega arith))) in
-          put-again s (withTelegram s st own) o₁ e c p j l clock (ap isZero first ∙ runs) (wordOf st (cell + 2)) (cell-word room 2 (omega arith))
-          (cycler-fits kind _ _ (period-int s e kind st cell (is-running s st o e c p j l clock runs)) named q (cycler-again (wordOf st (cell + 1)) (wordOf st (cell + 2)) (cycler-runs s e kind st cell (is-running s st o e c p j l clock runs) named q))))
+          put-again s (withTelegram s st own) o₁ e c p j l v here clock (ap isZero first ∙ runs) (wordOf st (cell + 2)) (cell-word room 2 (omega arith))
+          (cycler-fits kind _ _ (period-int s e kind st cell (is-running s st o e c p j l v here clock runs)) named q (cycler-again (wordOf st (cell + 1)) (wordOf st (cell + 2)) (cycler-runs s e kind st cell (is-running s st o e c p j l v here clock runs) named q))))
 
     tick-timer : eqb kind Timer-type ≡ true → ChangeKept s (ticks s e kind cell st)
     unfolding ticks
@@ -92,10 +94,10 @@ module _ (s : List ℕ) (st : List ℤ) (o : OfSheet s st) (e : ℕ) (c : Record
         go true q = let f : ticks s e kind cell st ≡ off 6 = rw (ticks, a, q) refl in rw f (omega arith, omega arith)
         go false q =
             let f : ticks s e kind cell st ≡ on (set st (cell + 1) (wordOf st (cell + 1) +ℤ pos 1)) = rw (ticks, a, q) refl in
-            let running = is-running s st o e c p j l clock runs in
+            let running = is-running s st o e c p j l v here clock runs in
             let w : ℤ = wordOf st (cell + 1) in
             let from : leZ (pos 0) w ≡ true = timer-runs s e kind st cell running a in
-            rw f (value-set s st o e c p j l clock runs _ (timer-fits kind _ _ (period-int s e kind st cell running) a (timer-int w (value-int s e kind st cell running) from q) (timer-value w from)))
+            rw f (value-set s st o e c p j l v here clock runs _ (timer-fits kind _ _ (period-int s e kind st cell running) a (timer-int w (value-int s e kind st cell running) from q) (timer-value w from)))
 
     tick-timeout : eqb kind Timer-type ≡ false → eqb kind Timeout-type ≡ true → ChangeKept s (ticks s e kind cell st)
     unfolding ticks
@@ -105,7 +107,7 @@ module _ (s : List ℕ) (st : List ℤ) (o : OfSheet s st) (e : ℕ) (c : Record
         go true q = let f : ticks s e kind cell st ≡ fires s e cell (replicate 8 (pos 0)) st = rw (ticks, a, b, q) refl in rw f (stop-kept a)
         go false q =
             let f : ticks s e kind cell st ≡ on (set st (cell + 1) (wordOf st (cell + 1) -ℤ pos 1)) = rw (ticks, a, b, q) refl in
-            rw f (value-set s st o e c p j l clock runs _ (timeout-fits kind _ _ (period-int s e kind st cell (is-running s st o e c p j l clock runs)) a b (timeout-value (wordOf st (cell + 1)) (wordOf st (cell + 2)) (timeout-runs s e kind st cell (is-running s st o e c p j l clock runs) a b) q)))
+            rw f (value-set s st o e c p j l v here clock runs _ (timeout-fits kind _ _ (period-int s e kind st cell (is-running s st o e c p j l v here clock runs)) a b (timeout-value (wordOf st (cell + 1)) (wordOf st (cell + 2)) (timeout-runs s e kind st cell (is-running s st o e c p j l v here clock runs) a b) q)))
 
     tick-cycler : eqb kind Timer-type ≡ false → eqb kind Timeout-type ≡ false → ChangeKept s (ticks s e kind cell st)
     unfolding ticks
@@ -115,7 +117,7 @@ module _ (s : List ℕ) (st : List ℤ) (o : OfSheet s st) (e : ℕ) (c : Record
         go true q = let f : ticks s e kind cell st ≡ fires s e cell (pos 1 ∷ (wordOf st (cell + 2) -ℤ pos 1) ∷ []) st = rw (ticks, a, b, q) refl in rw f (again-kept a b)
         go false q =
             let f : ticks s e kind cell st ≡ on (set st (cell + 1) (wordOf st (cell + 1) -ℤ pos 1)) = rw (ticks, a, b, q) refl in
-            rw f (value-set s st o e c p j l clock runs _ (cycler-fits kind _ _ (period-int s e kind st cell (is-running s st o e c p j l clock runs)) a b (cycler-value (wordOf st (cell + 1)) (wordOf st (cell + 2)) (cycler-runs s e kind st cell (is-running s st o e c p j l clock runs) a b) q)))
+            rw f (value-set s st o e c p j l v here clock runs _ (cycler-fits kind _ _ (period-int s e kind st cell (is-running s st o e c p j l v here clock runs)) a b (cycler-value (wordOf st (cell + 1)) (wordOf st (cell + 2)) (cycler-runs s e kind st cell (is-running s st o e c p j l v here clock runs) a b) q)))
 
     tick-kept : ChangeKept s (ticks s e kind cell st)
     tick-kept = go (eqb kind Timer-type) (eqb kind Timeout-type) refl refl
@@ -137,13 +139,23 @@ module _ (s : List ℕ) (st : List ℤ) (o : OfSheet s st) (e : ℕ) (c : Record
 -- ---- cells, elements, all
 
 module _ (s : List ℕ) (ok : checkOf s ≡ Passed) where
-  cells-sliced : (e : ℕ) (c : Record) → chartOf s e ≡ Present c → ((j : ℕ) → j < chartVariables c .count → chartVariables c .first + j < countOf s declarations) → (n j : ℕ) → j + n ≤ chartVariables c .count → (st : List ℤ) → OfSheet s st → ChangeKept s (slicedCells s e n (chartVariables c .first + j) (firstCell s e + j) st)
+  -- n cells of variable j from number v on
+  each-sliced : (e : ℕ) (c : Record) → chartOf s e ≡ Present c → (j : ℕ) → j < chartVariables c .count → (n v : ℕ) → v + n ≤ cellsTaken s (chartVariables c .first + j) → (st : List ℤ) → OfSheet s st → ChangeKept s (slicedEach s e (typeAt s (chartVariables c .first + j)) n (firstCell s e + cellsBefore s c j + v) st)
+  unfolding slicedEach cellOf
+  each-sliced e c p j l zero v b st o = o
+  each-sliced e c p j l (suc n) v b st o =
+      then-kept s _ _ (cell-sliced s st o e c p j l v (omega arith)) (λ st′ o′.
+      let i : suc (firstCell s e + cellsBefore s c j + v) ≡ firstCell s e + cellsBefore s c j + suc v = omega arith in
+      rw i (each-sliced e c p j l n (suc v) (omega arith) st′ o′))
+
+  cells-sliced : (e : ℕ) (c : Record) → chartOf s e ≡ Present c → ((j : ℕ) → j < chartVariables c .count → chartVariables c .first + j < countOf s declarations) → (n j : ℕ) → j + n ≤ chartVariables c .count → (st : List ℤ) → OfSheet s st → ChangeKept s (slicedCells s e n (chartVariables c .first + j) (firstCell s e + cellsBefore s c j) st)
   unfolding slicedCells
   cells-sliced e c p d zero j l st o = o
   cells-sliced e c p d (suc n) j l st o =
-      then-kept s _ _ (rw (sliced-variable s e (chartVariables c .first + j) (cellAt (firstCell s e + j)) st (d j (omega arith))) (cell-sliced s st o e c p j (omega arith))) (λ st′ o′.
+      let z : firstCell s e + cellsBefore s c j + 0 ≡ firstCell s e + cellsBefore s c j = omega arith in
+      then-kept s _ _ (rw (sliced-variable s e (chartVariables c .first + j) (firstCell s e + cellsBefore s c j) st (d j (omega arith))) (rw z at (each-sliced e c p j (omega arith) (cellsTaken s (chartVariables c .first + j)) 0 (omega arith) st o))) (λ st′ o′.
       let f : suc (chartVariables c .first + j) ≡ chartVariables c .first + suc j = omega arith in
-      let i : suc (firstCell s e + j) ≡ firstCell s e + suc j = omega arith in
+      let i : firstCell s e + cellsBefore s c j + cellsTaken s (chartVariables c .first + j) ≡ firstCell s e + cellsBefore s c (suc j) = omega (arith, cells-next s c j) in
       rw (f, i) (cells-sliced e c p d n (suc j) (omega arith) st′ o′))
 
   element-sliced : (i : ℕ) → i < elementsOf s → (st : List ℤ) → OfSheet s st → ChangeKept s (slicedElement s (externalsOf s + i) st)
@@ -155,7 +167,7 @@ module _ (s : List ℕ) (ok : checkOf s ≡ Passed) where
       let p = element-chart s e (x .0) c (x .2) in
       let f : slicedElement s e st ≡ slicedCells s e (chartVariables c .count) (chartVariables c .first) (firstCell s e) st = rw (slicedElement, p) refl in
       let d : chartVariables c .first + 0 ≡ chartVariables c .first = omega arith in
-      let k : firstCell s e + 0 ≡ firstCell s e = omega arith in
+      let k : firstCell s e + cellsBefore s c 0 ≡ firstCell s e = omega (arith, cells-none s c) in
       rw f (rw (d, k) at (cells-sliced e c p (element-declared s ok e c p) (chartVariables c .count) 0 (omega arith) st o))
 
   elements-sliced : (n i : ℕ) → i + n ≤ elementsOf s → (st : List ℤ) → OfSheet s st → ChangeKept s (slicedFrom s n (externalsOf s + i) st)

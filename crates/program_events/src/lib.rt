@@ -5,6 +5,7 @@ ghost use Prim.Native.Nat.{_+_, _*_, _<_, _≤_};
 ghost use mathlib.Core.Path.{_≡_};
 ghost use lib.ListN.{length};
 ghost use Rattle.machine_events.specs.Playing.{Playing};
+ghost use Rattle.engine_cells.specs.Cells.{CellTable};
 
 // Lists `count` answers of ten words each, before which `done` were listed, and writes them out.
 fn list_events(answers: &[i32], count: usize, done: u64, out: &mut [u8])
@@ -34,6 +35,7 @@ fn list_events(answers: &[i32], count: usize, done: u64, out: &mut [u8])
 fn round(
     sheet: &[u8],
     directory: &[usize; 16],
+    cells: &[usize; 2112],
     st: &mut [i32],
     spare: &mut [i32],
     events: &[u8],
@@ -43,13 +45,21 @@ fn round(
     done: u64,
     out: &mut [u8],
 )
-    requires { ⌜ Playing (now sheet) (now directory) (now st) × (length (now spare) ≡ length (now st)) × (36 * count ≤ length (now events)) × (count ≤ 1000) × (length (now words) ≡ 9000) × (length (now answers) ≡ 10000) × (done + count < 18446744073709551616) × (length (now out) ≡ 32768) ⌝ }
+    requires { ⌜ Playing (now sheet) (now directory) (now st) × (length (now spare) ≡ length (now st)) × (36 * count ≤ length (now events)) × (count ≤ 1000) × (length (now words) ≡ 9000) × (length (now answers) ≡ 10000) × (done + count < 18446744073709551616) × (length (now out) ≡ 32768) × CellTable (now sheet) (now cells) ⌝ }
     ensures { λ _. ⌜ Playing (now (sheet .entry)) (now (directory .entry)) (now (st .exit)) ⌝ }
 {
     let n = 9 * count;
     let m = 10 * count;
     engine_words::words(events, 0, &mut words[..n]);
-    engine_lists::play_on(sheet, directory, &words[..n], st, spare, &mut answers[..m]);
+    engine_lists::play_on(
+        sheet,
+        directory,
+        cells,
+        &words[..n],
+        st,
+        spare,
+        &mut answers[..m],
+    );
     list_events(answers, count, done, out);
 }
 
@@ -59,11 +69,12 @@ pub fn play_events(
     fd: i32,
     sheet: &[u8],
     directory: &[usize; 16],
+    cells: &[usize; 2112],
     st: &mut [i32],
     spare: &mut [i32],
     most: u64,
 )
-    requires { ⌜ Playing (now sheet) (now directory) (now st) × (length (now spare) ≡ length (now st)) ⌝ }
+    requires { ⌜ Playing (now sheet) (now directory) (now st) × (length (now spare) ≡ length (now st)) × CellTable (now sheet) (now cells) ⌝ }
 {
     let mut events = [0u8; 36000];
     let mut words = [0i32; 9000];
@@ -80,6 +91,7 @@ pub fn play_events(
         round(
             sheet,
             directory,
+            cells,
             st,
             spare,
             &events,

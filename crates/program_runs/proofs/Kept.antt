@@ -12,7 +12,7 @@ use Rattle.machine.specs.State.{placeAt, stateLength}
 use Rattle.sheet_rules.specs.Check.{checkOf}
 use Rattle.machine.specs.Play.{answer}
 use Rattle.machine.specs.Lists.{StartGives}
-use Rattle.machine_passed.proofs.Records.{variables-limit}
+use Rattle.machine_passed.proofs.Records.{cells-limit}
 use Rattle.machine_events.proofs.Laws.{start-shape, start-static, start-is}
 use Rattle.program_runs.specs.Start.{StartAnswers}
 
@@ -32,4 +32,4 @@ module _ (s : List ℕ) where
 
 pub room : (s : List ℕ) → checkOf s ≡ Passed → stateLength s ≤ 5128
 unfolding stateLength placeAt
-room s ok = omega (arith, variables-limit s ok)
+room s ok = omega (arith, cells-limit s ok)

@@ -7,6 +7,7 @@ ghost use Rattle.sheet.specs.Sheet.{directoryOf};
 ghost use Rattle.sheet_rules.specs.declared.Checked.the-variants.{Passed};
 ghost use Rattle.machine.specs.State.{stateLength};
 ghost use Rattle.sheet_rules.specs.Check.{checkOf};
+ghost use Rattle.engine_cells.specs.Cells.{CellTable};
 ghost use Rattle.program_runs.specs.Start.{StartAnswers};
 
 fn print_start(number: u8, steps: u32) {
@@ -19,30 +20,41 @@ fn play_states(
     fd: i32,
     sheet: &[u8],
     directory: &[usize; 16],
+    cells: &[usize; 2112],
     st: &mut [i32],
     spare: &mut [i32],
     most: u64,
 ) -> u8
-    requires { ⌜ (now directory ≡ directoryOf (now sheet)) × (checkOf (now sheet) ≡ Passed) × (length (now st) ≡ stateLength (now sheet)) × (length (now spare) ≡ length (now st)) ⌝ }
+    requires { ⌜ (now directory ≡ directoryOf (now sheet)) × (checkOf (now sheet) ≡ Passed) × (length (now st) ≡ stateLength (now sheet)) × (length (now spare) ≡ length (now st)) × CellTable (now sheet) (now cells) ⌝ }
     ensures { λ r. ⌜ StartAnswers (now (sheet .entry)) r ⌝ }
 {
-    let a = engine::begin(sheet, directory, st);
+    let a = engine::begin(sheet, directory, cells, st);
     print_start(a.number, a.steps);
     if a.number == 0 {
-        program_events::play_events(fd, sheet, directory, st, spare, most);
+        program_events::play_events(fd, sheet, directory, cells, st, spare, most);
     }
     a.number
 }
 
-// A state has at most 512 variables of eight words, and 1,032 words besides.
+// A state has at most 512 cells of eight words, and 1,032 words besides.
 fn play_passed(fd: i32, sheet: &[u8], directory: &[usize; 16], most: u64) -> u8
     requires { ⌜ (now directory ≡ directoryOf (now sheet)) × (checkOf (now sheet) ≡ Passed) ⌝ }
     ensures { λ r. ⌜ StartAnswers (now (sheet .entry)) r ⌝ }
 {
     let mut st = [0i32; 5128];
     let mut spare = [0i32; 5128];
-    let n = engine_valid_state::state_length(sheet, directory);
-    play_states(fd, sheet, directory, &mut st[..n], &mut spare[..n], most)
+    let mut cells = [0usize; 2112];
+    let count = engine_cells::fill(sheet, directory, &mut cells);
+    let n = engine_valid_state::state_length(count);
+    play_states(
+        fd,
+        sheet,
+        directory,
+        &cells,
+        &mut st[..n],
+        &mut spare[..n],
+        most,
+    )
 }
 
 // Plays a sheet with at most `most` events from a descriptor, and gives start's answer: after one

@@ -59,6 +59,9 @@ defaultMember r = r .f1
 abbrev pub declaredType : Record → ℕ
 declaredType r = r .f0
 
+abbrev pub declaredIndex : Record → ℕ
+declaredIndex r = r .f1
+
 -- ---- a range of records: its first one and how many
 
 abbrev pub range : ℕ → ℕ → Range

@@ -1,32 +1,53 @@
-// The bound elements: how many variables each has, and all together.
+// The bound elements: how many cells the variables of each take, and all together.
 use sheet::Found;
+use sheet::Record;
 ghost use mathlib.Core.Path.{_≡_};
-ghost use Prim.Native.Nat.{_<_};
+ghost use Prim.Native.Nat.{_*_, _<_};
 ghost use Rattle.sheet.specs.Sheet.{directoryOf};
-ghost use Rattle.sheet_rules.specs.Shape.{variablesBound, variablesOf};
+ghost use Rattle.sheet_rules.specs.Indices.{cellsBefore};
+ghost use Rattle.sheet_rules.specs.Shape.{cellsBound, cellsOf};
 
-// How many variables the element of a binding has.
-pub fn variables_bound(sheet: &[u8], directory: &[usize; 16], i: usize) -> usize
+// How many cells the first n variables of chart c take.
+pub fn cells_before(sheet: &[u8], directory: &[usize; 16], c: Record, n: u16) -> usize
     requires { ⌜ now directory ≡ directoryOf (now sheet) ⌝ }
-    ensures { λ n. ⌜ (n ≡ variablesBound (now (sheet .entry)) i) × (n < 65536) ⌝ }
+    ensures { λ x. ⌜ (x ≡ cellsBefore (now (sheet .entry)) c n) × (x < 65536 * 65536) ⌝ }
+{
+    let first = c.f2 as usize;
+    let count = n as usize;
+    let mut sum: usize = 0;
+    let mut j: usize = 0;
+    while j < count {
+        sum += sheet_indices::cells_taken(sheet, directory, first + j);
+        j += 1;
+    }
+    sum
+}
+
+// How many cells the element of a binding has.
+pub fn cells_bound(sheet: &[u8], directory: &[usize; 16], i: usize) -> usize
+    requires { ⌜ now directory ≡ directoryOf (now sheet) ⌝ }
+    ensures { λ n. ⌜ (n ≡ cellsBound (now (sheet .entry)) i) × (n < 65536 * 65536) ⌝ }
 {
     let Found::Present(b) = sheet_reader::read(sheet, directory, 7, i) else {
         return 0;
     };
-    sheet_fields::field_at(sheet, directory, 4, b.f0 as usize, 3)
+    let Found::Present(c) = sheet_reader::read(sheet, directory, 4, b.f0 as usize) else {
+        return 0;
+    };
+    cells_before(sheet, directory, c, c.f3)
 }
 
-// How many variables the bound elements have together.
-pub fn variables(sheet: &[u8], directory: &[usize; 16]) -> usize
+// How many cells the bound elements have together.
+pub fn cells(sheet: &[u8], directory: &[usize; 16]) -> usize
     requires { ⌜ now directory ≡ directoryOf (now sheet) ⌝ }
-    ensures { λ n. ⌜ n ≡ variablesOf (now (sheet .entry)) ⌝ }
+    ensures { λ n. ⌜ n ≡ cellsOf (now (sheet .entry)) ⌝ }
 {
     let components = sheet_fields::field_at(sheet, directory, 0, 0, 0);
     let externals = sheet_fields::field_at(sheet, directory, 0, 0, 1);
     let mut sum: usize = 0;
     let mut i: usize = 0;
     while externals + i < components {
-        sum += variables_bound(sheet, directory, i);
+        sum += cells_bound(sheet, directory, i);
         i += 1;
     }
     sum

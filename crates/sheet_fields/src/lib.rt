@@ -102,6 +102,11 @@ pub fn operands(sheet: &[u8], directory: &[usize; 16], c: Record, r: Record) -> 
             count: 2,
             tail: 0,
         },
+        19 => Operands {
+            first: 2,
+            count: 1,
+            tail: 0,
+        },
         33 => Operands {
             first: 3,
             count: 1,
@@ -146,6 +151,11 @@ pub fn operands(sheet: &[u8], directory: &[usize; 16], c: Record, r: Record) -> 
         },
         42..=43 => Operands {
             first: 1,
+            count: 2,
+            tail: 0,
+        },
+        44 => Operands {
+            first: 2,
             count: 2,
             tail: 0,
         },

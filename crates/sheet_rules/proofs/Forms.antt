@@ -9,7 +9,7 @@ use lib.ListN.{drop}
 use lib.Dec.{T}
 use Rattle.sheet.specs.Table.{Line, lookUp}
 use Rattle.sheet.proofs.Table.{beyond, linesBelow, lines-past, line-at, allMeet, all-meet}
-use Rattle.sheet_rules.specs.Forms.{Form, literal, read, unary, binary, clock, skip, assign, externalSend, internalSend, arm, clockAct, call, choice, loop, sequence, unknown, formTable, formOf, literalTable, self, literalOf, Binary, both, equal, less, plus, minus, times, div, modulo, binaryTable, binaryOf}
+use Rattle.sheet_rules.specs.Forms.{Form, literal, read, unary, binary, clock, readElement, skip, assign, externalSend, internalSend, arm, clockAct, call, choice, loop, sequence, assignElement, unknown, formTable, formOf, literalTable, self, literalOf, Binary, both, equal, less, plus, minus, times, div, modulo, binaryTable, binaryOf}
 
 -- an operator from m on, below the bound of the line that follows the first k
 form-at : (k m op : ℕ) (l : Line Form) (ls : List (Line Form)) → drop k formTable ≡ l ∷ ls → T (linesBelow k formTable m) → m ≤ op → op < l .below → formOf op ≡ l .means
@@ -27,20 +27,20 @@ module _ (op : ℕ) where
   form-clock h l = form-at 5 17 op _ _ refl tt h (omega arith)
 
   pub form-arm : 36 ≤ op → op ≤ 37 → formOf op ≡ arm
-  form-arm h l = form-at 11 36 op _ _ refl tt h (omega arith)
+  form-arm h l = form-at 12 36 op _ _ refl tt h (omega arith)
 
   pub form-clockAct : 38 ≤ op → op ≤ 39 → formOf op ≡ clockAct
-  form-clockAct h l = form-at 12 38 op _ _ refl tt h (omega arith)
+  form-clockAct h l = form-at 13 38 op _ _ refl tt h (omega arith)
 
-  pub form-unknown : (1 ≤ op → op ≤ 18 → ⊥) → (32 ≤ op → op ≤ 43 → ⊥) → formOf op ≡ unknown
+  pub form-unknown : (1 ≤ op → op ≤ 19 → ⊥) → (32 ≤ op → op ≤ 44 → ⊥) → formOf op ≡ unknown
   unfolding formOf lookUp
   form-unknown u v = elim (decLt op 1) [
     | yes l ↦ form-at 0 0 op _ _ refl tt (omega arith) l
-    | no g ↦ elim (decLt op 19) [
+    | no g ↦ elim (decLt op 20) [
       | yes l ↦ absurd (u (omega arith) (omega arith))
       | no h ↦ elim (decLt op 32) [
-        | yes l ↦ form-at 6 19 op _ _ refl tt (omega arith) l
-        | no k ↦ elim (decLt op 44) [ yes l ↦ absurd (v (omega arith) (omega arith)) | no m ↦ lines-past unknown 17 formTable 44 op tt (omega arith) ]
+        | yes l ↦ form-at 7 20 op _ _ refl tt (omega arith) l
+        | no k ↦ elim (decLt op 45) [ yes l ↦ absurd (v (omega arith) (omega arith)) | no m ↦ lines-past unknown 19 formTable 45 op tt (omega arith) ]
       ]
     ]
   ]
@@ -51,6 +51,7 @@ isExpressionForm read = true
 isExpressionForm unary = true
 isExpressionForm binary = true
 isExpressionForm clock = true
+isExpressionForm readElement = true
 isExpressionForm skip = false
 isExpressionForm assign = false
 isExpressionForm externalSend = false
@@ -61,16 +62,17 @@ isExpressionForm call = false
 isExpressionForm choice = false
 isExpressionForm loop = false
 isExpressionForm sequence = false
+isExpressionForm assignElement = false
 isExpressionForm unknown = false
 
--- only operators 1 to 18 are expressions
-pub form-expression : (op : ℕ) → (1 ≤ op → op ≤ 18 → ⊥) → isExpressionForm (formOf op) ≡ false
+-- only operators 1 to 19 are expressions
+pub form-expression : (op : ℕ) → (1 ≤ op → op ≤ 19 → ⊥) → isExpressionForm (formOf op) ≡ false
 unfolding formOf allMeet
 form-expression op n = elim (decLt op 1) [
   | yes l ↦ ap isExpressionForm (form-at 0 0 op _ _ refl tt (omega arith) l)
-  | no g ↦ elim (decLt op 19) [
+  | no g ↦ elim (decLt op 20) [
     | yes l ↦ absurd (n (omega arith) (omega arith))
-    | no h ↦ ap isExpressionForm (lines-past unknown 6 formTable 19 op tt (omega arith)) ∙ no-T _ (all-meet unknown (λ f. not (isExpressionForm f)) (drop 6 formTable) op tt)
+    | no h ↦ ap isExpressionForm (lines-past unknown 7 formTable 20 op tt (omega arith)) ∙ no-T _ (all-meet unknown (λ f. not (isExpressionForm f)) (drop 7 formTable) op tt)
   ]
 ]
   where

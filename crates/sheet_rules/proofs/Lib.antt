@@ -3,3 +3,4 @@ pub mod DataTypes
 pub mod Fields
 pub mod Types
 pub mod Samples
+pub mod Arrays

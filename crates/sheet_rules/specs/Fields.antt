@@ -9,7 +9,7 @@ use Rattle.sheet.specs.declared.Range.{Range}
 use Rattle.sheet.specs.declared.Found.{Found}
 use Rattle.sheet.specs.declared.Found.the-variants.{Present, Absent}
 use Rattle.sheet.specs.All.{allBelow}
-use Rattle.sheet.specs.Names.{head, declarations, components, externals, ports, declaredType}
+use Rattle.sheet.specs.Names.{head, enumeratedTypes, declarations, components, externals, ports, size, declaredType}
 use Rattle.sheet.specs.Sheet.{countOf, recordOf}
 
 -- a record has eight fields
@@ -58,6 +58,10 @@ externalsOf s = numberOr0 (recordOf s head 0) externals
 
 unfoldable pub portsOf : List ℕ → ℕ
 portsOf s = numberOr0 (recordOf s head 0) ports
+
+-- how many values an enumerated type has, 0 where there is no such type
+unfoldable pub membersOf : List ℕ → ℕ → ℕ
+membersOf s k = numberOr0 (recordOf s enumeratedTypes k) size
 
 -- how many bound elements: "numbers below f1" are external, "the rest are bound elements"
 unfoldable pub elementsOf : List ℕ → ℕ

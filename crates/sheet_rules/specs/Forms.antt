@@ -13,11 +13,11 @@ use Rattle.sheet_rules.specs.declared.Operands.{Operands}
 use Rattle.sheet_rules.specs.Fields.{fieldOf, numberOr0}
 
 pub data Form : Type 0 where
-  literal read unary binary clock : Form
-  skip assign externalSend internalSend arm clockAct call choice loop sequence : Form
+  literal read unary binary clock readElement : Form
+  skip assign externalSend internalSend arm clockAct call choice loop sequence assignElement : Form
   unknown : Form
 
--- 1 to 6 literals, 7 read, 8 not, 9 to 16 on two values, 17 and 18 on a clock; 32 skip, 33 assign, 34 and 35 sends, 36 and 37 arming, 38 start and 39 stop, 40 call, 41 if, 42 while, 43 sequence
+-- 1 to 6 literals, 7 read, 8 not, 9 to 16 on two values, 17 and 18 on a clock, 19 read an element; 32 skip, 33 assign, 34 and 35 sends, 36 and 37 arming, 38 start and 39 stop, 40 call, 41 if, 42 while, 43 sequence, 44 assign an element
 abbrev pub formTable : List (Line Form)
 formTable =
     upTo 0 unknown
@@ -26,6 +26,7 @@ formTable =
     ∷ upTo 8 unary
     ∷ upTo 16 binary
     ∷ upTo 18 clock
+    ∷ upTo 19 readElement
     ∷ upTo 31 unknown
     ∷ upTo 32 skip
     ∷ upTo 33 assign
@@ -37,6 +38,7 @@ formTable =
     ∷ upTo 41 choice
     ∷ upTo 42 loop
     ∷ upTo 43 sequence
+    ∷ upTo 44 assignElement
     ∷ []
 
 unfoldable pub formOf : ℕ → Form
@@ -105,6 +107,7 @@ operandsIn s c r read = operands 1 0 0
 operandsIn s c r unary = operands 1 1 0
 operandsIn s c r binary = operands 1 2 0
 operandsIn s c r clock = operands 1 0 0
+operandsIn s c r readElement = operands 2 1 0
 operandsIn s c r skip = operands 1 0 0
 operandsIn s c r assign = operands 3 1 0
 operandsIn s c r externalSend = operands 1 2 (nameData s r)
@@ -115,6 +118,7 @@ operandsIn s c r call = operands 1 0 (callData s c r)
 operandsIn s c r choice = operands 1 3 0
 operandsIn s c r loop = operands 1 2 0
 operandsIn s c r sequence = operands 1 2 0
+operandsIn s c r assignElement = operands 2 2 0
 operandsIn s c r unknown = operands 1 0 0
 
 unfoldable pub operandsOf : List ℕ → Record → Record → Operands

@@ -7,10 +7,11 @@ use Rattle.sheet.specs.declared.Record.{Record}
 use Rattle.sheet.specs.All.{_and_, allBelow}
 use Rattle.sheet.specs.Table.{Line, upTo, lookUp}
 use Rattle.sheet.specs.Names
-use Rattle.sheet.specs.Names.{head, enumeratedTypes, declarations, names, charts, bodies, nodes, bindings, components, externals, ports, size, defaultMember, declaredType, dataOf, class, chartParameters, chartVariables, chartBodies, role, externalReaction, internalReaction, procedure, reactionPort, reactionName, bodyParameters, bodyLocals, root, boundChart, operator, isLiteral}
+use Rattle.sheet.specs.Names.{head, enumeratedTypes, declarations, names, charts, bodies, nodes, bindings, components, externals, ports, size, defaultMember, declaredType, declaredIndex, dataOf, class, chartParameters, chartVariables, chartBodies, role, externalReaction, internalReaction, procedure, reactionPort, reactionName, bodyParameters, bodyLocals, root, boundChart, operator, isLiteral}
 use Rattle.sheet.specs.Sheet.{countOf, recordOf}
-use Rattle.sheet_rules.specs.Fields.{fieldOf, zeroFrom, holds, numberOr0, sumBelow, componentsOf, externalsOf, portsOf, elementsOf, inSection}
-use Rattle.sheet_rules.specs.Forms.{Form, literal, read, unary, binary, clock, skip, assign, externalSend, internalSend, arm, clockAct, call, choice, loop, sequence, unknown, formOf, Literal, bool, int, member, component, port, self, literalOf, callData, operandsOf, operandCount, operandAt}
+use Rattle.sheet_rules.specs.Fields.{fieldOf, zeroFrom, holds, numberOr0, sumBelow, componentsOf, externalsOf, portsOf, membersOf, elementsOf, inSection}
+use Rattle.sheet_rules.specs.Forms.{Form, literal, read, unary, binary, clock, readElement, skip, assign, externalSend, internalSend, arm, clockAct, call, choice, loop, sequence, assignElement, unknown, formOf, Literal, bool, int, member, component, port, self, literalOf, callData, operandsOf, operandCount, operandAt}
+use Rattle.sheet_rules.specs.Indices.{Index, plain, over, noIndex, indexOf, cellsBefore}
 
 -- a number of a record of section k
 abbrev exists : List ℕ → ℕ → ℕ → Bool
@@ -26,13 +27,19 @@ headShape r = leb (components r) 64 and leb 2 (externals r) and leb (externals r
 unfoldable pub enumeratedShape : Record → Bool
 enumeratedShape r = leb 1 (size r) and leb (size r) 256 and ltb (defaultMember r) (size r) and zeroFrom 2 r
 
--- ---- 2 Declarations: a type. There is no type 7; 8 + k is enumerated type k
+-- ---- 2 Declarations: a type, an index. There is no type 7; 8 + k is enumerated type k
 
 unfoldable pub typeExists : List ℕ → ℕ → Bool
 typeExists s t = elim (leb t 6) [ true ↦ true | false ↦ leb 8 t and exists s enumeratedTypes (t - 8) ]
 
+-- "Another f1 is 1": an array's index is of a type that is there
+unfoldable pub indexExists : List ℕ → Index → Bool
+indexExists s plain = true
+indexExists s (over t n) = typeExists s t
+indexExists s noIndex = false
+
 unfoldable pub declarationShape : List ℕ → Record → Bool
-declarationShape s r = typeExists s (declaredType r) and zeroFrom 1 r
+declarationShape s r = typeExists s (declaredType r) and indexExists s (indexOf s (declaredIndex r)) and zeroFrom 2 r
 
 -- ---- 3 Telegram names: data (up to 4), class
 
@@ -84,7 +91,7 @@ bodyShape s r =
 unfoldable pub literalFields : List ℕ → Record → Literal → Bool
 literalFields s r bool = leb (r .f1) 1 and zeroFrom 2 r
 literalFields s r int = zeroFrom 3 r
-literalFields s r member = ltb (r .f2) (numberOr0 (recordOf s enumeratedTypes (r .f1)) size) and zeroFrom 3 r
+literalFields s r member = ltb (r .f2) (membersOf s (r .f1)) and zeroFrom 3 r
 literalFields s r component = ltb (r .f1) (componentsOf s) and zeroFrom 2 r
 literalFields s r port = ltb (r .f1) (portsOf s) and zeroFrom 2 r
 literalFields s r self = zeroFrom 1 r
@@ -115,6 +122,7 @@ module _ (s : List ℕ) (c b : Record) where
   fieldsShape r unary = zeroFrom 2 r
   fieldsShape r binary = zeroFrom 3 r
   fieldsShape r clock = ltb (r .f1) (chartVariables c .count) and zeroFrom 2 r
+  fieldsShape r readElement = ltb (r .f1) (chartVariables c .count) and zeroFrom 3 r
   fieldsShape r skip = zeroFrom 1 r
   fieldsShape r assign = ltb (r .f2) (variablesAt c b (r .f1)) and zeroFrom 4 r
   fieldsShape r externalSend = sendShape s r
@@ -125,6 +133,7 @@ module _ (s : List ℕ) (c b : Record) where
   fieldsShape r choice = zeroFrom 4 r
   fieldsShape r loop = zeroFrom 3 r
   fieldsShape r sequence = zeroFrom 3 r
+  fieldsShape r assignElement = ltb (r .f1) (chartVariables c .count) and zeroFrom 4 r
   fieldsShape r unknown = false
 
   -- "Operand nodes have lower numbers." "Depth at most 64, a leaf being 1": the tree of node n has at most k levels
@@ -156,12 +165,12 @@ bindingShape s r = holds (recordOf s charts (boundChart r)) (constantsShape s r)
 unfoldable pub elementsBound : List ℕ → Bool
 elementsBound s = eqb (externalsOf s + countOf s bindings) (componentsOf s)
 
--- "Elements have at most 512 variables together."
-unfoldable pub variablesBound : List ℕ → ℕ → ℕ
-variablesBound s i = numberOr0 (recordOf s bindings i) (λ b. numberOr0 (recordOf s charts (boundChart b)) (λ c. chartVariables c .count))
+-- "Elements have at most 512 variables together", and "the 512 counts cells": those of the element that record i binds
+unfoldable pub cellsBound : List ℕ → ℕ → ℕ
+cellsBound s i = numberOr0 (recordOf s bindings i) (λ b. numberOr0 (recordOf s charts (boundChart b)) (λ c. cellsBefore s c (chartVariables c .count)))
 
-unfoldable pub variablesOf : List ℕ → ℕ
-variablesOf s = sumBelow (elementsOf s) (variablesBound s)
+unfoldable pub cellsOf : List ℕ → ℕ
+cellsOf s = sumBelow (elementsOf s) (cellsBound s)
 
 -- ---- every record of every section. Nodes are judged in the tree that they stand in
 

@@ -8,18 +8,23 @@ use Rattle.sheet.specs.declared.Range.{Range}
 use Rattle.sheet.specs.declared.Found.{Found}
 use Rattle.sheet.specs.All.{_and_, allBelow}
 use Rattle.sheet.specs.Table.{Line, upTo, lookUp}
-use Rattle.sheet.specs.Names.{declarations, names, charts, bodies, nodes, bindings, dataOf, external, internal, chartParameters, chartBodies, role, initial, panic, externalReaction, reactionPort, reactionName, bodyParameters, bodyLocals, root, boundChart, isClock}
+use Rattle.sheet.specs.Names.{enumeratedTypes, declarations, names, charts, bodies, nodes, bindings, declaredType, declaredIndex, dataOf, external, internal, chartParameters, chartBodies, role, initial, panic, externalReaction, reactionPort, reactionName, bodyParameters, bodyLocals, root, boundChart, isClock}
 use Rattle.sheet.specs.Sheet.{countOf, recordOf}
 use Rattle.sheet_rules.specs.Fields.{holds, countBelow, typeAt}
+use Rattle.sheet_rules.specs.Indices.{indexOf, indexAt, isPlain}
 use Rattle.sheet_rules.specs.Shape.{isReaction, constantOf}
 use Rattle.sheet_rules.specs.Types.{isStatement, literalType, hasClass, nameRange, typeOf}
 
--- "clocks .. stand in no declaration range but chart variables"
-unfoldable pub noClocks : List ℕ → Range → Bool
-noClocks s g = allBelow (g .count) (λ j. not (isClock (typeAt s (g .first + j))))
+-- "An array .. of clocks, gets 2", wherever it stands
+unfoldable pub declarationStatic : List ℕ → Record → Bool
+declarationStatic s r = not (isClock (declaredType r) and not (isPlain (indexOf s (declaredIndex r))))
+
+-- "clocks .. stand in no declaration range but chart variables", nor does an array
+unfoldable pub plainData : List ℕ → Range → Bool
+plainData s g = allBelow (g .count) (λ j. not (isClock (typeAt s (g .first + j))) and isPlain (indexAt s (g .first + j)))
 
 unfoldable pub nameStatic : List ℕ → Record → Bool
-nameStatic s r = noClocks s (dataOf r)
+nameStatic s r = plainData s (dataOf r)
 
 -- ---- bodies
 
@@ -37,7 +42,7 @@ roleStatic s b = elim (isReaction (role b)) [ true ↦ reactionStatic s b | fals
 
 -- "roots are statements"
 unfoldable pub bodyStatic : List ℕ → Record → Record → Bool
-bodyStatic s c b = noClocks s (bodyParameters b) and noClocks s (bodyLocals b) and roleStatic s b and isStatement (typeOf s c b (root b))
+bodyStatic s c b = plainData s (bodyParameters b) and plainData s (bodyLocals b) and roleStatic s b and isStatement (typeOf s c b (root b))
 
 -- ---- charts
 
@@ -64,7 +69,7 @@ bodiesStatic s c = allBelow (chartBodies c .count) (λ j. holds (bodyOf s c j) (
 
 unfoldable pub chartStatic : List ℕ → Record → Bool
 chartStatic s c =
-    noClocks s (chartParameters c)
+    plainData s (chartParameters c)
     and eqb (bodiesWith s c initial) 1
     and eqb (bodiesWith s c panic) 1
     and bodiesStatic s c
@@ -80,11 +85,12 @@ constantsStatic s r c = allBelow (chartParameters c .count) (λ j. constantStati
 unfoldable pub bindingStatic : List ℕ → Record → Bool
 bindingStatic s r = holds (recordOf s charts (boundChart r)) (constantsStatic s r)
 
--- ---- every name, chart and binding
+-- ---- every declaration, name, chart and binding
 
 abbrev pub staticTable : List ℕ → Record → List (Line Bool)
 staticTable s r =
-    upTo declarations true
+    upTo enumeratedTypes true
+    ∷ upTo declarations (declarationStatic s r)
     ∷ upTo names (nameStatic s r)
     ∷ upTo charts (chartStatic s r)
     ∷ upTo nodes true

@@ -14,7 +14,8 @@ use Rattle.sheet.specs.Sheet.{recordOf}
 use Rattle.sheet_rules.specs.declared.Typed.{Typed}
 use Rattle.sheet_rules.specs.declared.Typed.the-variants.{Expression, Statement, Wrong}
 use Rattle.sheet_rules.specs.Fields.{fieldOf, holds, typeAt}
-use Rattle.sheet_rules.specs.Forms.{Form, literal, read, unary, binary, clock, skip, assign, externalSend, internalSend, arm, clockAct, call, choice, loop, sequence, unknown, formOf, Literal, bool, int, member, component, port, self, literalOf, Binary, both, equal, less, plus, minus, times, div, modulo, binaryOf, calledBody}
+use Rattle.sheet_rules.specs.Forms.{Form, literal, read, unary, binary, clock, readElement, skip, assign, externalSend, internalSend, arm, clockAct, call, choice, loop, sequence, assignElement, unknown, formOf, Literal, bool, int, member, component, port, self, literalOf, Binary, both, equal, less, plus, minus, times, div, modulo, binaryOf, calledBody}
+use Rattle.sheet_rules.specs.Indices.{Index, plain, over, noIndex, indexAt, isPlain}
 
 -- ---- tests of what an operand is
 
@@ -125,8 +126,9 @@ lowerType n f m = elim (ltb m n) [ true ↦ f m | false ↦ Wrong ]
 
 -- ---- each form, where x, y, z are what the operands are, and d whether the data match
 
+-- "operators 7 and 33 don't take an array"
 unfoldable pub readType : List ℕ → Record → Record → Record → Typed
-readType s c b r = given (not (isClock (typeAt s (variableAt c b (r .f1) (r .f2))))) (Expression (typeAt s (variableAt c b (r .f1) (r .f2))))
+readType s c b r = given (not (isClock (typeAt s (variableAt c b (r .f1) (r .f2)))) and isPlain (indexAt s (variableAt c b (r .f1) (r .f2)))) (Expression (typeAt s (variableAt c b (r .f1) (r .f2))))
 
 unfoldable pub notType : Typed → Typed
 notType x = given (isOf x Bool-type) (Expression Bool-type)
@@ -137,7 +139,23 @@ clockType s c r = given (isClock (chartVariableType s c (r .f1))) (Expression (e
 
 -- "an assignment keeps its variable's type", "chart parameters are never assigned"
 unfoldable pub assignType : List ℕ → Record → Record → Record → Typed → Typed
-assignType s c b r x = given (not (eqb (r .f1) Names.chartParameter) and isOf x (typeAt s (variableAt c b (r .f1) (r .f2)))) Statement
+assignType s c b r x = given (not (eqb (r .f1) Names.chartParameter) and isPlain (indexAt s (variableAt c b (r .f1) (r .f2))) and isOf x (typeAt s (variableAt c b (r .f1) (r .f2)))) Statement
+
+-- "19 and 44 take nothing else, with an index of the array's index type"
+unfoldable pub indexedBy : Index → Typed → Bool
+indexedBy plain x = false
+indexedBy (over t n) x = isOf x t
+indexedBy noIndex x = false
+
+-- the index of variable n of chart c
+abbrev pub chartVariableIndex : List ℕ → Record → ℕ → Index
+chartVariableIndex s c n = indexAt s (chartVariables c .first + n)
+
+unfoldable pub readElementType : List ℕ → Record → Record → Typed → Typed
+readElementType s c r x = given (indexedBy (chartVariableIndex s c (r .f1)) x) (Expression (chartVariableType s c (r .f1)))
+
+unfoldable pub assignElementType : List ℕ → Record → Record → Typed → Typed → Typed
+assignElementType s c r x y = given (indexedBy (chartVariableIndex s c (r .f1)) x and isOf y (chartVariableType s c (r .f1))) Statement
 
 -- "34 a Component and a Port", "external sends .. use external names"
 unfoldable pub externalType : List ℕ → Record → Typed → Typed → Bool → Typed
@@ -177,6 +195,7 @@ module _ (s : List ℕ) (c b : Record) where
   typeIn f r unary = notType (f (r .f1))
   typeIn f r binary = binaryType (operator r) (f (r .f1)) (f (r .f2))
   typeIn f r clock = clockType s c r
+  typeIn f r readElement = readElementType s c r (f (r .f2))
   typeIn f r skip = Statement
   typeIn f r assign = assignType s c b r (f (r .f3))
   typeIn f r externalSend = externalType s r (f (r .f1)) (f (r .f2)) (dataMatch s f (nameRange s (r .f3)) r)
@@ -187,6 +206,7 @@ module _ (s : List ℕ) (c b : Record) where
   typeIn f r choice = choiceType (f (r .f1)) (f (r .f2)) (f (r .f3))
   typeIn f r loop = loopType (f (r .f1)) (f (r .f2))
   typeIn f r sequence = sequenceType (f (r .f1)) (f (r .f2))
+  typeIn f r assignElement = assignElementType s c r (f (r .f2)) (f (r .f3))
   typeIn f r unknown = Wrong
 
   unfoldable pub typeStep : (ℕ → Typed) → ℕ → Typed

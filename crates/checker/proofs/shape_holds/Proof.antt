@@ -63,12 +63,12 @@ returns-4 : tie.Need-returns-4
 unfolding shape elementsBound
 returns-4 c = rest-fails _ _ (rest-fails _ _ (rest-fails _ _ (rest-fails _ _ (first-fails _ _ (ne-eqb _ _ (λ e. c .if4 .taken (bound-back _ _ _ _ (c .before .before .field-at2 .ensures .0) (c .before .before .before .field-at .ensures .0) (c .before .count-in2 .ensures _ (c .before .before .before .before .before .before .before .before .before .before .before .pre)) e)))))))
 
-variables-requires : tie.Need-variables-requires
-variables-requires c κs = search needs
+cells-requires : tie.Need-cells-requires
+cells-requires c κs = search needs
 
 returns-5 : tie.Need-returns-5
 unfolding shape
-returns-5 c = rest-fails _ _ (rest-fails _ _ (rest-fails _ _ (rest-fails _ _ (rest-fails _ _ (first-fails _ _ (lt-leb _ _ (rw (c .before .variables .ensures) at (c .if5 .taken))))))))
+returns-5 c = rest-fails _ _ (rest-fails _ _ (rest-fails _ _ (rest-fails _ _ (rest-fails _ _ (first-fails _ _ (lt-leb _ _ (rw (c .before .cells .ensures) at (c .if5 .taken))))))))
 
 used-once-requires : tie.Need-used-once-requires
 used-once-requires c κs = search needs
@@ -82,7 +82,7 @@ nodes-fit-requires c κs = search needs
 
 returns-7 : tie.Need-returns-7
 unfolding shape elementsBound
-returns-7 c = first-holds _ _ _ (right-with-head _ _ (c .before .before .before .before .before .before .before .before .before .before .before .before .before .before .count-in .ensures _ (c .before .before .before .before .before .before .before .before .before .before .before .before .before .before .before .before .pre)) (c .before .before .before .before .before .before .before .before .before .before .before .before .before .if1 .left)) (first-holds _ _ _ (eq-eqb _ _ (sym (c .before .before .before .before .before .before .before .before .before .before .before .before .before .before .count-in .ensures _ (c .before .before .before .before .before .before .before .before .before .before .before .before .before .before .before .before .pre)) ∙ c .before .before .before .before .before .before .before .before .before .before .before .before .before .if1 .left)) (first-holds _ _ _ (sym (c .before .before .before .before .before .before .before .before .before .before .before .before .sections-fit .ensures) ∙ not-false _ (c .before .before .before .before .before .before .before .before .before .before .before .if2 .left)) (first-holds _ _ _ (sym (c .before .before .before .before .before .before .before .before .before .before .bodies-covered .ensures) ∙ not-false _ (c .before .before .before .before .before .before .before .before .before .if3 .left)) (first-holds _ _ _ (eq-eqb _ _ (bound _ _ _ _ (c .before .before .before .before .before .before .before .field-at2 .ensures .0) (c .before .before .before .before .before .before .before .before .field-at .ensures .0) (c .before .before .before .before .before .before .count-in2 .ensures _ (c .before .before .before .before .before .before .before .before .before .before .before .before .before .before .before .before .pre)) (c .before .before .before .before .before .if4 .left))) (first-holds _ _ _ (le-leb _ _ (rw (c .before .before .before .before .variables .ensures) at (c .before .before .before .if5 .left))) (first-holds _ _ _ (sym (c .before .before .used-once .ensures) ∙ not-false _ (c .before .if6 .left)) (c .nodes-fit .ensures)))))))
+returns-7 c = first-holds _ _ _ (right-with-head _ _ (c .before .before .before .before .before .before .before .before .before .before .before .before .before .before .count-in .ensures _ (c .before .before .before .before .before .before .before .before .before .before .before .before .before .before .before .before .pre)) (c .before .before .before .before .before .before .before .before .before .before .before .before .before .if1 .left)) (first-holds _ _ _ (eq-eqb _ _ (sym (c .before .before .before .before .before .before .before .before .before .before .before .before .before .before .count-in .ensures _ (c .before .before .before .before .before .before .before .before .before .before .before .before .before .before .before .before .pre)) ∙ c .before .before .before .before .before .before .before .before .before .before .before .before .before .if1 .left)) (first-holds _ _ _ (sym (c .before .before .before .before .before .before .before .before .before .before .before .before .sections-fit .ensures) ∙ not-false _ (c .before .before .before .before .before .before .before .before .before .before .before .if2 .left)) (first-holds _ _ _ (sym (c .before .before .before .before .before .before .before .before .before .before .bodies-covered .ensures) ∙ not-false _ (c .before .before .before .before .before .before .before .before .before .if3 .left)) (first-holds _ _ _ (eq-eqb _ _ (bound _ _ _ _ (c .before .before .before .before .before .before .before .field-at2 .ensures .0) (c .before .before .before .before .before .before .before .before .field-at .ensures .0) (c .before .before .before .before .before .before .count-in2 .ensures _ (c .before .before .before .before .before .before .before .before .before .before .before .before .before .before .before .before .pre)) (c .before .before .before .before .before .if4 .left))) (first-holds _ _ _ (le-leb _ _ (rw (c .before .before .before .before .cells .ensures) at (c .before .before .before .if5 .left))) (first-holds _ _ _ (sym (c .before .before .used-once .ensures) ∙ not-false _ (c .before .if6 .left)) (c .nodes-fit .ensures)))))))
 
 pub shape-holds-spec : {M : Type 1} → statement M
 shape-holds-spec =
@@ -99,7 +99,7 @@ shape-holds-spec =
     count-in-requires-2
     add-if4
     returns-4
-    variables-requires
+    cells-requires
     returns-5
     used-once-requires
     returns-6

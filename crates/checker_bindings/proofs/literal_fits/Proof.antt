@@ -8,7 +8,7 @@ use Rattle.sheet.proofs.All.{first-fails, first-holds}
 use Rattle.sheet.specs.declared.Record.{Record}
 use Rattle.sheet.specs.All.{_and_}
 use Rattle.sheet.specs.Table.{lookUp}
-use Rattle.sheet_rules.specs.Fields.{fieldOf, fieldAt, zeroFrom, componentsOf, portsOf}
+use Rattle.sheet_rules.specs.Fields.{fieldOf, fieldAt, zeroFrom, componentsOf, portsOf, membersOf}
 use Rattle.sheet_rules.specs.Forms.{literalOf}
 use Rattle.sheet_rules.specs.Shape.{literalFields, literalShape}
 use Rattle.sheet_rules.proofs.Forms.{literal-self}
@@ -25,7 +25,7 @@ module _ (s : List ℕ) (r : Record) where
   int-literal e = ap (λ n. literalFields s r (literalOf n)) e
 
   member-literal : (x : ℕ) → r .f0 ≡ 3 → x ≡ fieldAt s 1 (r .f1) 0 → literalShape s r ≡ ltb (r .f2) x and zeroFrom 3 r
-  unfolding literalShape literalFields literalOf lookUp fieldAt fieldOf
+  unfolding literalShape literalFields literalOf lookUp fieldAt fieldOf membersOf
   member-literal x e p = rw p (ap (λ n. literalFields s r (literalOf n)) e)
 
   component-literal : (x : ℕ) → r .f0 ≡ 4 → x ≡ fieldAt s 0 0 0 → literalShape s r ≡ ltb (r .f1) x and zeroFrom 2 r

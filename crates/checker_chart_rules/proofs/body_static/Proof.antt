@@ -3,29 +3,29 @@ use borrow.Author.Tests.{not-true, not-false}
 use borrow.Author.Needs.{needs}
 use Rattle.sheet.proofs.All.{first-fails, rest-fails, first-holds}
 use Rattle.sheet_rules.specs.Types.{isStatement}
-use Rattle.sheet_rules.specs.Static.{noClocks, bodyStatic}
+use Rattle.sheet_rules.specs.Static.{plainData, bodyStatic}
 use Rattle.checker_chart_rules.proofs.body_static.Statement.{statement}
 use Rattle.checker_chart_rules.proofs.body_static.Tie as tie
 
 parameters-requires : tie.Need-parameters-requires
 parameters-requires c κs = search needs
 
-no-clocks-requires : tie.Need-no-clocks-requires
-no-clocks-requires c κs = search needs
+plain-data-requires : tie.Need-plain-data-requires
+plain-data-requires c κs = search needs
 
 returns : tie.Need-returns
 unfolding bodyStatic
-returns c = first-fails _ _ (sym (c .before .no-clocks .ensures ∙ ap (noClocks _) (c .before .before .parameters .ensures .0)) ∙ not-true _ (c .if1 .taken))
+returns c = first-fails _ _ (sym (c .before .plain-data .ensures ∙ ap (plainData _) (c .before .before .parameters .ensures .0)) ∙ not-true _ (c .if1 .taken))
 
 locals-requires : tie.Need-locals-requires
 locals-requires c κs = search needs
 
-no-clocks-requires-2 : tie.Need-no-clocks-requires-2
-no-clocks-requires-2 c κs = search needs
+plain-data-requires-2 : tie.Need-plain-data-requires-2
+plain-data-requires-2 c κs = search needs
 
 returns-2 : tie.Need-returns-2
 unfolding bodyStatic
-returns-2 c = rest-fails _ _ (first-fails _ _ (sym (c .before .no-clocks2 .ensures ∙ ap (noClocks _) (c .before .before .locals .ensures .0)) ∙ not-true _ (c .if2 .taken)))
+returns-2 c = rest-fails _ _ (first-fails _ _ (sym (c .before .plain-data2 .ensures ∙ ap (plainData _) (c .before .before .locals .ensures .0)) ∙ not-true _ (c .if2 .taken)))
 
 role-static-requires : tie.Need-role-static-requires
 role-static-requires c κs = search needs
@@ -45,17 +45,17 @@ is-statement-requires c κs = search needs
 
 returns-4 : tie.Need-returns-4
 unfolding bodyStatic
-returns-4 c = first-holds _ _ _ (sym (c .before .before .before .before .before .before .before .before .before .no-clocks .ensures ∙ ap (noClocks _) (c .before .before .before .before .before .before .before .before .before .before .parameters .ensures .0)) ∙ not-false _ (c .before .before .before .before .before .before .before .before .if1 .left)) (first-holds _ _ _ (sym (c .before .before .before .before .before .before .no-clocks2 .ensures ∙ ap (noClocks _) (c .before .before .before .before .before .before .before .locals .ensures .0)) ∙ not-false _ (c .before .before .before .before .before .if2 .left)) (first-holds _ _ _ (sym (c .before .before .before .before .role-static .ensures) ∙ not-false _ (c .before .before .before .if3 .left)) (c .is-statement .ensures ∙ ap isStatement (c .before .type-of .ensures))))
+returns-4 c = first-holds _ _ _ (sym (c .before .before .before .before .before .before .before .before .before .plain-data .ensures ∙ ap (plainData _) (c .before .before .before .before .before .before .before .before .before .before .parameters .ensures .0)) ∙ not-false _ (c .before .before .before .before .before .before .before .before .if1 .left)) (first-holds _ _ _ (sym (c .before .before .before .before .before .before .plain-data2 .ensures ∙ ap (plainData _) (c .before .before .before .before .before .before .before .locals .ensures .0)) ∙ not-false _ (c .before .before .before .before .before .if2 .left)) (first-holds _ _ _ (sym (c .before .before .before .before .role-static .ensures) ∙ not-false _ (c .before .before .before .if3 .left)) (c .is-statement .ensures ∙ ap isStatement (c .before .type-of .ensures))))
 
 pub body-static-spec : {M : Type 1} → statement M
 body-static-spec =
     tie.close
     (tie.spec
     parameters-requires
-    no-clocks-requires
+    plain-data-requires
     returns
     locals-requires
-    no-clocks-requires-2
+    plain-data-requires-2
     returns-2
     role-static-requires
     returns-3

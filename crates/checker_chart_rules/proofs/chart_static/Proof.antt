@@ -12,12 +12,12 @@ cast-if2 c = search needs
 cast-if3 : tie.Need-cast-if3
 cast-if3 c = search needs
 
-no-clocks-requires : tie.Need-no-clocks-requires
-no-clocks-requires c κs = search needs
+plain-data-requires : tie.Need-plain-data-requires
+plain-data-requires c κs = search needs
 
 returns : tie.Need-returns
 unfolding chartStatic
-returns c = (first-fails _ _ (sym (c .before .no-clocks .ensures) ∙ not-true _ (c .if1 .taken)), c .before .before .before .before .before .pre .1)
+returns c = (first-fails _ _ (sym (c .before .plain-data .ensures) ∙ not-true _ (c .if1 .taken)), c .before .before .before .before .before .pre .1)
 
 bodies-with-requires : tie.Need-bodies-with-requires
 bodies-with-requires c κs = search needs
@@ -38,7 +38,7 @@ bodies-static-requires c κs = search needs
 
 returns-4 : tie.Need-returns-4
 unfolding chartStatic
-returns-4 c = (first-holds _ _ _ (sym (c .before .before .before .before .before .before .before .before .before .no-clocks .ensures) ∙ not-false _ (c .before .before .before .before .before .before .before .before .if1 .left)) (first-holds _ _ _ (eq-eqb _ _ (sym (c .before .before .before .before .before .before .before .bodies-with .ensures) ∙ c .before .before .before .before .before .before .if2 .left)) (first-holds _ _ _ (eq-eqb _ _ (sym (c .before .before .before .before .before .bodies-with2 .ensures) ∙ c .before .before .before .before .if3 .left)) (c .bodies-static .ensures .0))), c .bodies-static .ensures .1)
+returns-4 c = (first-holds _ _ _ (sym (c .before .before .before .before .before .before .before .before .before .plain-data .ensures) ∙ not-false _ (c .before .before .before .before .before .before .before .before .if1 .left)) (first-holds _ _ _ (eq-eqb _ _ (sym (c .before .before .before .before .before .before .before .bodies-with .ensures) ∙ c .before .before .before .before .before .before .if2 .left)) (first-holds _ _ _ (eq-eqb _ _ (sym (c .before .before .before .before .before .bodies-with2 .ensures) ∙ c .before .before .before .before .if3 .left)) (c .bodies-static .ensures .0))), c .bodies-static .ensures .1)
 
 pub chart-static-spec : {M : Type 1} → statement M
 chart-static-spec =
@@ -46,7 +46,7 @@ chart-static-spec =
     (tie.spec
     cast-if2
     cast-if3
-    no-clocks-requires
+    plain-data-requires
     returns
     bodies-with-requires
     returns-2

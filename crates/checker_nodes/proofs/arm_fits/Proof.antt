@@ -5,17 +5,17 @@ use borrow.Author.Needs.{needs}
 use Rattle.checker_nodes.proofs.arm_fits.Statement.{statement}
 use Rattle.checker_nodes.proofs.arm_fits.Tie as tie
 
-clock-there-requires : tie.Need-clock-there-requires
-clock-there-requires c κs = search needs
+chart-variable-there-requires : tie.Need-chart-variable-there-requires
+chart-variable-there-requires c κs = search needs
 
 returns : tie.Need-returns
-returns c = first-fails _ _ (sym (c .before .clock-there .ensures) ∙ not-true _ (c .if1 .taken))
+returns c = first-fails _ _ (sym (c .before .chart-variable-there .ensures) ∙ not-true _ (c .if1 .taken))
 
 send-fits-requires : tie.Need-send-fits-requires
 send-fits-requires c κs = search needs
 
 returns-2 : tie.Need-returns-2
-returns-2 c = first-holds _ _ _ (sym (c .before .before .clock-there .ensures) ∙ not-false _ (c .before .if1 .left)) (c .send-fits .ensures)
+returns-2 c = first-holds _ _ _ (sym (c .before .before .chart-variable-there .ensures) ∙ not-false _ (c .before .if1 .left)) (c .send-fits .ensures)
 
 pub arm-fits-spec : {M : Type 1} → statement M
-arm-fits-spec = tie.close (tie.spec clock-there-requires returns send-fits-requires returns-2)
+arm-fits-spec = tie.close (tie.spec chart-variable-there-requires returns send-fits-requires returns-2)

@@ -9,12 +9,12 @@ cast-t5 c = search needs
 cast-t6 : tie.Need-cast-t6
 cast-t6 c = search needs
 
-no-clocks-requires : tie.Need-no-clocks-requires
-no-clocks-requires c κs = search needs
+plain-data-requires : tie.Need-plain-data-requires
+plain-data-requires c κs = search needs
 
 returns : tie.Need-returns
 unfolding nameStatic
-returns c = c .no-clocks .ensures
+returns c = c .plain-data .ensures
 
 pub name-static-spec : {M : Type 1} → statement M
-name-static-spec = tie.close (tie.spec cast-t5 cast-t6 no-clocks-requires returns)
+name-static-spec = tie.close (tie.spec cast-t5 cast-t6 plain-data-requires returns)

@@ -10,7 +10,7 @@ use Rattle.sheet.proofs.All.{all-more}
 use Rattle.sheet_rules.specs.Types.{lowerType, typeOf}
 use Rattle.sheet_rules.proofs.Types.{lower-type, not-lower-type}
 use Rattle.sheet_types.proofs.Laws.{no, so}
-use Rattle.checker_typing.proofs.Laws.{datumMatches, datum, data-fail, data-all, typed-absent, typed-literal, typed-read, typed-not, typed-binary, typed-clock, typed-skip, typed-assign, typed-external, typed-internal, typed-arm, typed-act, typed-call, typed-choice, typed-loop, typed-sequence, typed-zero, typed-gap, typed-past}
+use Rattle.checker_typing.proofs.Laws.{datumMatches, datum, data-fail, data-all, typed-absent, typed-literal, typed-read, typed-not, typed-binary, typed-clock, typed-element, typed-skip, typed-assign, typed-external, typed-internal, typed-arm, typed-act, typed-call, typed-choice, typed-loop, typed-sequence, typed-assigned, typed-zero, typed-gap, typed-past}
 use Rattle.checker_typing.proofs.data_match.Reads as data-match
 use Rattle.checker_typing.proofs.data_match.Kinds as data-match-kinds
 use Rattle.checker_typing.proofs.+data_match+operand_type+type_of.Lts-data_match as data-match-lts
@@ -23,6 +23,7 @@ use Rattle.checker_typing.proofs.+data_match+operand_type+type_of.Lts-t
 use Rattle.sheet_fields.proofs.field.Reads as field-reads
 use Rattle.sheet_reader.proofs.read.Reads as read-reads
 use Rattle.checker_sends.proofs.arm_type.Reads as arm-type-reads
+use Rattle.checker_forms.proofs.assign_element_type.Reads as assign-element-type-reads
 use Rattle.checker_forms.proofs.assign_type.Reads as assign-type-reads
 use Rattle.checker_forms.proofs.binary_type.Reads as binary-type-reads
 use Rattle.checker_sends.proofs.call_type.Reads as call-type-reads
@@ -37,6 +38,7 @@ use Rattle.sheet_types.proofs.literal_type.Reads as literal-type-reads
 use Rattle.checker_forms.proofs.loop_type.Reads as loop-type-reads
 use Rattle.sheet_types.proofs.name_range.Reads as name-range-reads
 use Rattle.checker_forms.proofs.not_type.Reads as not-type-reads
+use Rattle.checker_forms.proofs.read_element_type.Reads as read-element-type-reads
 use Rattle.checker_forms.proofs.read_type.Reads as read-type-reads
 use Rattle.checker_forms.proofs.sequence_type.Reads as sequence-type-reads
 use Rattle.sheet_types.proofs.type_at.Reads as type-at-reads
@@ -102,6 +104,8 @@ type-of-callees t = (
   operand-type.Post,
   not-type-reads.Asked,
   not-type-reads.Learnt,
+  read-element-type-reads.Asked,
+  read-element-type-reads.Learnt,
   assign-type-reads.Asked,
   assign-type-reads.Learnt,
   name-range-reads.Asked,
@@ -122,6 +126,8 @@ type-of-callees t = (
   loop-type-reads.Learnt,
   sequence-type-reads.Asked,
   sequence-type-reads.Learnt,
+  assign-element-type-reads.Asked,
+  assign-element-type-reads.Learnt,
   literal-type-reads.Asked,
   literal-type-reads.Learnt,
   binary-type-reads.Asked,
@@ -223,14 +229,20 @@ type-of-not-type-requires t c κs = search needs
 type-of-operand-type-requires-2 : (t : ℕ) → type-of-lts.Need-operand-type-requires-2 (type-of-callees t) (type-of-at t) type-of.Post
 type-of-operand-type-requires-2 t c κs = (omega (arith, c .before .before .before .before .before .before .pre .0), (c .before .before .before .before .before .before .pre .1 .0, c .before .before .before .before .before .before .pre .1 .1))
 
-type-of-assign-type-requires : (t : ℕ) → type-of-lts.Need-assign-type-requires (type-of-callees t) (type-of-at t) type-of.Post
-type-of-assign-type-requires t c κs = search needs
+type-of-read-element-type-requires : (t : ℕ) → type-of-lts.Need-read-element-type-requires (type-of-callees t) (type-of-at t) type-of.Post
+type-of-read-element-type-requires t c κs = search needs
 
 type-of-operand-type-requires-3 : (t : ℕ) → type-of-lts.Need-operand-type-requires-3 (type-of-callees t) (type-of-at t) type-of.Post
 type-of-operand-type-requires-3 t c κs = (omega (arith, c .before .before .before .before .before .before .pre .0), (c .before .before .before .before .before .before .pre .1 .0, c .before .before .before .before .before .before .pre .1 .1))
 
+type-of-assign-type-requires : (t : ℕ) → type-of-lts.Need-assign-type-requires (type-of-callees t) (type-of-at t) type-of.Post
+type-of-assign-type-requires t c κs = search needs
+
 type-of-operand-type-requires-4 : (t : ℕ) → type-of-lts.Need-operand-type-requires-4 (type-of-callees t) (type-of-at t) type-of.Post
-type-of-operand-type-requires-4 t c κs = (omega (arith, c .before .before .before .before .before .before .before .pre .0), (c .before .before .before .before .before .before .before .pre .1 .0, c .before .before .before .before .before .before .before .pre .1 .1))
+type-of-operand-type-requires-4 t c κs = (omega (arith, c .before .before .before .before .before .before .pre .0), (c .before .before .before .before .before .before .pre .1 .0, c .before .before .before .before .before .before .pre .1 .1))
+
+type-of-operand-type-requires-5 : (t : ℕ) → type-of-lts.Need-operand-type-requires-5 (type-of-callees t) (type-of-at t) type-of.Post
+type-of-operand-type-requires-5 t c κs = (omega (arith, c .before .before .before .before .before .before .before .pre .0), (c .before .before .before .before .before .before .before .pre .1 .0, c .before .before .before .before .before .before .before .pre .1 .1))
 
 type-of-cast-name-range : (t : ℕ) → type-of-lts.Need-cast-name-range (type-of-callees t) (type-of-at t) type-of.Post
 type-of-cast-name-range t c = search needs
@@ -254,7 +266,7 @@ type-of-data-match-requires-2 : (t : ℕ) → type-of-lts.Need-data-match-requir
 type-of-data-match-requires-2 t c κs = (omega (arith, c .before .before .before .before .before .before .before .before .pre .0), (c .before .before .before .before .before .before .before .before .pre .1 .0, (c .before .before .before .before .before .before .before .before .pre .1 .1, (c .name-range2 .ensures .1, c .name-range2 .ensures .2))))
 
 type-of-internal-type-requires : (t : ℕ) → type-of-lts.Need-internal-type-requires (type-of-callees t) (type-of-at t) type-of.Post
-type-of-internal-type-requires t c κs = search needs
+type-of-internal-type-requires t c κs = c .before .before .before .before .before .before .before .before .before .pre .1
 
 type-of-called-range-requires : (t : ℕ) → type-of-lts.Need-called-range-requires (type-of-callees t) (type-of-at t) type-of.Post
 type-of-called-range-requires t c κs = search needs
@@ -263,46 +275,55 @@ type-of-data-match-requires-3 : (t : ℕ) → type-of-lts.Need-data-match-requir
 type-of-data-match-requires-3 t c κs = (omega (arith, c .before .before .before .before .before .before .before .pre .0), (c .before .before .before .before .before .before .before .pre .1 .0, (c .before .before .before .before .before .before .before .pre .1 .1, (c .called-range .ensures .1, c .called-range .ensures .2))))
 
 type-of-call-type-requires : (t : ℕ) → type-of-lts.Need-call-type-requires (type-of-callees t) (type-of-at t) type-of.Post
-type-of-call-type-requires t c κs = search needs
-
-type-of-operand-type-requires-5 : (t : ℕ) → type-of-lts.Need-operand-type-requires-5 (type-of-callees t) (type-of-at t) type-of.Post
-type-of-operand-type-requires-5 t c κs = (omega (arith, c .before .before .before .before .before .before .pre .0), (c .before .before .before .before .before .before .pre .1 .0, c .before .before .before .before .before .before .pre .1 .1))
+type-of-call-type-requires t c κs = c .before .before .before .before .before .before .before .before .pre .1 .0
 
 type-of-operand-type-requires-6 : (t : ℕ) → type-of-lts.Need-operand-type-requires-6 (type-of-callees t) (type-of-at t) type-of.Post
-type-of-operand-type-requires-6 t c κs = (omega (arith, c .before .before .before .before .before .before .before .pre .0), (c .before .before .before .before .before .before .before .pre .1 .0, c .before .before .before .before .before .before .before .pre .1 .1))
+type-of-operand-type-requires-6 t c κs = (omega (arith, c .before .before .before .before .before .before .pre .0), (c .before .before .before .before .before .before .pre .1 .0, c .before .before .before .before .before .before .pre .1 .1))
 
 type-of-operand-type-requires-7 : (t : ℕ) → type-of-lts.Need-operand-type-requires-7 (type-of-callees t) (type-of-at t) type-of.Post
-type-of-operand-type-requires-7 t c κs = (omega (arith, c .before .before .before .before .before .before .before .before .pre .0), (c .before .before .before .before .before .before .before .before .pre .1 .0, c .before .before .before .before .before .before .before .before .pre .1 .1))
+type-of-operand-type-requires-7 t c κs = (omega (arith, c .before .before .before .before .before .before .before .pre .0), (c .before .before .before .before .before .before .before .pre .1 .0, c .before .before .before .before .before .before .before .pre .1 .1))
+
+type-of-operand-type-requires-8 : (t : ℕ) → type-of-lts.Need-operand-type-requires-8 (type-of-callees t) (type-of-at t) type-of.Post
+type-of-operand-type-requires-8 t c κs = (omega (arith, c .before .before .before .before .before .before .before .before .pre .0), (c .before .before .before .before .before .before .before .before .pre .1 .0, c .before .before .before .before .before .before .before .before .pre .1 .1))
 
 type-of-choice-type-requires : (t : ℕ) → type-of-lts.Need-choice-type-requires (type-of-callees t) (type-of-at t) type-of.Post
 type-of-choice-type-requires t c κs = search needs
 
-type-of-operand-type-requires-8 : (t : ℕ) → type-of-lts.Need-operand-type-requires-8 (type-of-callees t) (type-of-at t) type-of.Post
-type-of-operand-type-requires-8 t c κs = (omega (arith, c .before .before .before .before .before .before .pre .0), (c .before .before .before .before .before .before .pre .1 .0, c .before .before .before .before .before .before .pre .1 .1))
-
 type-of-operand-type-requires-9 : (t : ℕ) → type-of-lts.Need-operand-type-requires-9 (type-of-callees t) (type-of-at t) type-of.Post
-type-of-operand-type-requires-9 t c κs = (omega (arith, c .before .before .before .before .before .before .before .pre .0), (c .before .before .before .before .before .before .before .pre .1 .0, c .before .before .before .before .before .before .before .pre .1 .1))
+type-of-operand-type-requires-9 t c κs = (omega (arith, c .before .before .before .before .before .before .pre .0), (c .before .before .before .before .before .before .pre .1 .0, c .before .before .before .before .before .before .pre .1 .1))
+
+type-of-operand-type-requires-10 : (t : ℕ) → type-of-lts.Need-operand-type-requires-10 (type-of-callees t) (type-of-at t) type-of.Post
+type-of-operand-type-requires-10 t c κs = (omega (arith, c .before .before .before .before .before .before .before .pre .0), (c .before .before .before .before .before .before .before .pre .1 .0, c .before .before .before .before .before .before .before .pre .1 .1))
 
 type-of-loop-type-requires : (t : ℕ) → type-of-lts.Need-loop-type-requires (type-of-callees t) (type-of-at t) type-of.Post
 type-of-loop-type-requires t c κs = search needs
 
-type-of-operand-type-requires-10 : (t : ℕ) → type-of-lts.Need-operand-type-requires-10 (type-of-callees t) (type-of-at t) type-of.Post
-type-of-operand-type-requires-10 t c κs = (omega (arith, c .before .before .before .before .before .before .pre .0), (c .before .before .before .before .before .before .pre .1 .0, c .before .before .before .before .before .before .pre .1 .1))
-
 type-of-operand-type-requires-11 : (t : ℕ) → type-of-lts.Need-operand-type-requires-11 (type-of-callees t) (type-of-at t) type-of.Post
-type-of-operand-type-requires-11 t c κs = (omega (arith, c .before .before .before .before .before .before .before .pre .0), (c .before .before .before .before .before .before .before .pre .1 .0, c .before .before .before .before .before .before .before .pre .1 .1))
+type-of-operand-type-requires-11 t c κs = (omega (arith, c .before .before .before .before .before .before .pre .0), (c .before .before .before .before .before .before .pre .1 .0, c .before .before .before .before .before .before .pre .1 .1))
+
+type-of-operand-type-requires-12 : (t : ℕ) → type-of-lts.Need-operand-type-requires-12 (type-of-callees t) (type-of-at t) type-of.Post
+type-of-operand-type-requires-12 t c κs = (omega (arith, c .before .before .before .before .before .before .before .pre .0), (c .before .before .before .before .before .before .before .pre .1 .0, c .before .before .before .before .before .before .before .pre .1 .1))
 
 type-of-sequence-type-requires : (t : ℕ) → type-of-lts.Need-sequence-type-requires (type-of-callees t) (type-of-at t) type-of.Post
 type-of-sequence-type-requires t c κs = search needs
 
+type-of-operand-type-requires-13 : (t : ℕ) → type-of-lts.Need-operand-type-requires-13 (type-of-callees t) (type-of-at t) type-of.Post
+type-of-operand-type-requires-13 t c κs = (omega (arith, c .before .before .before .before .before .before .pre .0), (c .before .before .before .before .before .before .pre .1 .0, c .before .before .before .before .before .before .pre .1 .1))
+
+type-of-operand-type-requires-14 : (t : ℕ) → type-of-lts.Need-operand-type-requires-14 (type-of-callees t) (type-of-at t) type-of.Post
+type-of-operand-type-requires-14 t c κs = (omega (arith, c .before .before .before .before .before .before .before .pre .0), (c .before .before .before .before .before .before .before .pre .1 .0, c .before .before .before .before .before .before .before .pre .1 .1))
+
+type-of-assign-element-type-requires : (t : ℕ) → type-of-lts.Need-assign-element-type-requires (type-of-callees t) (type-of-at t) type-of.Post
+type-of-assign-element-type-requires t c κs = search needs
+
 type-of-literal-type-requires : (t : ℕ) → type-of-lts.Need-literal-type-requires (type-of-callees t) (type-of-at t) type-of.Post
 type-of-literal-type-requires t c κs = search needs
 
-type-of-operand-type-requires-12 : (t : ℕ) → type-of-lts.Need-operand-type-requires-12 (type-of-callees t) (type-of-at t) type-of.Post
-type-of-operand-type-requires-12 t c κs = (omega (arith, c .before .before .before .before .before .before .before .before .before .pre .0), (c .before .before .before .before .before .before .before .before .before .pre .1 .0, c .before .before .before .before .before .before .before .before .before .pre .1 .1))
+type-of-operand-type-requires-15 : (t : ℕ) → type-of-lts.Need-operand-type-requires-15 (type-of-callees t) (type-of-at t) type-of.Post
+type-of-operand-type-requires-15 t c κs = (omega (arith, c .before .before .before .before .before .before .before .before .before .pre .0), (c .before .before .before .before .before .before .before .before .before .pre .1 .0, c .before .before .before .before .before .before .before .before .before .pre .1 .1))
 
-type-of-operand-type-requires-13 : (t : ℕ) → type-of-lts.Need-operand-type-requires-13 (type-of-callees t) (type-of-at t) type-of.Post
-type-of-operand-type-requires-13 t c κs = (omega (arith, c .before .before .before .before .before .before .before .before .before .before .pre .0), (c .before .before .before .before .before .before .before .before .before .before .pre .1 .0, c .before .before .before .before .before .before .before .before .before .before .pre .1 .1))
+type-of-operand-type-requires-16 : (t : ℕ) → type-of-lts.Need-operand-type-requires-16 (type-of-callees t) (type-of-at t) type-of.Post
+type-of-operand-type-requires-16 t c κs = (omega (arith, c .before .before .before .before .before .before .before .before .before .before .pre .0), (c .before .before .before .before .before .before .before .before .before .before .pre .1 .0, c .before .before .before .before .before .before .before .before .before .before .pre .1 .1))
 
 type-of-binary-type-requires : (t : ℕ) → type-of-lts.Need-binary-type-requires (type-of-callees t) (type-of-at t) type-of.Post
 type-of-binary-type-requires t c κs = search needs
@@ -310,8 +331,8 @@ type-of-binary-type-requires t c κs = search needs
 type-of-clock-type-requires : (t : ℕ) → type-of-lts.Need-clock-type-requires (type-of-callees t) (type-of-at t) type-of.Post
 type-of-clock-type-requires t c κs = search needs
 
-type-of-operand-type-requires-14 : (t : ℕ) → type-of-lts.Need-operand-type-requires-14 (type-of-callees t) (type-of-at t) type-of.Post
-type-of-operand-type-requires-14 t c κs = (omega (arith, c .before .before .before .before .before .before .before .before .before .before .before .before .pre .0), (c .before .before .before .before .before .before .before .before .before .before .before .before .pre .1 .0, c .before .before .before .before .before .before .before .before .before .before .before .before .pre .1 .1))
+type-of-operand-type-requires-17 : (t : ℕ) → type-of-lts.Need-operand-type-requires-17 (type-of-callees t) (type-of-at t) type-of.Post
+type-of-operand-type-requires-17 t c κs = (omega (arith, c .before .before .before .before .before .before .before .before .before .before .before .before .pre .0), (c .before .before .before .before .before .before .before .before .before .before .before .before .pre .1 .0, c .before .before .before .before .before .before .before .before .before .before .before .before .pre .1 .1))
 
 type-of-cast-name-range-3 : (t : ℕ) → type-of-lts.Need-cast-name-range-3 (type-of-callees t) (type-of-at t) type-of.Post
 type-of-cast-name-range-3 t c = search needs
@@ -335,52 +356,58 @@ type-of-returns-3 : (t : ℕ) → type-of-lts.Need-returns-3 (type-of-callees t)
 type-of-returns-3 t c = typed-not _ _ _ _ _ (sym (c .before .before .before .before .before .before .read .ensures) ∙ c .before .before .before .before .r .given .1) _ _ (c .before .before .match2 .keys2) (c .before .operand-type .ensures) (c .not-type .ensures)
 
 type-of-returns-4 : (t : ℕ) → type-of-lts.Need-returns-4 (type-of-callees t) (type-of-at t) type-of.Post
-type-of-returns-4 t c = typed-skip _ _ _ _ _ (sym (c .before .before .before .before .read .ensures) ∙ c .before .before .r .given .1) (c .match2 .keys3)
+type-of-returns-4 t c = typed-element _ _ _ _ _ (sym (c .before .before .before .before .before .before .read .ensures) ∙ c .before .before .before .before .r .given .1) _ _ (c .before .before .match2 .keys3) (c .before .operand-type2 .ensures) (c .read-element-type .ensures)
 
 type-of-returns-5 : (t : ℕ) → type-of-lts.Need-returns-5 (type-of-callees t) (type-of-at t) type-of.Post
-type-of-returns-5 t c = typed-assign _ _ _ _ _ (sym (c .before .before .before .before .before .before .read .ensures) ∙ c .before .before .before .before .r .given .1) _ _ (c .before .before .match2 .keys4) (c .before .operand-type2 .ensures) (c .assign-type .ensures)
+type-of-returns-5 t c = typed-skip _ _ _ _ _ (sym (c .before .before .before .before .read .ensures) ∙ c .before .before .r .given .1) (c .match2 .keys4)
 
 type-of-returns-6 : (t : ℕ) → type-of-lts.Need-returns-6 (type-of-callees t) (type-of-at t) type-of.Post
-type-of-returns-6 t c = typed-external _ _ _ _ _ (sym (c .before .before .before .before .before .before .before .before .before .before .read .ensures) ∙ c .before .before .before .before .before .before .before .before .r .given .1) _ _ _ _ _ (c .before .before .before .before .before .before .match2 .keys5) (c .before .before .before .before .before .operand-type3 .ensures) (c .before .before .before .before .operand-type4 .ensures) (c .before .before .name-range .ensures .0) (c .before .data-match .ensures) (c .external-type .ensures)
+type-of-returns-6 t c = typed-assign _ _ _ _ _ (sym (c .before .before .before .before .before .before .read .ensures) ∙ c .before .before .before .before .r .given .1) _ _ (c .before .before .match2 .keys5) (c .before .operand-type3 .ensures) (c .assign-type .ensures)
 
 type-of-returns-7 : (t : ℕ) → type-of-lts.Need-returns-7 (type-of-callees t) (type-of-at t) type-of.Post
-type-of-returns-7 t c = typed-internal _ _ _ _ _ (sym (c .before .before .before .before .before .before .before .before .read .ensures) ∙ c .before .before .before .before .before .before .r .given .1) _ _ _ (c .before .before .before .before .match2 .keys6) (c .before .before .name-range2 .ensures .0) (c .before .data-match2 .ensures) (c .internal-type .ensures)
+type-of-returns-7 t c = typed-external _ _ _ _ _ (sym (c .before .before .before .before .before .before .before .before .before .before .read .ensures) ∙ c .before .before .before .before .before .before .before .before .r .given .1) _ _ _ _ _ (c .before .before .before .before .before .before .match2 .keys6) (c .before .before .before .before .before .operand-type4 .ensures) (c .before .before .before .before .operand-type5 .ensures) (c .before .before .name-range .ensures .0) (c .before .data-match .ensures) (c .external-type .ensures)
 
 type-of-returns-8 : (t : ℕ) → type-of-lts.Need-returns-8 (type-of-callees t) (type-of-at t) type-of.Post
-type-of-returns-8 t c = typed-call _ _ _ _ _ (sym (c .before .before .before .before .before .before .before .read .ensures) ∙ c .before .before .before .before .before .r .given .1) _ _ _ (c .before .before .before .match2 .keys7) (c .before .before .called-range .ensures .0) (c .before .data-match3 .ensures) (c .call-type .ensures)
+type-of-returns-8 t c = typed-internal _ _ _ _ _ (sym (c .before .before .before .before .before .before .before .before .read .ensures) ∙ c .before .before .before .before .before .before .r .given .1) _ _ _ (c .before .before .before .before .match2 .keys7) (c .before .before .name-range2 .ensures .0) (c .before .data-match2 .ensures) (c .internal-type .ensures)
 
 type-of-returns-9 : (t : ℕ) → type-of-lts.Need-returns-9 (type-of-callees t) (type-of-at t) type-of.Post
-type-of-returns-9 t c = typed-choice _ _ _ _ _ (sym (c .before .before .before .before .before .before .before .before .read .ensures) ∙ c .before .before .before .before .before .before .r .given .1) _ _ _ _ (c .before .before .before .before .match2 .keys8) (c .before .before .before .operand-type5 .ensures) (c .before .before .operand-type6 .ensures) (c .before .operand-type7 .ensures) (c .choice-type .ensures)
+type-of-returns-9 t c = typed-call _ _ _ _ _ (sym (c .before .before .before .before .before .before .before .read .ensures) ∙ c .before .before .before .before .before .r .given .1) _ _ _ (c .before .before .before .match2 .keys8) (c .before .before .called-range .ensures .0) (c .before .data-match3 .ensures) (c .call-type .ensures)
 
 type-of-returns-10 : (t : ℕ) → type-of-lts.Need-returns-10 (type-of-callees t) (type-of-at t) type-of.Post
-type-of-returns-10 t c = typed-loop _ _ _ _ _ (sym (c .before .before .before .before .before .before .before .read .ensures) ∙ c .before .before .before .before .before .r .given .1) _ _ _ (c .before .before .before .match2 .keys9) (c .before .before .operand-type8 .ensures) (c .before .operand-type9 .ensures) (c .loop-type .ensures)
+type-of-returns-10 t c = typed-choice _ _ _ _ _ (sym (c .before .before .before .before .before .before .before .before .read .ensures) ∙ c .before .before .before .before .before .before .r .given .1) _ _ _ _ (c .before .before .before .before .match2 .keys9) (c .before .before .before .operand-type6 .ensures) (c .before .before .operand-type7 .ensures) (c .before .operand-type8 .ensures) (c .choice-type .ensures)
 
 type-of-returns-11 : (t : ℕ) → type-of-lts.Need-returns-11 (type-of-callees t) (type-of-at t) type-of.Post
-type-of-returns-11 t c = typed-sequence _ _ _ _ _ (sym (c .before .before .before .before .before .before .before .read .ensures) ∙ c .before .before .before .before .before .r .given .1) _ _ _ (c .before .before .before .match2 .keys10) (c .before .before .operand-type10 .ensures) (c .before .operand-type11 .ensures) (c .sequence-type .ensures)
+type-of-returns-11 t c = typed-loop _ _ _ _ _ (sym (c .before .before .before .before .before .before .before .read .ensures) ∙ c .before .before .before .before .before .r .given .1) _ _ _ (c .before .before .before .match2 .keys10) (c .before .before .operand-type9 .ensures) (c .before .operand-type10 .ensures) (c .loop-type .ensures)
 
 type-of-returns-12 : (t : ℕ) → type-of-lts.Need-returns-12 (type-of-callees t) (type-of-at t) type-of.Post
-type-of-returns-12 t c = typed-literal _ _ _ _ _ (sym (c .before .before .before .before .before .before .before .read .ensures) ∙ c .before .before .before .before .before .r .given .1) _ (c .before .before .if1 .left) (c .before .if2 .taken) (c .literal-type .ensures)
+type-of-returns-12 t c = typed-sequence _ _ _ _ _ (sym (c .before .before .before .before .before .before .before .read .ensures) ∙ c .before .before .before .before .before .r .given .1) _ _ _ (c .before .before .before .match2 .keys11) (c .before .before .operand-type11 .ensures) (c .before .operand-type12 .ensures) (c .sequence-type .ensures)
 
 type-of-returns-13 : (t : ℕ) → type-of-lts.Need-returns-13 (type-of-callees t) (type-of-at t) type-of.Post
-type-of-returns-13 t c = typed-binary _ _ _ _ _ (sym (c .before .before .before .before .before .before .before .before .before .before .read .ensures) ∙ c .before .before .before .before .before .before .before .before .r .given .1) _ _ _ (c .before .before .before .before .if2 .left) (c .before .before .before .before .before .before .match2 .rest .0 .0 .0 .0 .0 .0 .0 .0 .0 .1) (c .before .before .before .before .before .before .match2 .rest .0 .0 .0 .0 .0 .0 .0 .0 .1) (c .before .before .before .if3 .taken) (c .before .before .operand-type12 .ensures) (c .before .operand-type13 .ensures) (c .binary-type .ensures)
+type-of-returns-13 t c = typed-assigned _ _ _ _ _ (sym (c .before .before .before .before .before .before .before .read .ensures) ∙ c .before .before .before .before .before .r .given .1) _ _ _ (c .before .before .before .match2 .keys12) (c .before .before .operand-type13 .ensures) (c .before .operand-type14 .ensures) (c .assign-element-type .ensures)
 
 type-of-returns-14 : (t : ℕ) → type-of-lts.Need-returns-14 (type-of-callees t) (type-of-at t) type-of.Post
-type-of-returns-14 t c = typed-clock _ _ _ _ _ (sym (c .before .before .before .before .before .before .before .before .before .read .ensures) ∙ c .before .before .before .before .before .before .before .r .given .1) _ (c .before .before .if3 .left) (c .before .if4 .taken) (c .clock-type .ensures)
+type-of-returns-14 t c = typed-literal _ _ _ _ _ (sym (c .before .before .before .before .before .before .before .read .ensures) ∙ c .before .before .before .before .before .r .given .1) _ (c .before .before .if1 .left) (c .before .if2 .taken) (c .literal-type .ensures)
 
 type-of-returns-15 : (t : ℕ) → type-of-lts.Need-returns-15 (type-of-callees t) (type-of-at t) type-of.Post
-type-of-returns-15 t c = typed-arm _ _ _ _ _ (sym (c .before .before .before .before .before .before .before .before .before .before .before .before .before .before .before .read .ensures) ∙ c .before .before .before .before .before .before .before .before .before .before .before .before .before .r .given .1) _ _ _ _ (c .before .before .before .before .before .before .if5 .left) (c .before .before .before .before .before .before .before .before .before .before .before .match2 .rest .0 .0 .0 .0 .0 .0 .0 .1) (c .before .before .before .before .before .before .before .before .before .before .before .match2 .rest .0 .0 .0 .0 .0 .0 .1) (c .before .before .before .before .before .before .before .before .before .before .before .match2 .rest .0 .0 .0 .0 .0 .1) (c .before .before .before .before .before .before .before .before .before .before .before .match2 .rest .0 .0 .0 .0 .1) (c .before .before .before .before .before .if6 .taken) (c .before .before .before .before .operand-type14 .ensures) (c .before .before .name-range3 .ensures .0) (c .before .data-match4 .ensures) (c .arm-type .ensures)
+type-of-returns-15 t c = typed-binary _ _ _ _ _ (sym (c .before .before .before .before .before .before .before .before .before .before .read .ensures) ∙ c .before .before .before .before .before .before .before .before .r .given .1) _ _ _ (c .before .before .before .before .if2 .left) (c .before .before .before .before .before .before .match2 .rest .0 .0 .0 .0 .0 .0 .0 .0 .0 .0 .0 .1) (c .before .before .before .before .before .before .match2 .rest .0 .0 .0 .0 .0 .0 .0 .0 .0 .0 .1) (c .before .before .before .if3 .taken) (c .before .before .operand-type15 .ensures) (c .before .operand-type16 .ensures) (c .binary-type .ensures)
 
 type-of-returns-16 : (t : ℕ) → type-of-lts.Need-returns-16 (type-of-callees t) (type-of-at t) type-of.Post
-type-of-returns-16 t c = typed-act _ _ _ _ _ (sym (c .before .before .before .before .before .before .before .before .before .before .before .before .read .ensures) ∙ c .before .before .before .before .before .before .before .before .before .before .r .given .1) _ (c .before .before .if6 .left) (c .before .if7 .taken) (c .clock-act-type .ensures)
+type-of-returns-16 t c = typed-clock _ _ _ _ _ (sym (c .before .before .before .before .before .before .before .before .before .read .ensures) ∙ c .before .before .before .before .before .before .before .r .given .1) _ (c .before .before .if3 .left) (c .before .if4 .taken) (c .clock-type .ensures)
 
 type-of-returns-17 : (t : ℕ) → type-of-lts.Need-returns-17 (type-of-callees t) (type-of-at t) type-of.Post
-type-of-returns-17 t c = typed-zero _ _ _ _ _ (sym (c .before .before .before .before .before .read .ensures) ∙ c .before .before .before .r .given .1) (c .if1 .taken)
+type-of-returns-17 t c = typed-arm _ _ _ _ _ (sym (c .before .before .before .before .before .before .before .before .before .before .before .before .before .before .before .read .ensures) ∙ c .before .before .before .before .before .before .before .before .before .before .before .before .before .r .given .1) _ _ _ _ (c .before .before .before .before .before .before .if5 .left) (c .before .before .before .before .before .before .before .before .before .before .before .match2 .rest .0 .0 .0 .0 .0 .0 .0 .0 .1) (c .before .before .before .before .before .before .before .before .before .before .before .match2 .rest .0 .0 .0 .0 .0 .0 .0 .1) (c .before .before .before .before .before .before .before .before .before .before .before .match2 .rest .0 .0 .0 .0 .0 .0 .1) (c .before .before .before .before .before .before .before .before .before .before .before .match2 .rest .0 .0 .0 .0 .0 .1) (c .before .before .before .before .before .if6 .taken) (c .before .before .before .before .operand-type17 .ensures) (c .before .before .name-range3 .ensures .0) (c .before .data-match4 .ensures) (c .arm-type .ensures)
 
 type-of-returns-18 : (t : ℕ) → type-of-lts.Need-returns-18 (type-of-callees t) (type-of-at t) type-of.Post
-type-of-returns-18 t c = typed-gap _ _ _ _ _ (sym (c .before .before .before .before .before .before .before .before .before .read .ensures) ∙ c .before .before .before .before .before .before .before .r .given .1) (c .before .if4 .left) (c .if5 .taken)
+type-of-returns-18 t c = typed-act _ _ _ _ _ (sym (c .before .before .before .before .before .before .before .before .before .before .before .before .read .ensures) ∙ c .before .before .before .before .before .before .before .before .before .before .r .given .1) _ (c .before .before .if6 .left) (c .before .if7 .taken) (c .clock-act-type .ensures)
 
 type-of-returns-19 : (t : ℕ) → type-of-lts.Need-returns-19 (type-of-callees t) (type-of-at t) type-of.Post
-type-of-returns-19 t c = typed-past _ _ _ _ _ (sym (c .before .before .before .before .before .before .before .before .before .before .before .read .ensures) ∙ c .before .before .before .before .before .before .before .before .before .r .given .1) (c .if7 .left) (c .before .before .before .before .before .before .before .match2 .rest .0 .0 .0 .1) (c .before .before .before .before .before .before .before .match2 .rest .0 .0 .1) (c .before .before .before .before .before .before .before .match2 .rest .0 .1) (c .before .before .before .before .before .before .before .match2 .rest .1)
+type-of-returns-19 t c = typed-zero _ _ _ _ _ (sym (c .before .before .before .before .before .read .ensures) ∙ c .before .before .before .r .given .1) (c .if1 .taken)
+
+type-of-returns-20 : (t : ℕ) → type-of-lts.Need-returns-20 (type-of-callees t) (type-of-at t) type-of.Post
+type-of-returns-20 t c = typed-gap _ _ _ _ _ (sym (c .before .before .before .before .before .before .before .before .before .read .ensures) ∙ c .before .before .before .before .before .before .before .r .given .1) (c .before .if4 .left) (c .before .before .before .before .before .match2 .rest .0 .0 .0 .0 .0 .0 .0 .0 .0 .1) (c .if5 .taken)
+
+type-of-returns-21 : (t : ℕ) → type-of-lts.Need-returns-21 (type-of-callees t) (type-of-at t) type-of.Post
+type-of-returns-21 t c = typed-past _ _ _ _ _ (sym (c .before .before .before .before .before .before .before .before .before .before .before .read .ensures) ∙ c .before .before .before .before .before .before .before .before .before .r .given .1) (c .if7 .left) (c .before .before .before .before .before .before .before .match2 .rest .0 .0 .0 .0 .1) (c .before .before .before .before .before .before .before .match2 .rest .0 .0 .0 .1) (c .before .before .before .before .before .before .before .match2 .rest .0 .0 .1) (c .before .before .before .before .before .before .before .match2 .rest .0 .1) (c .before .before .before .before .before .before .before .match2 .rest .1)
 
 pub +data-match+operand-type+type-of-spec : {M : Type 1} → statement M
 +data-match+operand-type+type-of-spec =
@@ -420,9 +447,11 @@ pub +data-match+operand-type+type-of-spec : {M : Type 1} → statement M
     (type-of-operand-type-requires t)
     (type-of-not-type-requires t)
     (type-of-operand-type-requires-2 t)
-    (type-of-assign-type-requires t)
+    (type-of-read-element-type-requires t)
     (type-of-operand-type-requires-3 t)
+    (type-of-assign-type-requires t)
     (type-of-operand-type-requires-4 t)
+    (type-of-operand-type-requires-5 t)
     (type-of-cast-name-range t)
     (type-of-name-range-requires t)
     (type-of-data-match-requires t)
@@ -434,22 +463,25 @@ pub +data-match+operand-type+type-of-spec : {M : Type 1} → statement M
     (type-of-called-range-requires t)
     (type-of-data-match-requires-3 t)
     (type-of-call-type-requires t)
-    (type-of-operand-type-requires-5 t)
     (type-of-operand-type-requires-6 t)
     (type-of-operand-type-requires-7 t)
-    (type-of-choice-type-requires t)
     (type-of-operand-type-requires-8 t)
+    (type-of-choice-type-requires t)
     (type-of-operand-type-requires-9 t)
-    (type-of-loop-type-requires t)
     (type-of-operand-type-requires-10 t)
+    (type-of-loop-type-requires t)
     (type-of-operand-type-requires-11 t)
-    (type-of-sequence-type-requires t)
-    (type-of-literal-type-requires t)
     (type-of-operand-type-requires-12 t)
+    (type-of-sequence-type-requires t)
     (type-of-operand-type-requires-13 t)
+    (type-of-operand-type-requires-14 t)
+    (type-of-assign-element-type-requires t)
+    (type-of-literal-type-requires t)
+    (type-of-operand-type-requires-15 t)
+    (type-of-operand-type-requires-16 t)
     (type-of-binary-type-requires t)
     (type-of-clock-type-requires t)
-    (type-of-operand-type-requires-14 t)
+    (type-of-operand-type-requires-17 t)
     (type-of-cast-name-range-3 t)
     (type-of-name-range-requires-3 t)
     (type-of-data-match-requires-4 t)
@@ -473,3 +505,5 @@ pub +data-match+operand-type+type-of-spec : {M : Type 1} → statement M
     (type-of-returns-17 t)
     (type-of-returns-18 t)
     (type-of-returns-19 t)
+    (type-of-returns-20 t)
+    (type-of-returns-21 t)

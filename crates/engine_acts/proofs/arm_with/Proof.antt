@@ -1,18 +1,16 @@
-use Prim.Native.Nat.{_+_, _*_, _<_, _≤_}
+use Prim.Native.Nat.{_<_}
 use mathlib.Core.Path.{refl, sym, ap, _∙_}
 use native.Mathlib.Omega.{arith}
-use lib.ListN.{getD, length}
 use lib.IntN.{pos}
-use borrow.Author.Needs.{needs}
 use Rattle.engine_store.proofs.Laws.{given}
 use Rattle.machine.specs.declared.Ran.the-variants.{Done}
 use Rattle.machine.specs.Run.{world}
 use Rattle.engine_ints.proofs.Range.{back}
-use Rattle.machine.specs.State.{cellAt}
 use Rattle.sheet_rules.specs.Types.{clockOf}
 use Rattle.engine_ready.proofs.Statements.{arm-data}
 use Rattle.engine_sending.proofs.Sends.{four-data, data-given, on-given, data-ends-refused, data-ends-stuck}
-use Rattle.engine_acts.proofs.Acts.{state-short, armed-not, armed-so, value-back, arm-cell}
+use Rattle.engine_acts.proofs.Acts.{armed-not, armed-so, value-back, arm-lies}
+use borrow.Author.Needs.{needs}
 use Rattle.engine_acts.proofs.arm_with.Statement.{statement}
 use Rattle.engine_acts.proofs.arm_with.Tie as tie
 
@@ -34,29 +32,20 @@ same-length c = search needs
 returns : tie.Need-returns
 returns c = let d = data-given _ _ (sym (c .before .before .o .given .1) ∙ c .before .before .before .before .gather .ensures .1) in armed-not _ (clockOf (c .before .before .before .before .before .before .before .before .before .before .args .r .f0)) _ (c .before .before .before .before .before .before .before .before .before .before .args .r .f3) (d .0) _ _ _ (rw (back (c .before .before .before .before .before .before .before .before .before .before .fits .period)) at (c .if1 .taken)) ∙ on-given _ _ _ _ _ _ (d .1)
 
-element-copy-out-put-clock : tie.Need-element-copy-out-put-clock
-element-copy-out-put-clock c = search needs
+cast-first-word : tie.Need-cast-first-word
+cast-first-word c = search needs
 
-cast-put-clock : tie.Need-cast-put-clock
-cast-put-clock c = search needs
-
-add-put-clock : tie.Need-add-put-clock
-add-put-clock c = let h : 8 + 8 * (getD (c .before .before .before .before .before .before .before .before .before .before .before .before .before .args .context .now) 1 0 + c .before .before .before .before .before .before .before .before .before .before .before .before .before .args .r .f1) + 8 ≤ length (c .before .before .before .before .before .before .before .before .before .before .before .before .before .args .st .now) = arm-cell _ _ _ _ _ _ (c .before .before .before .before .before .before .before .before .before .before .before .before .before .pre .1) in let k : length (c .before .before .before .before .before .before .before .before .before .before .before .before .before .args .st .now) ≤ 5128 = state-short _ _ (c .before .before .before .before .before .before .before .before .before .before .before .before .before .pre .1 .ready .running .passed) (c .before .before .before .before .before .before .before .before .before .before .before .before .before .pre .1 .ready .state) in let g : getD (c .before .before .before .before .before .before .before .before .before .before .before .before .before .args .context .now) 1 0 + c .before .before .before .before .before .before .before .before .before .before .before .before .before .args .r .f1 < 18446744073709551616 = omega arith in record { fits = g }
-
-mul-put-clock : tie.Need-mul-put-clock
-mul-put-clock c = let h : 8 + 8 * (getD (c .before .before .before .before .before .before .before .before .before .before .before .before .before .args .context .now) 1 0 + c .before .before .before .before .before .before .before .before .before .before .before .before .before .args .r .f1) + 8 ≤ length (c .before .before .before .before .before .before .before .before .before .before .before .before .before .args .st .now) = arm-cell _ _ _ _ _ _ (c .before .before .before .before .before .before .before .before .before .before .before .before .before .pre .1) in let k : length (c .before .before .before .before .before .before .before .before .before .before .before .before .before .args .st .now) ≤ 5128 = state-short _ _ (c .before .before .before .before .before .before .before .before .before .before .before .before .before .pre .1 .ready .running .passed) (c .before .before .before .before .before .before .before .before .before .before .before .before .before .pre .1 .ready .state) in let g : 8 * (getD (c .before .before .before .before .before .before .before .before .before .before .before .before .before .args .context .now) 1 0 + c .before .before .before .before .before .before .before .before .before .before .before .before .before .args .r .f1) < 18446744073709551616 = omega arith in record { fits = g }
-
-add-put-clock-2 : tie.Need-add-put-clock-2
-add-put-clock-2 c = let h : 8 + 8 * (getD (c .before .before .before .before .before .before .before .before .before .before .before .before .before .args .context .now) 1 0 + c .before .before .before .before .before .before .before .before .before .before .before .before .before .args .r .f1) + 8 ≤ length (c .before .before .before .before .before .before .before .before .before .before .before .before .before .args .st .now) = arm-cell _ _ _ _ _ _ (c .before .before .before .before .before .before .before .before .before .before .before .before .before .pre .1) in let k : length (c .before .before .before .before .before .before .before .before .before .before .before .before .before .args .st .now) ≤ 5128 = state-short _ _ (c .before .before .before .before .before .before .before .before .before .before .before .before .before .pre .1 .ready .running .passed) (c .before .before .before .before .before .before .before .before .before .before .before .before .before .pre .1 .ready .state) in let g : 8 + 8 * (getD (c .before .before .before .before .before .before .before .before .before .before .before .before .before .args .context .now) 1 0 + c .before .before .before .before .before .before .before .before .before .before .before .before .before .args .r .f1) < 18446744073709551616 = omega arith in record { fits = g }
+first-word-requires : tie.Need-first-word-requires
+first-word-requires c κs = let l = arm-lies _ _ _ _ _ _ (c .before .before .before .before .before .before .before .before .before .before .before .before .pre .1) in (l .whole, l .number, let h = l .inside in let k = l .short in omega arith)
 
 first-value-requires : tie.Need-first-value-requires
 first-value-requires c κs = search needs
 
-cast-put-clock-2 : tie.Need-cast-put-clock-2
-cast-put-clock-2 c = search needs
+cast-put-clock : tie.Need-cast-put-clock
+cast-put-clock c = search needs
 
 put-clock-requires : tie.Need-put-clock-requires
-put-clock-requires c κs = arm-cell _ _ _ _ _ _ (c .before .before .before .before .before .before .before .before .before .before .before .before .before .before .before .before .pre .1)
+put-clock-requires c κs = let l = arm-lies _ _ _ _ _ _ (c .before .before .before .before .before .before .before .before .before .before .before .before .before .before .before .before .pre .1) in let h = l .inside in let e = c .before .before .before .first-word .ensures in omega arith
 
 enum-known-o-2 : tie.Need-enum-known-o-2
 enum-known-o-2 c = search needs
@@ -68,8 +57,7 @@ same-length-2 : tie.Need-same-length-2
 same-length-2 c = search needs
 
 returns-2 : tie.Need-returns-2
-unfolding cellAt
-returns-2 c = let d = data-given _ _ (sym (c .before .before .before .before .before .before .before .before .before .before .o .given .1) ∙ c .before .before .before .before .before .before .before .before .before .before .before .before .gather .ensures .1) in let f = c .before .before .before .before .before .before .before .before .before .before .before .before .gather .ensures .2 _ _ (d .1) in let k : c .before .before .before .before .before .before .before .before .before .before .before .before .before .before .before .before .before .before .args .r .f3 < 65536 = c .before .before .before .struct-known4 .given .1 .1 .1 .0 .fits in ap (λ st. world (Done (c .before .before .before .before .before .before .before .before .before .before .o .given .0 .0)) st (c .before .before .before .before .before .before .before .before .before .before .before .before .before .before .before .before .before .before .args .lo .now)) (rw (value-back (clockOf (c .before .before .before .before .before .before .before .before .before .before .before .before .before .before .before .before .before .before .args .r .f0)) _ _ (c .before .before .before .before .before .before .before .before .before .before .before .before .before .before .before .before .before .before .fits .period) (rw (back (c .before .before .before .before .before .before .before .before .before .before .before .before .before .before .before .before .before .before .fits .period)) at (c .before .before .before .before .first-value .ensures)), back (c .before .before .before .before .before .before .before .before .before .before .before .before .before .before .before .before .before .before .fits .period), given (pos (c .before .before .before .before .before .before .before .before .before .before .before .before .before .before .before .before .before .before .args .r .f3)) (omega arith), f) at (c .before .put-clock .ensures)) ∙ armed-so _ (clockOf (c .before .before .before .before .before .before .before .before .before .before .before .before .before .before .before .before .before .before .args .r .f0)) _ (c .before .before .before .before .before .before .before .before .before .before .before .before .before .before .before .before .before .before .args .r .f3) (d .0) _ _ _ (rw (back (c .before .before .before .before .before .before .before .before .before .before .before .before .before .before .before .before .before .before .fits .period)) at (c .before .before .before .before .before .before .before .before .if1 .left)) ∙ on-given _ _ _ _ _ _ (d .1)
+returns-2 c = let d = data-given _ _ (sym (c .before .before .before .before .before .before .before .before .before .before .o .given .1) ∙ c .before .before .before .before .before .before .before .before .before .before .before .before .gather .ensures .1) in let f = c .before .before .before .before .before .before .before .before .before .before .before .before .gather .ensures .2 _ _ (d .1) in let k : c .before .before .before .before .before .before .before .before .before .before .before .before .before .before .before .before .before .before .args .r .f3 < 65536 = c .before .before .before .struct-known4 .given .1 .1 .1 .0 .fits in ap (λ st. world (Done (c .before .before .before .before .before .before .before .before .before .before .o .given .0 .0)) st (c .before .before .before .before .before .before .before .before .before .before .before .before .before .before .before .before .before .before .args .lo .now)) (rw (value-back (clockOf (c .before .before .before .before .before .before .before .before .before .before .before .before .before .before .before .before .before .before .args .r .f0)) _ _ (c .before .before .before .before .before .before .before .before .before .before .before .before .before .before .before .before .before .before .fits .period) (rw (back (c .before .before .before .before .before .before .before .before .before .before .before .before .before .before .before .before .before .before .fits .period)) at (c .before .before .before .before .first-value .ensures)), back (c .before .before .before .before .before .before .before .before .before .before .before .before .before .before .before .before .before .before .fits .period), given (pos (c .before .before .before .before .before .before .before .before .before .before .before .before .before .before .before .before .before .before .args .r .f3)) (omega arith), f) at (rw (c .before .before .before .before .before .first-word .ensures) at (c .before .put-clock .ensures))) ∙ armed-so _ (clockOf (c .before .before .before .before .before .before .before .before .before .before .before .before .before .before .before .before .before .before .args .r .f0)) _ (c .before .before .before .before .before .before .before .before .before .before .before .before .before .before .before .before .before .before .args .r .f3) (d .0) _ _ _ (rw (back (c .before .before .before .before .before .before .before .before .before .before .before .before .before .before .before .before .before .before .fits .period)) at (c .before .before .before .before .before .before .before .before .if1 .left)) ∙ on-given _ _ _ _ _ _ (d .1)
 
 same-length-3 : tie.Need-same-length-3
 same-length-3 c = search needs
@@ -93,13 +81,10 @@ arm-with-spec =
     enum-known-o
     same-length
     returns
-    element-copy-out-put-clock
-    cast-put-clock
-    add-put-clock
-    mul-put-clock
-    add-put-clock-2
+    cast-first-word
+    first-word-requires
     first-value-requires
-    cast-put-clock-2
+    cast-put-clock
     put-clock-requires
     enum-known-o-2
     enum-told

@@ -1,7 +1,6 @@
 use mathlib.Core.Path.{sym, _∙_}
 use borrow.Author.Needs.{needs}
 use Rattle.engine_store.proofs.Laws.{given}
-use Rattle.engine_ready.specs.Ready.{contextAt}
 use Rattle.engine_ready.proofs.Statements.{period-operand, arm-name, arm-word}
 use Rattle.engine_sending.proofs.Sends.{on-word, on-refused, on-stuck, no-record}
 use Rattle.engine_acts.proofs.arming.Statement.{statement}
@@ -44,8 +43,7 @@ same-length : tie.Need-same-length
 same-length c = search needs
 
 returns-2 : tie.Need-returns-2
-unfolding contextAt
-returns-2 c = λ depth. (rw (given (c .before .before .before .before .x .given .0 .0) (c .before .before .before .known-told2 .given .0 .1), c .before .before .before .before .before .before .before .before .before .before .before .before .before .before .before .pre .1 .ready .running .cell) at (c .before .arm-with .ensures)) ∙ on-word _ _ _ _ _ _ (sym (c .before .before .before .before .x .given .1) ∙ c .before .before .before .before .before .before .eval .ensures) ∙ sym (arm-word _ _ _ _ (c .before .before .before .before .before .before .before .before .before .before .before .before .before .before .before .pre .1 .ready) _ _ (c .before .before .before .before .before .before .before .before .before .before .before .before .before .before .before .pre .1 .there) (c .before .before .before .before .before .before .before .before .before .before .before .before .before .before .before .pre .1 .statement) (c .before .before .before .before .before .before .before .before .before .before .before .before .before .before .before .pre .1 .form) _ (sym (c .before .before .before .before .before .before .before .before .before .before .before .before .read .ensures) ∙ c .before .before .before .before .before .before .before .before .before .before .a .given .1) depth _)
+returns-2 c = λ depth. (rw (given (c .before .before .before .before .x .given .0 .0) (c .before .before .before .known-told2 .given .0 .1)) at (c .before .arm-with .ensures)) ∙ on-word _ _ _ _ _ _ (sym (c .before .before .before .before .x .given .1) ∙ c .before .before .before .before .before .before .eval .ensures) ∙ sym (arm-word _ _ _ _ (c .before .before .before .before .before .before .before .before .before .before .before .before .before .before .before .pre .1 .ready) _ _ (c .before .before .before .before .before .before .before .before .before .before .before .before .before .before .before .pre .1 .there) (c .before .before .before .before .before .before .before .before .before .before .before .before .before .before .before .pre .1 .statement) (c .before .before .before .before .before .before .before .before .before .before .before .before .before .before .before .pre .1 .form) _ (sym (c .before .before .before .before .before .before .before .before .before .before .before .before .read .ensures) ∙ c .before .before .before .before .before .before .before .before .before .before .a .given .1) depth _)
 
 same-length-2 : tie.Need-same-length-2
 same-length-2 c = search needs

@@ -4,7 +4,7 @@ use Rattle.engine_store.proofs.Laws.{given}
 use Rattle.engine_ready.specs.Ready.{contextAt}
 use Rattle.engine_ready.proofs.Statements.{assign-operand, assign-word}
 use Rattle.engine_sending.proofs.Sends.{on-word, on-refused, on-stuck}
-use Rattle.engine_acts.proofs.Acts.{assign-cell, assign-local}
+use Rattle.engine_acts.proofs.Acts.{assign-lies, assign-at, assign-local}
 use Rattle.engine_acts.proofs.assign.Statement.{statement}
 use Rattle.engine_acts.proofs.assign.Tie as tie
 
@@ -18,7 +18,7 @@ enum-known-x : tie.Need-enum-known-x
 enum-known-x c = search needs
 
 put-requires : tie.Need-put-requires
-put-requires c κs = (c .before .before .before .before .before .before .before .before .before .before .pre .1 .ready .locals .sixteen, assign-cell _ _ _ _ _ _ (c .before .before .before .before .before .before .before .before .before .before .pre .1), assign-local _ _ _ _ _ _ (c .before .before .before .before .before .before .before .before .before .before .pre .1))
+put-requires c κs = (c .before .before .before .before .before .before .before .before .before .before .pre .1 .ready .locals .sixteen, assign-lies _ _ _ _ _ _ (c .before .before .before .before .before .before .before .before .before .before .pre .1), assign-local _ _ _ _ _ _ (c .before .before .before .before .before .before .before .before .before .before .pre .1))
 
 enum-known-x-2 : tie.Need-enum-known-x-2
 enum-known-x-2 c = search needs
@@ -30,8 +30,7 @@ same-length : tie.Need-same-length
 same-length c = search needs
 
 returns : tie.Need-returns
-unfolding contextAt
-returns c = (c .before .put .ensures .0, λ depth. (rw (given (c .before .before .before .before .before .x .given .0 .0) (c .before .before .before .before .known-told .given .0 .1)) at (c .before .put .ensures .1 (c .before .before .before .before .before .before .before .before .before .before .before .before .args .sheet .now) (contextAt (c .before .before .before .before .before .before .before .before .before .before .before .before .args .sheet .now) (c .before .before .before .before .before .before .before .before .before .before .before .before .args .context .now)) (c .before .before .before .before .before .before .before .before .before .before .before .before .pre .1 .ready .running .cell))) ∙ on-word _ _ _ _ _ _ (sym (c .before .before .before .before .before .x .given .1) ∙ c .before .before .before .before .before .before .before .eval .ensures) ∙ sym (assign-word _ _ _ _ (c .before .before .before .before .before .before .before .before .before .before .before .before .pre .1 .ready) _ _ (c .before .before .before .before .before .before .before .before .before .before .before .before .pre .1 .there) (c .before .before .before .before .before .before .before .before .before .before .before .before .pre .1 .statement) (c .before .before .before .before .before .before .before .before .before .before .before .before .pre .1 .form) depth _))
+returns c = (c .before .put .ensures .0, λ depth. (rw (given (c .before .before .before .before .before .x .given .0 .0) (c .before .before .before .before .known-told .given .0 .1)) at (c .before .put .ensures .1 (c .before .before .before .before .before .before .before .before .before .before .before .before .args .sheet .now) (contextAt (c .before .before .before .before .before .before .before .before .before .before .before .before .args .sheet .now) (c .before .before .before .before .before .before .before .before .before .before .before .before .args .context .now)) (assign-at _ _ _ _ _ _ (c .before .before .before .before .before .before .before .before .before .before .before .before .pre .1)))) ∙ on-word _ _ _ _ _ _ (sym (c .before .before .before .before .before .x .given .1) ∙ c .before .before .before .before .before .before .before .eval .ensures) ∙ sym (assign-word _ _ _ _ (c .before .before .before .before .before .before .before .before .before .before .before .before .pre .1 .ready) _ _ (c .before .before .before .before .before .before .before .before .before .before .before .before .pre .1 .there) (c .before .before .before .before .before .before .before .before .before .before .before .before .pre .1 .statement) (c .before .before .before .before .before .before .before .before .before .before .before .before .pre .1 .form) depth _))
 
 same-length-2 : tie.Need-same-length-2
 same-length-2 c = search needs

@@ -1,31 +1,22 @@
 use native.Mathlib.Omega.{arith}
 use lib.ListN.{length-set}
-use borrow.Author.Needs.{needs}
 use Rattle.engine_ints.proofs.Range.{back}
 use Rattle.engine_acts.proofs.Acts.{to-chart, to-body, to-none}
+use borrow.Author.Needs.{needs}
 use Rattle.engine_acts.proofs.put.Statement.{statement}
 use Rattle.engine_acts.proofs.put.Tie as tie
 
-element-copy-out-z : tie.Need-element-copy-out-z
-element-copy-out-z c = search needs
-
-add-z : tie.Need-add-z
-add-z c = let h = c .before .before .pre .1 (c .before .match .keys1) in record { fits = omega arith }
+first-word-requires : tie.Need-first-word-requires
+first-word-requires c κs = let l = (c .before .pre .1 (c .match .keys1)) in (l .whole, l .number, let h = l .inside in let k = l .short in omega arith)
 
 mul-z : tie.Need-mul-z
-mul-z c = let h = c .before .before .pre .1 (c .before .match .keys1) in record { fits = omega arith }
-
-add-z-2 : tie.Need-add-z-2
-add-z-2 c = let h = c .before .before .pre .1 (c .before .match .keys1) in record { fits = omega arith }
-
-mul-z-2 : tie.Need-mul-z-2
-mul-z-2 c = let h = c .before .before .pre .1 (c .before .match .keys1) in record { fits = omega arith }
+mul-z c = let l = (c .before .before .pre .1 (c .before .match .keys1)) in let h = l .inside in let k = l .short in let e = c .first-word .ensures in record { fits = omega arith }
 
 slice-set-from-z : tie.Need-slice-set-from-z
-slice-set-from-z c = c .before .before .pre .1 (c .before .match .keys1)
+slice-set-from-z c = let l = (c .before .before .pre .1 (c .before .match .keys1)) in let h = l .inside in let e = c .first-word .ensures in omega arith
 
-mul-z-3 : tie.Need-mul-z-3
-mul-z-3 c = search needs
+mul-z-2 : tie.Need-mul-z-2
+mul-z-2 c = search needs
 
 element-set-from-z : tie.Need-element-set-from-z
 element-set-from-z c = let h = c .before .pre .2 (c .match .keys2) in let q = c .before .pre .0 in omega arith
@@ -34,7 +25,7 @@ same-length : tie.Need-same-length
 same-length c = search needs
 
 returns : tie.Need-returns
-returns c = (c .before .before .pre .0, λ s x e. rw (back (c .before .before .fits .z)) (to-chart s x _ _ _ _ _ _ (c .before .match .keys1) _ e))
+returns c = (c .before .before .pre .0, λ s x e. rw (back (c .before .before .fits .z)) (to-chart s x _ _ _ _ _ _ (c .before .match .keys1) _ _ (c .first-word .ensures) e))
 
 returns-2 : tie.Need-returns-2
 returns-2 c = (simp length-set (c .before .pre .0), λ s x e. rw (back (c .before .fits .z)) (to-body s x _ _ _ _ _ _ (c .match .keys2)))
@@ -46,13 +37,10 @@ pub put-spec : {M : Type 1} → statement M
 put-spec =
     tie.close
     (tie.spec
-    element-copy-out-z
-    add-z
+    first-word-requires
     mul-z
-    add-z-2
-    mul-z-2
     slice-set-from-z
-    mul-z-3
+    mul-z-2
     element-set-from-z
     same-length
     returns

@@ -1,9 +1,9 @@
 use mathlib.Core.Path.{sym, ap, _∙_}
 use native.Mathlib.Omega.{arith}
 use Prim.Native.Nat.{_-_}
-use borrow.Author.Needs.{needs}
 use Rattle.engine_expressions.proofs.Places.{not-absent}
-use Rattle.engine_bodies.proofs.Laws.{externals-is, not-external, few-elements, binding-there, chart-there, body-there, few-parameters, few-variables, ready, root-statement, body-ran}
+use Rattle.engine_bodies.proofs.Laws.{externals-is, not-external, few-elements, binding-there, chart-there, body-there, few-parameters, few-variables, few-cells, ready, root-statement, body-ran}
+use borrow.Author.Needs.{needs}
 use Rattle.engine_bodies.proofs.run_body.Statement.{statement}
 use Rattle.engine_bodies.proofs.run_body.Tie as tie
 
@@ -52,32 +52,35 @@ enum-told-3 c = search needs
 returns-3 : tie.Need-returns-3
 returns-3 c = absurd (not-absent _ _ (body-there _ (c .before .before .before .before .before .before .before .before .before .before .before .before .before .before .pre .1) _ _ _ (c .before .before .before .before .before .before .before .before .before .before .before .before .before .before .pre .3)) (sym (c .before .before .read3 .ensures) ∙ c .enum-told3 .given .1))
 
-first-cell-requires : tie.Need-first-cell-requires
-first-cell-requires c κs = (c .before .before .before .before .before .before .before .before .before .before .before .before .before .before .before .pre .0, (let l = few-elements _ (c .before .before .before .before .before .before .before .before .before .before .before .before .before .before .before .pre .1) _ _ _ (c .before .before .before .before .before .before .before .before .before .before .before .before .before .before .before .pre .3) in omega arith))
+cast-context : tie.Need-cast-context
+cast-context c = search needs
+
+cast-context-2 : tie.Need-cast-context-2
+cast-context-2 c = search needs
+
+cast-context-3 : tie.Need-cast-context-3
+cast-context-3 c = search needs
+
+context-requires : tie.Need-context-requires
+context-requires c κs = ((let l = few-elements _ (c .before .before .before .before .before .before .before .before .before .before .before .before .before .before .before .before .before .before .pre .1) _ _ _ (c .before .before .before .before .before .before .before .before .before .before .before .before .before .before .before .before .before .before .pre .3) in omega arith), few-cells _ (c .before .before .before .before .before .before .before .before .before .before .before .before .before .before .before .before .before .before .pre .1) _ _ _ (c .before .before .before .before .before .before .before .before .before .before .before .before .before .before .before .before .before .before .pre .3) _ (ap (λ x. c .before .before .before .before .before .before .before .before .before .before .before .before .before .before .before .before .before .before .args .e - x) (externals-is _ _ (c .before .before .before .before .before .before .before .before .before .before .before .before .before .before .before .before .field-at .ensures .0))) _ (sym (c .before .before .before .before .before .before .before .before .before .before .before .before .before .before .before .read .ensures) ∙ c .before .before .before .before .before .before .before .before .before .before .before .before .before .binding .given .1) _ _ (sym (c .before .before .before .before .before .before .before .before .before .before .read2 .ensures) ∙ c .before .before .before .before .before .before .before .before .chart .given .1) (sym (c .before .before .before .before .before .before .read3 .ensures) ∙ c .before .before .before .before .body .given .1))
+
+fresh-locals-requires : tie.Need-fresh-locals-requires
+fresh-locals-requires c κs = (c .before .before .before .before .before .before .before .before .before .before .before .before .before .before .before .before .before .before .before .pre .0, few-parameters _ (c .before .before .before .before .before .before .before .before .before .before .before .before .before .before .before .before .before .before .before .pre .1) _ _ _ (c .before .before .before .before .before .before .before .before .before .before .before .before .before .before .before .before .before .before .before .pre .3) _ (ap (λ x. c .before .before .before .before .before .before .before .before .before .before .before .before .before .before .before .before .before .before .before .args .e - x) (externals-is _ _ (c .before .before .before .before .before .before .before .before .before .before .before .before .before .before .before .before .before .field-at .ensures .0))) _ (sym (c .before .before .before .before .before .before .before .before .before .before .before .before .before .before .before .before .read .ensures) ∙ c .before .before .before .before .before .before .before .before .before .before .before .before .before .before .binding .given .1) _ _ (sym (c .before .before .before .before .before .before .before .before .before .before .before .read2 .ensures) ∙ c .before .before .before .before .before .before .before .before .before .chart .given .1) (sym (c .before .before .before .before .before .before .before .read3 .ensures) ∙ c .before .before .before .before .before .body .given .1), few-variables _ (c .before .before .before .before .before .before .before .before .before .before .before .before .before .before .before .before .before .before .before .pre .1) _ _ _ (c .before .before .before .before .before .before .before .before .before .before .before .before .before .before .before .before .before .before .before .pre .3) _ (ap (λ x. c .before .before .before .before .before .before .before .before .before .before .before .before .before .before .before .before .before .before .before .args .e - x) (externals-is _ _ (c .before .before .before .before .before .before .before .before .before .before .before .before .before .before .before .before .before .field-at .ensures .0))) _ (sym (c .before .before .before .before .before .before .before .before .before .before .before .before .before .before .before .before .read .ensures) ∙ c .before .before .before .before .before .before .before .before .before .before .before .before .before .before .binding .given .1) _ _ (sym (c .before .before .before .before .before .before .before .before .before .before .before .read2 .ensures) ∙ c .before .before .before .before .before .before .before .before .before .chart .given .1) (sym (c .before .before .before .before .before .before .before .read3 .ensures) ∙ c .before .before .before .before .before .body .given .1))
+
+limit-requires : tie.Need-limit-requires
+limit-requires c κs = c .before .before .before .before .before .before .before .before .before .before .before .before .before .before .before .before .before .before .before .before .pre .0
 
 cast-run : tie.Need-cast-run
 cast-run c = search needs
 
-cast-t19 : tie.Need-cast-t19
-cast-t19 c = search needs
-
-fresh-locals-requires : tie.Need-fresh-locals-requires
-fresh-locals-requires c κs = (c .before .before .before .before .before .before .before .before .before .before .before .before .before .before .before .before .before .before .pre .0, few-parameters _ (c .before .before .before .before .before .before .before .before .before .before .before .before .before .before .before .before .before .before .pre .1) _ _ _ (c .before .before .before .before .before .before .before .before .before .before .before .before .before .before .before .before .before .before .pre .3) _ (ap (λ x. c .before .before .before .before .before .before .before .before .before .before .before .before .before .before .before .before .before .before .args .e - x) (externals-is _ _ (c .before .before .before .before .before .before .before .before .before .before .before .before .before .before .before .before .field-at .ensures .0))) _ (sym (c .before .before .before .before .before .before .before .before .before .before .before .before .before .before .before .read .ensures) ∙ c .before .before .before .before .before .before .before .before .before .before .before .before .before .binding .given .1) _ _ (sym (c .before .before .before .before .before .before .before .before .before .before .read2 .ensures) ∙ c .before .before .before .before .before .before .before .before .chart .given .1) (sym (c .before .before .before .before .before .before .read3 .ensures) ∙ c .before .before .before .before .body .given .1), few-variables _ (c .before .before .before .before .before .before .before .before .before .before .before .before .before .before .before .before .before .before .pre .1) _ _ _ (c .before .before .before .before .before .before .before .before .before .before .before .before .before .before .before .before .before .before .pre .3) _ (ap (λ x. c .before .before .before .before .before .before .before .before .before .before .before .before .before .before .before .before .before .before .args .e - x) (externals-is _ _ (c .before .before .before .before .before .before .before .before .before .before .before .before .before .before .before .before .field-at .ensures .0))) _ (sym (c .before .before .before .before .before .before .before .before .before .before .before .before .before .before .before .read .ensures) ∙ c .before .before .before .before .before .before .before .before .before .before .before .before .before .binding .given .1) _ _ (sym (c .before .before .before .before .before .before .before .before .before .before .read2 .ensures) ∙ c .before .before .before .before .before .before .before .before .chart .given .1) (sym (c .before .before .before .before .before .before .read3 .ensures) ∙ c .before .before .before .before .body .given .1))
-
-limit-requires : tie.Need-limit-requires
-limit-requires c κs = c .before .before .before .before .before .before .before .before .before .before .before .before .before .before .before .before .before .before .before .pre .0
-
-cast-run-2 : tie.Need-cast-run-2
-cast-run-2 c = search needs
-
 run-requires : tie.Need-run-requires
-run-requires c κs = (c .before .before .before .before .before .before .before .before .before .before .before .before .before .before .before .before .before .before .before .before .before .before .before .before .pre .0, ready _ (c .before .before .before .before .before .before .before .before .before .before .before .before .before .before .before .before .before .before .before .before .before .before .before .before .pre .1) _ _ _ (c .before .before .before .before .before .before .before .before .before .before .before .before .before .before .before .before .before .before .before .before .before .before .before .before .pre .3) _ (ap (λ x. c .before .before .before .before .before .before .before .before .before .before .before .before .before .before .before .before .before .before .before .before .before .before .before .before .args .e - x) (externals-is _ _ (c .before .before .before .before .before .before .before .before .before .before .before .before .before .before .before .before .before .before .before .before .before .before .field-at .ensures .0))) _ (sym (c .before .before .before .before .before .before .before .before .before .before .before .before .before .before .before .before .before .before .before .before .before .read .ensures) ∙ c .before .before .before .before .before .before .before .before .before .before .before .before .before .before .before .before .before .before .before .binding .given .1) _ _ (sym (c .before .before .before .before .before .before .before .before .before .before .before .before .before .before .before .before .read2 .ensures) ∙ c .before .before .before .before .before .before .before .before .before .before .before .before .before .before .chart .given .1) (sym (c .before .before .before .before .before .before .before .before .before .before .before .before .read3 .ensures) ∙ c .before .before .before .before .before .before .before .before .before .before .body .given .1) _ (c .before .before .before .before .before .before .before .before .first-cell .ensures) _ _ (c .before .before .before .before .before .before .before .before .before .before .before .before .before .before .before .before .before .before .before .before .before .before .before .before .pre .2) (c .before .before .before .before .before .fresh-locals .ensures), root-statement _ (c .before .before .before .before .before .before .before .before .before .before .before .before .before .before .before .before .before .before .before .before .before .before .before .before .pre .1) _ _ _ (c .before .before .before .before .before .before .before .before .before .before .before .before .before .before .before .before .before .before .before .before .before .before .before .before .pre .3) _ (ap (λ x. c .before .before .before .before .before .before .before .before .before .before .before .before .before .before .before .before .before .before .before .before .before .before .before .before .args .e - x) (externals-is _ _ (c .before .before .before .before .before .before .before .before .before .before .before .before .before .before .before .before .before .before .before .before .before .before .field-at .ensures .0))) _ (sym (c .before .before .before .before .before .before .before .before .before .before .before .before .before .before .before .before .before .before .before .before .before .read .ensures) ∙ c .before .before .before .before .before .before .before .before .before .before .before .before .before .before .before .before .before .before .before .binding .given .1) _ _ (sym (c .before .before .before .before .before .before .before .before .before .before .before .before .before .before .before .before .read2 .ensures) ∙ c .before .before .before .before .before .before .before .before .before .before .before .before .before .before .chart .given .1) (sym (c .before .before .before .before .before .before .before .before .before .before .before .before .read3 .ensures) ∙ c .before .before .before .before .before .before .before .before .before .before .body .given .1) _ (c .before .before .before .before .before .before .before .before .first-cell .ensures), omega arith)
+run-requires c κs = (c .before .before .before .before .before .before .before .before .before .before .before .before .before .before .before .before .before .before .before .before .before .before .before .before .before .pre .0, ready _ (c .before .before .before .before .before .before .before .before .before .before .before .before .before .before .before .before .before .before .before .before .before .before .before .before .before .pre .1) _ _ _ (c .before .before .before .before .before .before .before .before .before .before .before .before .before .before .before .before .before .before .before .before .before .before .before .before .before .pre .3) _ (ap (λ x. c .before .before .before .before .before .before .before .before .before .before .before .before .before .before .before .before .before .before .before .before .before .before .before .before .before .args .e - x) (externals-is _ _ (c .before .before .before .before .before .before .before .before .before .before .before .before .before .before .before .before .before .before .before .before .before .before .before .field-at .ensures .0))) _ (sym (c .before .before .before .before .before .before .before .before .before .before .before .before .before .before .before .before .before .before .before .before .before .before .read .ensures) ∙ c .before .before .before .before .before .before .before .before .before .before .before .before .before .before .before .before .before .before .before .before .binding .given .1) _ _ (sym (c .before .before .before .before .before .before .before .before .before .before .before .before .before .before .before .before .before .read2 .ensures) ∙ c .before .before .before .before .before .before .before .before .before .before .before .before .before .before .before .chart .given .1) (sym (c .before .before .before .before .before .before .before .before .before .before .before .before .before .read3 .ensures) ∙ c .before .before .before .before .before .before .before .before .before .before .before .body .given .1) _ (c .before .before .before .before .before .before .before .before .before .before .before .before .before .before .before .before .before .before .before .before .before .before .before .before .before .pre .4) _ (c .before .before .before .before .before .before .context .ensures) _ _ (c .before .before .before .before .before .before .before .before .before .before .before .before .before .before .before .before .before .before .before .before .before .before .before .before .before .pre .2) (c .before .before .before .before .before .fresh-locals .ensures), root-statement _ (c .before .before .before .before .before .before .before .before .before .before .before .before .before .before .before .before .before .before .before .before .before .before .before .before .before .pre .1) _ _ _ (c .before .before .before .before .before .before .before .before .before .before .before .before .before .before .before .before .before .before .before .before .before .before .before .before .before .pre .3) _ (ap (λ x. c .before .before .before .before .before .before .before .before .before .before .before .before .before .before .before .before .before .before .before .before .before .before .before .before .before .args .e - x) (externals-is _ _ (c .before .before .before .before .before .before .before .before .before .before .before .before .before .before .before .before .before .before .before .before .before .before .before .field-at .ensures .0))) _ (sym (c .before .before .before .before .before .before .before .before .before .before .before .before .before .before .before .before .before .before .before .before .before .before .read .ensures) ∙ c .before .before .before .before .before .before .before .before .before .before .before .before .before .before .before .before .before .before .before .before .binding .given .1) _ _ (sym (c .before .before .before .before .before .before .before .before .before .before .before .before .before .before .before .before .before .read2 .ensures) ∙ c .before .before .before .before .before .before .before .before .before .before .before .before .before .before .before .chart .given .1) (sym (c .before .before .before .before .before .before .before .before .before .before .before .before .before .read3 .ensures) ∙ c .before .before .before .before .before .before .before .before .before .before .before .body .given .1) _ (c .before .before .before .before .before .before .before .before .before .before .before .before .before .before .before .before .before .before .before .before .before .before .before .before .before .pre .4) _ (c .before .before .before .before .before .before .context .ensures), omega arith)
 
 same-length : tie.Need-same-length
 same-length c = search needs
 
 returns-4 : tie.Need-returns-4
-returns-4 c = body-ran _ (c .before .before .before .before .before .before .before .before .before .before .before .before .before .before .before .before .before .before .before .before .before .before .before .before .before .before .pre .1) _ _ _ (c .before .before .before .before .before .before .before .before .before .before .before .before .before .before .before .before .before .before .before .before .before .before .before .before .before .before .pre .3) _ (ap (λ x. c .before .before .before .before .before .before .before .before .before .before .before .before .before .before .before .before .before .before .before .before .before .before .before .before .before .before .args .e - x) (externals-is _ _ (c .before .before .before .before .before .before .before .before .before .before .before .before .before .before .before .before .before .before .before .before .before .before .before .before .field-at .ensures .0))) _ (sym (c .before .before .before .before .before .before .before .before .before .before .before .before .before .before .before .before .before .before .before .before .before .before .before .read .ensures) ∙ c .before .before .before .before .before .before .before .before .before .before .before .before .before .before .before .before .before .before .before .before .before .binding .given .1) _ _ (sym (c .before .before .before .before .before .before .before .before .before .before .before .before .before .before .before .before .before .before .read2 .ensures) ∙ c .before .before .before .before .before .before .before .before .before .before .before .before .before .before .before .before .chart .given .1) (sym (c .before .before .before .before .before .before .before .before .before .before .before .before .before .before .read3 .ensures) ∙ c .before .before .before .before .before .before .before .before .before .before .before .before .body .given .1) _ (c .before .before .before .before .before .before .before .before .before .before .first-cell .ensures) _ _ _ _ _ _ (c .before .before .before .before .before .before .before .fresh-locals .ensures) (c .before .before .before .before .before .before .limit .ensures .0) (c .before .run .ensures .1)
+returns-4 c = body-ran _ (c .before .before .before .before .before .before .before .before .before .before .before .before .before .before .before .before .before .before .before .before .before .before .before .before .before .before .before .pre .1) _ _ _ (c .before .before .before .before .before .before .before .before .before .before .before .before .before .before .before .before .before .before .before .before .before .before .before .before .before .before .before .pre .3) _ (ap (λ x. c .before .before .before .before .before .before .before .before .before .before .before .before .before .before .before .before .before .before .before .before .before .before .before .before .before .before .before .args .e - x) (externals-is _ _ (c .before .before .before .before .before .before .before .before .before .before .before .before .before .before .before .before .before .before .before .before .before .before .before .before .before .field-at .ensures .0))) _ (sym (c .before .before .before .before .before .before .before .before .before .before .before .before .before .before .before .before .before .before .before .before .before .before .before .before .read .ensures) ∙ c .before .before .before .before .before .before .before .before .before .before .before .before .before .before .before .before .before .before .before .before .before .before .binding .given .1) _ _ (sym (c .before .before .before .before .before .before .before .before .before .before .before .before .before .before .before .before .before .before .before .read2 .ensures) ∙ c .before .before .before .before .before .before .before .before .before .before .before .before .before .before .before .before .before .chart .given .1) (sym (c .before .before .before .before .before .before .before .before .before .before .before .before .before .before .before .read3 .ensures) ∙ c .before .before .before .before .before .before .before .before .before .before .before .before .before .body .given .1) _ (c .before .before .before .before .before .before .before .before .before .before .before .before .before .before .before .before .before .before .before .before .before .before .before .before .before .before .before .pre .4) _ (c .before .before .before .before .before .before .before .before .context .ensures) _ _ _ _ _ _ (c .before .before .before .before .before .before .before .fresh-locals .ensures) (c .before .before .before .before .before .before .limit .ensures .0) (c .before .run .ensures .1)
 
 pub run-body-spec : {M : Type 1} → statement M
 run-body-spec =
@@ -98,12 +101,13 @@ run-body-spec =
     enum-known-body
     enum-told-3
     returns-3
-    first-cell-requires
-    cast-run
-    cast-t19
+    cast-context
+    cast-context-2
+    cast-context-3
+    context-requires
     fresh-locals-requires
     limit-requires
-    cast-run-2
+    cast-run
     run-requires
     same-length
     returns-4)

@@ -1,31 +1,34 @@
-use Prim.Native.Nat.{_-_, _≤_}
+use Prim.Native.Nat.{_+_, _-_, _≤_}
 use mathlib.Core.Path.{_≡_, refl, _∙_}
 use native.Mathlib.Omega.{arith}
-use lib.ListN.{length, length-set}
+use lib.ListN.{length}
 use borrow.Author.Needs.{needs}
+use Rattle.sheet_rules.specs.Indices.{cellsBefore}
 use Rattle.machine.specs.State.{cellAt}
+use Rattle.machine_states.proofs.Elements.{variable-cells}
 use Rattle.engine_store.proofs.Laws.{given}
+use Rattle.engine_cells.proofs.Laws.{no-cells, next-cell}
 use Rattle.engine_defaults.proofs.State.{Written, written-none, written-more, written-all}
 use Rattle.engine_defaults.proofs.default_cells.Statement.{statement}
 use Rattle.engine_defaults.proofs.default_cells.Tie as tie
 
 abbrev Inv-loop : tie.InvT-loop
-Inv-loop sheet directory st₀ c cell count j₀ st j = (j ≤ count) × (length st ≡ length st₀) × Written sheet st₀ st (c .f2) (c .f3) cell j
+Inv-loop sheet directory st₀ c cell count next₀ j₀ st next j = (j ≤ count) × (length st ≡ length st₀) × (next ≡ cell + cellsBefore sheet c j) × Written sheet c st₀ st (cellsBefore sheet c (c .f3)) cell j
 
 abbrev μ-loop : tie.MeasureT-loop
-μ-loop sheet directory st₀ c cell count j₀ st j = count - j
+μ-loop sheet directory st₀ c cell count next₀ j₀ st next j = count - j
 
 cast-count : tie.Need-cast-count Inv-loop μ-loop
 cast-count c = search needs
 
 loop-holds : tie.Need-loop-holds Inv-loop μ-loop
-loop-holds c = (omega arith, refl, written-none _ _ _ _ _)
+loop-holds c = (omega arith, refl, no-cells _ _ _, written-none _ _ _ _ _)
 
-cast-type-at : tie.Need-cast-type-at Inv-loop μ-loop
-cast-type-at c = search needs
+cast-d : tie.Need-cast-d Inv-loop μ-loop
+cast-d c = search needs
 
-add-type-at : tie.Need-add-type-at Inv-loop μ-loop
-add-type-at c = search needs
+add-d : tie.Need-add-d Inv-loop μ-loop
+add-d c = search needs
 
 type-at-requires : tie.Need-type-at-requires Inv-loop μ-loop
 type-at-requires c κs = search needs
@@ -33,21 +36,29 @@ type-at-requires c κs = search needs
 default-of-requires : tie.Need-default-of-requires Inv-loop μ-loop
 default-of-requires c κs = search needs
 
-add-z : tie.Need-add-z Inv-loop μ-loop
-add-z c = let k = c .before .before .before .before .before .before .before .pre .1 in let l = c .before .before .before .loop-test .taken in record { fits = omega arith }
+cells-taken-requires : tie.Need-cells-taken-requires Inv-loop μ-loop
+cells-taken-requires c κs = search needs
 
-mul-z : tie.Need-mul-z Inv-loop μ-loop
-mul-z c = let k = c .before .before .before .before .before .before .before .pre .1 in let l = c .before .before .before .loop-test .taken in record { fits = omega arith }
-
-add-z-2 : tie.Need-add-z-2 Inv-loop μ-loop
-add-z-2 c = let k = c .before .before .before .before .before .before .before .pre .1 in let l = c .before .before .before .loop-test .taken in record { fits = omega arith }
-
-mul-z-2 : tie.Need-mul-z-2 Inv-loop μ-loop
-mul-z-2 c = search needs
-
-slice-set-from-z : tie.Need-slice-set-from-z Inv-loop μ-loop
+cells-alike-requires : tie.Need-cells-alike-requires Inv-loop μ-loop
 unfolding cellAt
-slice-set-from-z c = let k = c .before .before .before .before .before .before .before .pre .2 in let l = c .before .before .before .loop-test .taken in let e = c .before .before .before .before .loop .inv .1 in omega arith
+cells-alike-requires c κs =
+    let l = c .before .before .before .before .before .loop-test .taken in
+    let e = c .before .before .before .before .before .before .loop .inv .2 in
+    let v = variable-cells (c .before .before .before .before .before .before .before .before .before .args .sheet .now) (c .before .before .before .before .before .before .before .before .before .args .c) (c .before .before .before .before .before .before .loop .j) _ l in
+    let w = c .before .before .before .before .before .before .before .before .before .pre .1 in
+    let x = c .before .cells-taken .ensures .0 in
+    let k = c .before .before .before .before .before .before .before .before .before .pre .2 in
+    let h = c .before .before .before .before .before .before .loop .inv .1 in
+    (omega arith, omega arith)
+
+add-next : tie.Need-add-next Inv-loop μ-loop
+add-next c =
+    let l = c .before .before .before .before .before .before .before .loop-test .taken in
+    let e = c .before .before .before .before .before .before .before .before .loop .inv .2 in
+    let v = variable-cells (c .before .before .before .before .before .before .before .before .before .before .before .args .sheet .now) (c .before .before .before .before .before .before .before .before .before .before .before .args .c) (c .before .before .before .before .before .before .before .before .loop .j) _ l in
+    let w = c .before .before .before .before .before .before .before .before .before .before .before .pre .1 in
+    let x = c .before .before .before .cells-taken .ensures .0 in
+    record { fits = omega arith }
 
 add-j : tie.Need-add-j Inv-loop μ-loop
 add-j c = search needs
@@ -56,13 +67,20 @@ loop-less : tie.Need-loop-less Inv-loop μ-loop
 loop-less c = search needs
 
 loop-again : tie.Need-loop-again Inv-loop μ-loop
-loop-again c = let e = c .before .before .before .before .loop .inv .1 in (omega arith, simp length-set e, written-more _ _ (c .before .before .before .before .loop .st) _ _ _ _ (c .before .type-at .result) _ _ (c .before .before .before .loop-test .taken) (c .before .type-at .ensures) (given (c .default-of .result) (c .default-of .ok) ∙ c .default-of .ensures) refl (c .before .before .before .before .loop .inv .2))
+loop-again c =
+    let l = c .before .before .before .before .before .before .before .loop-test .taken in
+    let e = c .before .before .before .before .before .before .before .before .loop .inv .2 in
+    let v = variable-cells (c .before .before .before .before .before .before .before .before .before .before .before .args .sheet .now) (c .before .before .before .before .before .before .before .before .before .before .before .args .c) (c .before .before .before .before .before .before .before .before .loop .j) _ l in
+    let w = c .before .before .before .before .before .before .before .before .before .before .before .pre .1 in
+    let x = c .before .before .before .cells-taken .ensures .0 in
+    let h = c .before .before .before .before .before .before .before .before .loop .inv .1 in
+    (omega arith, c .st .given ∙ h, next-cell _ (c .before .before .before .before .before .before .before .before .before .before .before .args .c) _ _ _ _ e x, written-more _ (c .before .before .before .before .before .before .before .before .before .before .before .args .c) _ (c .before .before .before .before .before .before .before .before .loop .st) _ _ _ _ (c .before .before .before .before .before .type-at .result) _ _ _ v (c .before .before .before .before .before .type-at .ensures) (given (c .before .before .before .before .default-of .result) (c .before .before .before .before .default-of .ok) ∙ c .before .before .before .before .default-of .ensures) x e (c .before .cells-alike .ensures) (c .before .before .before .before .before .before .before .before .loop .inv .3))
 
 same-length : tie.Need-same-length Inv-loop μ-loop
 same-length c = c .before .loop .inv .1
 
 returns : tie.Need-returns Inv-loop μ-loop
-returns c = written-all _ _ _ _ _ _ _ (c .before .loop .inv .0) (c .loop-test .left) (c .before .loop .inv .2)
+returns c = let l = c .loop-test .left in let m = c .before .loop .inv .0 in written-all _ (c .before .before .before .before .args .c) _ _ _ _ _ (omega arith) (c .before .loop .inv .2) (c .before .loop .inv .3)
 
 pub default-cells-spec : {M : Type 1} → statement M
 default-cells-spec =
@@ -72,15 +90,13 @@ default-cells-spec =
     μ-loop
     cast-count
     loop-holds
-    cast-type-at
-    add-type-at
+    cast-d
+    add-d
     type-at-requires
     default-of-requires
-    add-z
-    mul-z
-    add-z-2
-    mul-z-2
-    slice-set-from-z
+    cells-taken-requires
+    cells-alike-requires
+    add-next
     add-j
     loop-less
     loop-again

@@ -6,15 +6,16 @@ use lib.IntN.{pos}
 use borrow.Author.Needs.{needs}
 use Rattle.sheet.specs.Sheet.{countOf}
 use Rattle.sheet_rules.specs.Fields.{sumBelow}
-use Rattle.sheet_rules.specs.Shape.{variablesBound}
+use Rattle.sheet_rules.specs.Shape.{cellsBound}
 use Rattle.machine.specs.State.{cellAt, placeAt, stateLength}
-use Rattle.machine_passed.proofs.Records.{variables-limit}
-use Rattle.engine_defaults.proofs.State.{bound-there, bound-inside, bound-next, Filled, filled-none, filled-more, filled-all}
+use Rattle.machine_passed.proofs.Records.{cells-limit}
+use Rattle.engine_cells.proofs.Laws.{bound-there, bound-inside, bound-next}
+use Rattle.engine_defaults.proofs.State.{Filled, filled-none, filled-more, filled-all}
 use Rattle.engine_defaults.proofs.default_state.Statement.{statement}
 use Rattle.engine_defaults.proofs.default_state.Tie as tie
 
 abbrev Inv-loop : tie.InvT-loop
-Inv-loop sheet directory st₀ count cell₀ i₀ st cell i = (i ≤ count) × (count ≡ countOf sheet 7) × (length st ≡ stateLength sheet) × (cell ≡ sumBelow i (variablesBound sheet)) × Filled sheet st cell i
+Inv-loop sheet directory st₀ count cell₀ i₀ st cell i = (i ≤ count) × (count ≡ countOf sheet 7) × (length st ≡ stateLength sheet) × (cell ≡ sumBelow i (cellsBound sheet)) × Filled sheet st cell i
 
 abbrev μ-loop : tie.MeasureT-loop
 μ-loop sheet directory st₀ count cell₀ i₀ st cell i = count - i
@@ -46,13 +47,14 @@ returns c = absurd (bound-there _ (c .before .before .before .before .before .be
 
 default-cells-requires : tie.Need-default-cells-requires Inv-loop μ-loop
 unfolding cellAt placeAt stateLength
-default-cells-requires c κs = let l = c .before .before .before .before .before .loop-test .taken in let e = c .before .before .before .before .before .before .loop .inv .1 in let i = bound-inside _ (c .before .before .before .before .before .before .before .before .before .before .before .before .pre .1) _ _ (omega arith) (sym (c .before .before .before .before .chart-bound .ensures) ∙ c .before .before .c .given .1) _ (c .before .before .before .before .before .before .loop .inv .3) in let v = variables-limit _ (c .before .before .before .before .before .before .before .before .before .before .before .before .pre .1) in let w = c .before .before .before .before .before .before .loop .inv .2 in (c .before .before .before .before .before .before .before .before .before .before .before .before .pre .0, omega arith, omega arith)
-
-cast-cell : tie.Need-cast-cell Inv-loop μ-loop
-cast-cell c = search needs
-
-add-cell : tie.Need-add-cell Inv-loop μ-loop
-add-cell c = let l = c .before .before .before .before .before .before .before .before .loop-test .taken in let e = c .before .before .before .before .before .before .before .before .before .loop .inv .1 in let i = bound-inside _ (c .before .before .before .before .before .before .before .before .before .before .before .before .before .before .before .pre .1) _ _ (omega arith) (sym (c .before .before .before .before .before .before .before .chart-bound .ensures) ∙ c .before .before .before .before .before .c .given .1) _ (c .before .before .before .before .before .before .before .before .before .loop .inv .3) in let v = variables-limit _ (c .before .before .before .before .before .before .before .before .before .before .before .before .before .before .before .pre .1) in record { fits = omega arith }
+default-cells-requires c κs =
+    let pre = c .before .before .before .before .before .before .before .before .before .before .before .before .pre in
+    let l = c .before .before .before .before .before .loop-test .taken in
+    let e = c .before .before .before .before .before .before .loop .inv .1 in
+    let i = bound-inside _ (pre .1) _ _ (omega arith) (sym (c .before .before .before .before .chart-bound .ensures) ∙ c .before .before .c .given .1) _ (c .before .before .before .before .before .before .loop .inv .3) in
+    let v = cells-limit _ (pre .1) in
+    let w = c .before .before .before .before .before .before .loop .inv .2 in
+    (pre .0, omega arith, omega arith)
 
 add-i : tie.Need-add-i Inv-loop μ-loop
 add-i c = search needs
@@ -61,7 +63,14 @@ loop-less : tie.Need-loop-less Inv-loop μ-loop
 loop-less c = search needs
 
 loop-again : tie.Need-loop-again Inv-loop μ-loop
-loop-again c = let l = c .before .before .before .before .before .before .before .before .loop-test .taken in let e = c .before .before .before .before .before .before .before .before .before .loop .inv .1 in (omega arith, e, c .before .st2 .given ∙ c .before .before .before .before .before .before .before .before .before .loop .inv .2, bound-next _ (c .before .before .before .before .before .before .before .before .before .before .before .before .before .before .before .pre .1) _ _ (omega arith) (sym (c .before .before .before .before .before .before .before .chart-bound .ensures) ∙ c .before .before .before .before .before .c .given .1) _ (c .before .before .before .before .before .before .before .before .before .loop .inv .3), filled-more _ (c .before .before .before .before .before .before .before .before .before .before .before .before .before .before .before .pre .1) _ _ _ _ _ (omega arith) (sym (c .before .before .before .before .before .before .before .chart-bound .ensures) ∙ c .before .before .before .before .before .c .given .1) (c .before .before .before .before .before .before .before .before .before .loop .inv .3) (c .before .before .default-cells .ensures) (c .before .before .before .before .before .before .before .before .before .loop .inv .4))
+loop-again c =
+    let pre = c .before .before .before .before .before .before .before .before .before .before .before .before .before .before .pre in
+    let l = c .before .before .before .before .before .before .before .loop-test .taken in
+    let e = c .before .before .before .before .before .before .before .before .loop .inv .1 in
+    let q = c .before .before .before .before .before .before .before .before .loop .inv .3 in
+    let p = sym (c .before .before .before .before .before .before .chart-bound .ensures) ∙ c .before .before .before .before .c .given .1 in
+    let x = c .before .default-cells .ensures in
+    (omega arith, e, c .st2 .given ∙ c .before .before .before .before .before .before .before .before .loop .inv .2, x .0 ∙ bound-next _ (pre .1) _ _ (omega arith) p _ q, filled-more _ (pre .1) _ _ _ _ _ _ (omega arith) p q (x .1) (x .0) (c .before .before .before .before .before .before .before .before .loop .inv .4))
 
 same-length-2 : tie.Need-same-length-2 Inv-loop μ-loop
 same-length-2 c = c .before .loop .inv .2 ∙ sym (c .before .before .before .before .before .before .before .pre .2)
@@ -84,8 +93,6 @@ default-state-spec =
     same-length
     returns
     default-cells-requires
-    cast-cell
-    add-cell
     add-i
     loop-less
     loop-again

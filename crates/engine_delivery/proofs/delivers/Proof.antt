@@ -21,7 +21,7 @@ returns : tie.Need-returns
 returns c = ap (λ a. ended a (c .before .before .before .before .before .before .args .st .now)) (c .handed .ensures) ∙ sym (handed-outside _ (c .before .before .before .before .before .before .args .old .now) (c .before .before .before .before .before .before .args .t) _ (ap (λ z. isBelow z (externalsOf (c .before .before .before .before .before .before .args .sheet .now))) (sym (given (c .before .before .before .before .before .before .args .t .receiver) (c .before .before .before .struct-told .given .1 .0 .1))) ∙ ap (isBelow _) (sym (c .before .before .before .before .externals .ensures .0)) ∙ sym (c .before .before .is-below .ensures) ∙ c .before .if1 .taken))
 
 received-requires : tie.Need-received-requires
-received-requires c κs = (c .before .before .before .before .before .before .pre .0, c .before .before .before .before .before .before .pre .1, c .before .before .before .before .before .before .pre .2, c .before .before .before .before .before .before .pre .3, ap (λ z. isBelow z (externalsOf (c .before .before .before .before .before .before .args .sheet .now))) (sym (given (c .before .before .before .before .before .before .args .t .receiver) (c .before .before .before .struct-told .given .1 .0 .1))) ∙ ap (isBelow _) (sym (c .before .before .before .before .externals .ensures .0)) ∙ sym (c .before .before .is-below .ensures) ∙ c .before .if1 .left)
+received-requires c κs = (c .before .before .before .before .before .before .pre .0, c .before .before .before .before .before .before .pre .1, c .before .before .before .before .before .before .pre .2, c .before .before .before .before .before .before .pre .3, ap (λ z. isBelow z (externalsOf (c .before .before .before .before .before .before .args .sheet .now))) (sym (given (c .before .before .before .before .before .before .args .t .receiver) (c .before .before .before .struct-told .given .1 .0 .1))) ∙ ap (isBelow _) (sym (c .before .before .before .before .externals .ensures .0)) ∙ sym (c .before .before .is-below .ensures) ∙ c .before .if1 .left, c .before .before .before .before .before .before .pre .4)
 
 same-length : tie.Need-same-length
 same-length c = search needs

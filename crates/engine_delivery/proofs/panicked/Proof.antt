@@ -30,7 +30,7 @@ add-event-body : tie.Need-add-event-body
 add-event-body c = search needs
 
 event-body-requires : tie.Need-event-body-requires
-event-body-requires c κs = (c .before .before .before .before .before .before .before .before .before .pre .0 .directory, c .before .before .before .before .before .before .before .before .before .pre .0 .passed, c .before .before .before .before .before .before .before .before .before .pre .0 .state, panic-asked _ (c .before .before .before .before .before .before .before .before .before .pre .0 .passed) _ _ (sym (c .before .before .before .before .before .before .before .chart-of .ensures) ∙ c .before .before .before .before .before .c .given .1) _ (c .before .before .before .with-role .ensures), c .before .before .before .before .before .before .before .before .before .pre .1)
+event-body-requires c κs = (c .before .before .before .before .before .before .before .before .before .pre .0 .directory, c .before .before .before .before .before .before .before .before .before .pre .0 .passed, c .before .before .before .before .before .before .before .before .before .pre .0 .state, panic-asked _ (c .before .before .before .before .before .before .before .before .before .pre .0 .passed) _ _ (sym (c .before .before .before .before .before .before .before .chart-of .ensures) ∙ c .before .before .before .before .before .c .given .1) _ (c .before .before .before .with-role .ensures), c .before .before .before .before .before .before .before .before .before .pre .3, c .before .before .before .before .before .before .before .before .before .pre .1)
 
 same-length : tie.Need-same-length
 same-length c = search needs

@@ -45,7 +45,7 @@ event-body-requires c κs =
     let told = c .before .before .before .struct-told3 .given in
     let q : c .before .before .before .before .before .before .before .before .before .before .before .number .result ≡ natAbs (t .receiver) = c .before .before .before .before .before .before .before .before .before .before .before .number .ensures ∙ ap natAbs (given (t .receiver) (told .1 .0 .1)) in
     let n : c .before .before .before .before .before .number2 .result ≡ natAbs (t .name) = c .before .before .before .before .before .number2 .ensures ∙ ap natAbs (given (t .name) (told .1 .1 .1 .0 .1)) in
-    (c .before .before .before .before .before .before .before .before .before .before .before .before .before .before .pre .0 .directory, c .before .before .before .before .before .before .before .before .before .before .before .before .before .before .pre .0 .passed, c .before .before .before .before .before .before .before .before .before .before .before .before .before .before .pre .0 .state, inner-asked _ (c .before .before .before .before .before .before .before .before .before .before .before .before .before .before .pre .0 .passed) t (c .before .before .before .before .before .before .before .before .before .before .before .before .before .before .pre .2) (c .before .before .before .before .before .before .before .before .before .before .before .before .before .before .pre .3) _ q _ (sym (c .before .before .before .before .before .before .before .before .before .before .chart-of .ensures) ∙ c .before .before .before .before .before .before .before .before .c .given .1) _ _ n (c .before .before .before .before .reaction-to .ensures) _ (data-read t (told .1 .1 .1 .1 .0 .1) (told .1 .1 .1 .1 .1 .0 .1) (told .1 .1 .1 .1 .1 .1 .0 .1) (told .1 .1 .1 .1 .1 .1 .1 .0 .1)), c .before .before .before .before .before .before .before .before .before .before .before .before .before .before .pre .1)
+    (c .before .before .before .before .before .before .before .before .before .before .before .before .before .before .pre .0 .directory, c .before .before .before .before .before .before .before .before .before .before .before .before .before .before .pre .0 .passed, c .before .before .before .before .before .before .before .before .before .before .before .before .before .before .pre .0 .state, inner-asked _ (c .before .before .before .before .before .before .before .before .before .before .before .before .before .before .pre .0 .passed) t (c .before .before .before .before .before .before .before .before .before .before .before .before .before .before .pre .2) (c .before .before .before .before .before .before .before .before .before .before .before .before .before .before .pre .3) _ q _ (sym (c .before .before .before .before .before .before .before .before .before .before .chart-of .ensures) ∙ c .before .before .before .before .before .before .before .before .c .given .1) _ _ n (c .before .before .before .before .reaction-to .ensures) _ (data-read t (told .1 .1 .1 .1 .0 .1) (told .1 .1 .1 .1 .1 .0 .1) (told .1 .1 .1 .1 .1 .1 .0 .1) (told .1 .1 .1 .1 .1 .1 .1 .0 .1)), c .before .before .before .before .before .before .before .before .before .before .before .before .before .before .pre .4, c .before .before .before .before .before .before .before .before .before .before .before .before .before .before .pre .1)
 
 same-length : tie.Need-same-length
 same-length c = search needs

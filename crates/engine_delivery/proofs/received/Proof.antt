@@ -55,7 +55,7 @@ event-body-requires c κs =
     let p : c .before .before .before .before .before .before .before .before .before .number2 .result ≡ natAbs (t .port) = c .before .before .before .before .before .before .before .before .before .number2 .ensures ∙ ap natAbs (given (t .port) (told .1 .1 .0 .1)) in
     let n : c .before .before .before .before .before .before .before .number3 .result ≡ natAbs (t .name) = c .before .before .before .before .before .before .before .number3 .ensures ∙ ap natAbs (given (t .name) (told .1 .1 .1 .0 .1)) in
     let read = data-read t (told .1 .1 .1 .1 .0 .1) (told .1 .1 .1 .1 .1 .0 .1) (told .1 .1 .1 .1 .1 .1 .0 .1) (told .1 .1 .1 .1 .1 .1 .1 .0 .1) in
-    (c .before .before .before .before .before .before .before .before .before .before .before .before .before .before .before .before .before .before .pre .0 .directory, c .before .before .before .before .before .before .before .before .before .before .before .before .before .before .before .before .before .before .pre .0 .passed, c .before .before .before .before .before .before .before .before .before .before .before .before .before .before .before .before .before .before .pre .0 .state, reaction-called _ (c .before .before .before .before .before .before .before .before .before .before .before .before .before .before .before .before .before .before .pre .0 .passed) t (c .before .before .before .before .before .before .before .before .before .before .before .before .before .before .before .before .before .before .pre .2) (c .before .before .before .before .before .before .before .before .before .before .before .before .before .before .before .before .before .before .pre .3) (c .before .before .before .before .before .before .before .before .before .before .before .before .before .before .before .before .before .before .pre .4) _ q _ (sym (c .before .before .before .before .before .before .before .before .before .before .before .before .before .before .chart-of .ensures) ∙ c .before .before .before .before .before .before .before .before .before .before .before .before .c .given .1) _ _ _ p n (c .before .before .before .before .before .before .reaction-on .ensures) (c .before .before .before .before .if1 .taken) _ read, c .before .before .before .before .before .before .before .before .before .before .before .before .before .before .before .before .before .before .pre .1)
+    (c .before .before .before .before .before .before .before .before .before .before .before .before .before .before .before .before .before .before .pre .0 .directory, c .before .before .before .before .before .before .before .before .before .before .before .before .before .before .before .before .before .before .pre .0 .passed, c .before .before .before .before .before .before .before .before .before .before .before .before .before .before .before .before .before .before .pre .0 .state, reaction-called _ (c .before .before .before .before .before .before .before .before .before .before .before .before .before .before .before .before .before .before .pre .0 .passed) t (c .before .before .before .before .before .before .before .before .before .before .before .before .before .before .before .before .before .before .pre .2) (c .before .before .before .before .before .before .before .before .before .before .before .before .before .before .before .before .before .before .pre .3) (c .before .before .before .before .before .before .before .before .before .before .before .before .before .before .before .before .before .before .pre .4) _ q _ (sym (c .before .before .before .before .before .before .before .before .before .before .before .before .before .before .chart-of .ensures) ∙ c .before .before .before .before .before .before .before .before .before .before .before .before .c .given .1) _ _ _ p n (c .before .before .before .before .before .before .reaction-on .ensures) (c .before .before .before .before .if1 .taken) _ read, c .before .before .before .before .before .before .before .before .before .before .before .before .before .before .before .before .before .before .pre .5, c .before .before .before .before .before .before .before .before .before .before .before .before .before .before .before .before .before .before .pre .1)
 
 same-length : tie.Need-same-length
 same-length c = search needs
@@ -73,7 +73,7 @@ returns-2 c =
 panicked-requires : tie.Need-panicked-requires
 panicked-requires c κs =
     let q : c .before .before .before .before .before .before .before .before .before .before .before .before .number .result ≡ natAbs (c .before .before .before .before .before .before .before .before .before .before .before .before .before .before .before .args .t .receiver) = c .before .before .before .before .before .before .before .before .before .before .before .before .number .ensures ∙ ap natAbs (given (c .before .before .before .before .before .before .before .before .before .before .before .before .before .before .before .args .t .receiver) (c .before .before .before .before .before .before .before .before .before .before .before .before .before .struct-told .given .1 .0 .1)) in
-    (record { directory = c .before .before .before .before .before .before .before .before .before .before .before .before .before .before .before .pre .0 .directory; passed = c .before .before .before .before .before .before .before .before .before .before .before .before .before .before .before .pre .0 .passed; state = c .before .before .before .before .before .before .before .before .before .before .before .before .before .before .before .pre .0 .state }, c .before .before .before .before .before .before .before .before .before .before .before .before .before .before .before .pre .1, receiver-bound _ (c .before .before .before .before .before .before .before .before .before .before .before .before .before .before .before .pre .0 .passed) _ (c .before .before .before .before .before .before .before .before .before .before .before .before .before .before .before .pre .2) (c .before .before .before .before .before .before .before .before .before .before .before .before .before .before .before .pre .3) (c .before .before .before .before .before .before .before .before .before .before .before .before .before .before .before .pre .4) _ q)
+    (record { directory = c .before .before .before .before .before .before .before .before .before .before .before .before .before .before .before .pre .0 .directory; passed = c .before .before .before .before .before .before .before .before .before .before .before .before .before .before .before .pre .0 .passed; state = c .before .before .before .before .before .before .before .before .before .before .before .before .before .before .before .pre .0 .state }, c .before .before .before .before .before .before .before .before .before .before .before .before .before .before .before .pre .1, receiver-bound _ (c .before .before .before .before .before .before .before .before .before .before .before .before .before .before .before .pre .0 .passed) _ (c .before .before .before .before .before .before .before .before .before .before .before .before .before .before .before .pre .2) (c .before .before .before .before .before .before .before .before .before .before .before .before .before .before .before .pre .3) (c .before .before .before .before .before .before .before .before .before .before .before .before .before .before .before .pre .4) _ q, c .before .before .before .before .before .before .before .before .before .before .before .before .before .before .before .pre .5)
 
 same-length-2 : tie.Need-same-length-2
 same-length-2 c = search needs

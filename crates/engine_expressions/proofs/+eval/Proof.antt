@@ -9,13 +9,14 @@ use borrow.Fn.Kinds.{In}
 use borrow.Fn.PlainCycle.{Measures, is, falls, and as joined}
 use Rattle.sheet_rules.proofs.Forms.{form-literal, form-binary, form-clock, form-expression}
 use Rattle.engine_ints.specs.declared.Work.the-variants.{Word}
-use Rattle.engine_ints.proofs.Range.{back}
 use Rattle.engine_ready.proofs.Expressions.{absent-stuck, other-stuck, unary-low, unary-operand}
-use Rattle.engine_expressions.proofs.Places.{form-read, form-unary, visit, refused-at, element-low, literal-at, clock-here, running-at, value-at, not-at, operands-at, two-at, first-refused, first-stuck}
+use Rattle.engine_expressions.proofs.Places.{form-read, from-9, form-element, form-unary, visit, refused-at, element-low, literal-at, clock-here, running-at, value-at, index-at, reaches-at, element-at, not-at, operands-at, two-at, first-refused, first-stuck}
 use Rattle.engine_expressions.proofs.eval.Reads as eval
 use Rattle.engine_expressions.proofs.eval.Kinds as eval-kinds
 use Rattle.engine_expressions.proofs.+eval.Lts-eval as eval-lts
+use Rattle.engine_expressions.proofs.cell_word.Reads as cell-word-reads
 use Rattle.engine_expressions.proofs.combined.Reads as combined-reads
+use Rattle.engine_expressions.proofs.element.Reads as element-reads
 use Rattle.engine_expressions.proofs.literal.Reads as literal-reads
 use Rattle.engine_expressions.proofs.negated.Reads as negated-reads
 use Rattle.engine_expressions.proofs.variable.Reads as variable-reads
@@ -42,6 +43,10 @@ callees t = (
   eval.Post,
   negated-reads.Asked,
   negated-reads.Learnt,
+  cell-word-reads.Asked,
+  cell-word-reads.Learnt,
+  element-reads.Asked,
+  element-reads.Learnt,
   literal-reads.Asked,
   literal-reads.Learnt,
   combined-reads.Asked,
@@ -78,47 +83,29 @@ eval-eval-requires t c κs = (omega (arith, c .before .before .before .before .b
 eval-negated-requires : (t : ℕ) → eval-lts.Need-negated-requires (callees t) (eval-at t) eval.Post
 eval-negated-requires t c κs = search needs
 
-eval-element-copy-out-t23 : (t : ℕ) → eval-lts.Need-element-copy-out-t23 (callees t) (eval-at t) eval.Post
-eval-element-copy-out-t23 t c = search needs
+eval-cast-cell-word : (t : ℕ) → eval-lts.Need-cast-cell-word (callees t) (eval-at t) eval.Post
+eval-cast-cell-word t c = search needs
 
-eval-cast-t24 : (t : ℕ) → eval-lts.Need-cast-t24 (callees t) (eval-at t) eval.Post
-eval-cast-t24 t c = search needs
+eval-cell-word-requires : (t : ℕ) → eval-lts.Need-cell-word-requires (callees t) (eval-at t) eval.Post
+eval-cell-word-requires t c κs = clock-here _ _ _ _ (c .before .before .before .before .before .before .before .before .pre .1 .1) _ _ (sym (c .before .before .before .before .before .read .ensures) ∙ c .before .before .before .r .given .1) (c .before .before .before .before .before .before .before .before .pre .1 .2) (form-clock _ (let e = c .before .match2 .keys3 in omega arith) (let e = c .before .match2 .keys3 in omega arith)) 0 (omega arith)
 
-eval-add-t25 : (t : ℕ) → eval-lts.Need-add-t25 (callees t) (eval-at t) eval.Post
-eval-add-t25 t c = record { fits = omega (arith, clock-here _ _ _ _ (c .before .before .before .before .before .before .before .before .before .pre .1 .1) _ _ (sym (c .before .before .before .before .before .before .read .ensures) ∙ c .before .before .before .before .r .given .1) (c .before .before .before .before .before .before .before .before .before .pre .1 .2) (form-clock _ (let e = c .before .before .match2 .keys3 in omega arith) (let e = c .before .before .match2 .keys3 in omega arith))) }
+eval-cast-cell-word-2 : (t : ℕ) → eval-lts.Need-cast-cell-word-2 (callees t) (eval-at t) eval.Post
+eval-cast-cell-word-2 t c = search needs
 
-eval-mul-t26 : (t : ℕ) → eval-lts.Need-mul-t26 (callees t) (eval-at t) eval.Post
-eval-mul-t26 t c = record { fits = omega (arith, clock-here _ _ _ _ (c .before .before .before .before .before .before .before .before .before .pre .1 .1) _ _ (sym (c .before .before .before .before .before .before .read .ensures) ∙ c .before .before .before .before .r .given .1) (c .before .before .before .before .before .before .before .before .before .pre .1 .2) (form-clock _ (let e = c .before .before .match2 .keys3 in omega arith) (let e = c .before .before .match2 .keys3 in omega arith))) }
+eval-cell-word-requires-2 : (t : ℕ) → eval-lts.Need-cell-word-requires-2 (callees t) (eval-at t) eval.Post
+eval-cell-word-requires-2 t c κs = clock-here _ _ _ _ (c .before .before .before .before .before .before .before .before .pre .1 .1) _ _ (sym (c .before .before .before .before .before .read .ensures) ∙ c .before .before .before .r .given .1) (c .before .before .before .before .before .before .before .before .pre .1 .2) (form-clock _ (let e = c .before .match2 .keys4 in omega arith) (let e = c .before .match2 .keys4 in omega arith)) 1 (omega arith)
 
-eval-add-t27 : (t : ℕ) → eval-lts.Need-add-t27 (callees t) (eval-at t) eval.Post
-eval-add-t27 t c = record { fits = omega (arith, clock-here _ _ _ _ (c .before .before .before .before .before .before .before .before .before .pre .1 .1) _ _ (sym (c .before .before .before .before .before .before .read .ensures) ∙ c .before .before .before .before .r .given .1) (c .before .before .before .before .before .before .before .before .before .pre .1 .2) (form-clock _ (let e = c .before .before .match2 .keys3 in omega arith) (let e = c .before .before .match2 .keys3 in omega arith))) }
+eval-cast-element : (t : ℕ) → eval-lts.Need-cast-element (callees t) (eval-at t) eval.Post
+eval-cast-element t c = search needs
 
-eval-mul-t28 : (t : ℕ) → eval-lts.Need-mul-t28 (callees t) (eval-at t) eval.Post
-eval-mul-t28 t c = record { fits = omega (arith, clock-here _ _ _ _ (c .before .before .before .before .before .before .before .before .before .pre .1 .1) _ _ (sym (c .before .before .before .before .before .before .read .ensures) ∙ c .before .before .before .before .r .given .1) (c .before .before .before .before .before .before .before .before .before .pre .1 .2) (form-clock _ (let e = c .before .before .match2 .keys3 in omega arith) (let e = c .before .before .match2 .keys3 in omega arith))) }
+eval-cast-eval-2 : (t : ℕ) → eval-lts.Need-cast-eval-2 (callees t) (eval-at t) eval.Post
+eval-cast-eval-2 t c = search needs
 
-eval-shared-slice-copy-out-t30 : (t : ℕ) → eval-lts.Need-shared-slice-copy-out-t30 (callees t) (eval-at t) eval.Post
-eval-shared-slice-copy-out-t30 t c = omega (arith, clock-here _ _ _ _ (c .before .before .before .before .before .before .before .before .before .pre .1 .1) _ _ (sym (c .before .before .before .before .before .before .read .ensures) ∙ c .before .before .before .before .r .given .1) (c .before .before .before .before .before .before .before .before .before .pre .1 .2) (form-clock _ (let e = c .before .before .match2 .keys3 in omega arith) (let e = c .before .before .match2 .keys3 in omega arith)))
+eval-eval-requires-2 : (t : ℕ) → eval-lts.Need-eval-requires-2 (callees t) (eval-at t) eval.Post
+eval-eval-requires-2 t c κs = let o = index-at _ _ _ _ (c .before .before .before .before .before .before .before .before .before .pre .1 .1) _ _ (sym (c .before .before .before .before .before .before .read .ensures) ∙ c .before .before .before .before .r .given .1) (c .before .before .before .before .before .before .before .before .before .pre .1 .2) (form-element _ (c .before .before .match2 .keys5)) in (omega (arith, c .before .before .before .before .before .before .before .before .before .pre .0, o .0), (c .before .before .before .before .before .before .before .before .before .pre .1 .0, c .before .before .before .before .before .before .before .before .before .pre .1 .1, o .1))
 
-eval-element-copy-out-t33 : (t : ℕ) → eval-lts.Need-element-copy-out-t33 (callees t) (eval-at t) eval.Post
-eval-element-copy-out-t33 t c = search needs
-
-eval-cast-t34 : (t : ℕ) → eval-lts.Need-cast-t34 (callees t) (eval-at t) eval.Post
-eval-cast-t34 t c = search needs
-
-eval-add-t35 : (t : ℕ) → eval-lts.Need-add-t35 (callees t) (eval-at t) eval.Post
-eval-add-t35 t c = record { fits = omega (arith, clock-here _ _ _ _ (c .before .before .before .before .before .before .before .before .before .pre .1 .1) _ _ (sym (c .before .before .before .before .before .before .read .ensures) ∙ c .before .before .before .before .r .given .1) (c .before .before .before .before .before .before .before .before .before .pre .1 .2) (form-clock _ (let e = c .before .before .match2 .keys4 in omega arith) (let e = c .before .before .match2 .keys4 in omega arith))) }
-
-eval-mul-t36 : (t : ℕ) → eval-lts.Need-mul-t36 (callees t) (eval-at t) eval.Post
-eval-mul-t36 t c = record { fits = omega (arith, clock-here _ _ _ _ (c .before .before .before .before .before .before .before .before .before .pre .1 .1) _ _ (sym (c .before .before .before .before .before .before .read .ensures) ∙ c .before .before .before .before .r .given .1) (c .before .before .before .before .before .before .before .before .before .pre .1 .2) (form-clock _ (let e = c .before .before .match2 .keys4 in omega arith) (let e = c .before .before .match2 .keys4 in omega arith))) }
-
-eval-add-t37 : (t : ℕ) → eval-lts.Need-add-t37 (callees t) (eval-at t) eval.Post
-eval-add-t37 t c = record { fits = omega (arith, clock-here _ _ _ _ (c .before .before .before .before .before .before .before .before .before .pre .1 .1) _ _ (sym (c .before .before .before .before .before .before .read .ensures) ∙ c .before .before .before .before .r .given .1) (c .before .before .before .before .before .before .before .before .before .pre .1 .2) (form-clock _ (let e = c .before .before .match2 .keys4 in omega arith) (let e = c .before .before .match2 .keys4 in omega arith))) }
-
-eval-mul-t38 : (t : ℕ) → eval-lts.Need-mul-t38 (callees t) (eval-at t) eval.Post
-eval-mul-t38 t c = record { fits = omega (arith, clock-here _ _ _ _ (c .before .before .before .before .before .before .before .before .before .pre .1 .1) _ _ (sym (c .before .before .before .before .before .before .read .ensures) ∙ c .before .before .before .before .r .given .1) (c .before .before .before .before .before .before .before .before .before .pre .1 .2) (form-clock _ (let e = c .before .before .match2 .keys4 in omega arith) (let e = c .before .before .match2 .keys4 in omega arith))) }
-
-eval-shared-slice-copy-out-t40 : (t : ℕ) → eval-lts.Need-shared-slice-copy-out-t40 (callees t) (eval-at t) eval.Post
-eval-shared-slice-copy-out-t40 t c = omega (arith, clock-here _ _ _ _ (c .before .before .before .before .before .before .before .before .before .pre .1 .1) _ _ (sym (c .before .before .before .before .before .before .read .ensures) ∙ c .before .before .before .before .r .given .1) (c .before .before .before .before .before .before .before .before .before .pre .1 .2) (form-clock _ (let e = c .before .before .match2 .keys4 in omega arith) (let e = c .before .before .match2 .keys4 in omega arith)))
+eval-element-requires : (t : ℕ) → eval-lts.Need-element-requires (callees t) (eval-at t) eval.Post
+eval-element-requires t c κs = reaches-at _ _ _ _ (c .before .before .before .before .before .before .before .before .before .before .pre .1 .1) _ _ (sym (c .before .before .before .before .before .before .before .read .ensures) ∙ c .before .before .before .before .before .r .given .1) (c .before .before .before .before .before .before .before .before .before .before .pre .1 .2) (form-element _ (c .before .before .before .match2 .keys5))
 
 eval-element-copy-out-literal : (t : ℕ) → eval-lts.Need-element-copy-out-literal (callees t) (eval-at t) eval.Post
 eval-element-copy-out-literal t c = search needs
@@ -126,20 +113,20 @@ eval-element-copy-out-literal t c = search needs
 eval-literal-requires : (t : ℕ) → eval-lts.Need-literal-requires (callees t) (eval-at t) eval.Post
 eval-literal-requires t c κs = element-low _ _ _ _ (c .before .before .before .before .before .before .before .before .before .before .pre .1 .1)
 
-eval-cast-eval-2 : (t : ℕ) → eval-lts.Need-cast-eval-2 (callees t) (eval-at t) eval.Post
-eval-cast-eval-2 t c = search needs
-
-eval-eval-requires-2 : (t : ℕ) → eval-lts.Need-eval-requires-2 (callees t) (eval-at t) eval.Post
-eval-eval-requires-2 t c κs = let o = operands-at _ _ _ _ (c .before .before .before .before .before .before .before .before .before .before .before .pre .1 .1) _ _ (sym (c .before .before .before .before .before .before .before .before .read .ensures) ∙ c .before .before .before .before .before .before .r .given .1) (c .before .before .before .before .before .before .before .before .before .before .before .pre .1 .2) (form-binary _ (omega (arith, c .before .before .before .before .match2 .rest .0 .0 .0 .1, c .before .before .before .before .match2 .rest .0 .0 .1)) (omega arith)) in (omega (arith, c .before .before .before .before .before .before .before .before .before .before .before .pre .0, o .0, o .1), (c .before .before .before .before .before .before .before .before .before .before .before .pre .1 .0, c .before .before .before .before .before .before .before .before .before .before .before .pre .1 .1, search (o .2, o .3)))
-
-eval-enum-known-x : (t : ℕ) → eval-lts.Need-enum-known-x (callees t) (eval-at t) eval.Post
-eval-enum-known-x t c = search needs
-
 eval-cast-eval-3 : (t : ℕ) → eval-lts.Need-cast-eval-3 (callees t) (eval-at t) eval.Post
 eval-cast-eval-3 t c = search needs
 
 eval-eval-requires-3 : (t : ℕ) → eval-lts.Need-eval-requires-3 (callees t) (eval-at t) eval.Post
-eval-eval-requires-3 t c κs = let o = operands-at _ _ _ _ (c .before .before .before .before .before .before .before .before .before .before .before .before .before .before .before .before .pre .1 .1) _ _ (sym (c .before .before .before .before .before .before .before .before .before .before .before .before .before .read .ensures) ∙ c .before .before .before .before .before .before .before .before .before .before .before .r .given .1) (c .before .before .before .before .before .before .before .before .before .before .before .before .before .before .before .before .pre .1 .2) (form-binary _ (omega (arith, c .before .before .before .before .before .before .before .before .before .match2 .rest .0 .0 .0 .1, c .before .before .before .before .before .before .before .before .before .match2 .rest .0 .0 .1)) (omega arith)) in (omega (arith, c .before .before .before .before .before .before .before .before .before .before .before .before .before .before .before .before .pre .0, o .0, o .1), (c .before .before .before .before .before .before .before .before .before .before .before .before .before .before .before .before .pre .1 .0, c .before .before .before .before .before .before .before .before .before .before .before .before .before .before .before .before .pre .1 .1, search (o .2, o .3)))
+eval-eval-requires-3 t c κs = let o = operands-at _ _ _ _ (c .before .before .before .before .before .before .before .before .before .before .before .pre .1 .1) _ _ (sym (c .before .before .before .before .before .before .before .before .read .ensures) ∙ c .before .before .before .before .before .before .r .given .1) (c .before .before .before .before .before .before .before .before .before .before .before .pre .1 .2) (form-binary _ (from-9 (c .before .before .if3 .left) (c .before .before .before .before .match2 .rest .0 .0 .0 .0 .1) (c .before .before .before .before .match2 .rest .0 .0 .0 .1)) (omega arith)) in (omega (arith, c .before .before .before .before .before .before .before .before .before .before .before .pre .0, o .0, o .1), (c .before .before .before .before .before .before .before .before .before .before .before .pre .1 .0, c .before .before .before .before .before .before .before .before .before .before .before .pre .1 .1, search (o .2, o .3)))
+
+eval-enum-known-x : (t : ℕ) → eval-lts.Need-enum-known-x (callees t) (eval-at t) eval.Post
+eval-enum-known-x t c = search needs
+
+eval-cast-eval-4 : (t : ℕ) → eval-lts.Need-cast-eval-4 (callees t) (eval-at t) eval.Post
+eval-cast-eval-4 t c = search needs
+
+eval-eval-requires-4 : (t : ℕ) → eval-lts.Need-eval-requires-4 (callees t) (eval-at t) eval.Post
+eval-eval-requires-4 t c κs = let o = operands-at _ _ _ _ (c .before .before .before .before .before .before .before .before .before .before .before .before .before .before .before .before .pre .1 .1) _ _ (sym (c .before .before .before .before .before .before .before .before .before .before .before .before .before .read .ensures) ∙ c .before .before .before .before .before .before .before .before .before .before .before .r .given .1) (c .before .before .before .before .before .before .before .before .before .before .before .before .before .before .before .before .pre .1 .2) (form-binary _ (from-9 (c .before .before .before .before .before .before .before .if3 .left) (c .before .before .before .before .before .before .before .before .before .match2 .rest .0 .0 .0 .0 .1) (c .before .before .before .before .before .before .before .before .before .match2 .rest .0 .0 .0 .1)) (omega arith)) in (omega (arith, c .before .before .before .before .before .before .before .before .before .before .before .before .before .before .before .before .pre .0, o .0, o .1), (c .before .before .before .before .before .before .before .before .before .before .before .before .before .before .before .before .pre .1 .0, c .before .before .before .before .before .before .before .before .before .before .before .before .before .before .before .before .pre .1 .1, search (o .2, o .3)))
 
 eval-combined-requires : (t : ℕ) → eval-lts.Need-combined-requires (callees t) (eval-at t) eval.Post
 eval-combined-requires t c κs = search needs
@@ -157,28 +144,31 @@ eval-returns-4 : (t : ℕ) → eval-lts.Need-returns-4 (callees t) (eval-at t) e
 eval-returns-4 t c = visit _ _ _ _ _ _ (c .before .before .before .before .before .before .before .before .if1 .left) _ (c .negated .ensures ∙ not-at _ _ _ _ (c .before .before .before .before .before .before .before .before .before .before .pre .1 .1) _ _ (sym (c .before .before .before .before .before .before .before .read .ensures) ∙ c .before .before .before .before .before .r .given .1) (c .before .before .before .before .before .before .before .before .before .before .pre .1 .2) (form-unary _ (c .before .before .before .match2 .keys2)) _ _ (c .before .eval .ensures))
 
 eval-returns-5 : (t : ℕ) → eval-lts.Need-returns-5 (callees t) (eval-at t) eval.Post
-eval-returns-5 t c = visit _ _ _ _ _ _ (c .before .before .before .before .before .before .before .before .if1 .left) _ (ap (λ (z : ℤ). Word z (c .before .before .before .before .before .before .before .before .before .before .args .left - 1)) (back (record { sfits = c .t30 .given })) ∙ running-at _ _ _ _ (c .before .before .before .before .before .before .before .before .before .before .pre .1 .1) _ _ (sym (c .before .before .before .before .before .before .before .read .ensures) ∙ c .before .before .before .before .before .r .given .1) (c .before .before .before .before .before .before .before .before .before .before .pre .1 .2) (form-clock _ (let e = c .before .before .before .match2 .keys3 in omega arith) (let e = c .before .before .before .match2 .keys3 in omega arith)) (c .before .before .before .match2 .keys3) _)
+eval-returns-5 t c = let h : toZ w32 (ofZ w32 (c .cell-word .result)) ≡ c .cell-word .result = search needs in visit _ _ _ _ _ _ (c .before .before .before .before .before .before .before .if1 .left) _ (ap (λ (z : ℤ). Word z (c .before .before .before .before .before .before .before .before .before .args .left - 1)) (h ∙ c .cell-word .ensures) ∙ running-at _ _ _ _ (c .before .before .before .before .before .before .before .before .before .pre .1 .1) _ _ (sym (c .before .before .before .before .before .before .read .ensures) ∙ c .before .before .before .before .r .given .1) (c .before .before .before .before .before .before .before .before .before .pre .1 .2) (form-clock _ (let e = c .before .before .match2 .keys3 in omega arith) (let e = c .before .before .match2 .keys3 in omega arith)) (c .before .before .match2 .keys3) _)
 
 eval-returns-6 : (t : ℕ) → eval-lts.Need-returns-6 (callees t) (eval-at t) eval.Post
-eval-returns-6 t c = visit _ _ _ _ _ _ (c .before .before .before .before .before .before .before .before .if1 .left) _ (ap (λ (z : ℤ). Word z (c .before .before .before .before .before .before .before .before .before .before .args .left - 1)) (back (record { sfits = c .t40 .given })) ∙ value-at _ _ _ _ (c .before .before .before .before .before .before .before .before .before .before .pre .1 .1) _ _ (sym (c .before .before .before .before .before .before .before .read .ensures) ∙ c .before .before .before .before .before .r .given .1) (c .before .before .before .before .before .before .before .before .before .before .pre .1 .2) (form-clock _ (let e = c .before .before .before .match2 .keys4 in omega arith) (let e = c .before .before .before .match2 .keys4 in omega arith)) (c .before .before .before .match2 .keys4) _)
+eval-returns-6 t c = let h : toZ w32 (ofZ w32 (c .cell-word2 .result)) ≡ c .cell-word2 .result = search needs in visit _ _ _ _ _ _ (c .before .before .before .before .before .before .before .if1 .left) _ (ap (λ (z : ℤ). Word z (c .before .before .before .before .before .before .before .before .before .args .left - 1)) (h ∙ c .cell-word2 .ensures) ∙ value-at _ _ _ _ (c .before .before .before .before .before .before .before .before .before .pre .1 .1) _ _ (sym (c .before .before .before .before .before .before .read .ensures) ∙ c .before .before .before .before .r .given .1) (c .before .before .before .before .before .before .before .before .before .pre .1 .2) (form-clock _ (let e = c .before .before .match2 .keys4 in omega arith) (let e = c .before .before .match2 .keys4 in omega arith)) (c .before .before .match2 .keys4) _)
 
 eval-returns-7 : (t : ℕ) → eval-lts.Need-returns-7 (callees t) (eval-at t) eval.Post
-eval-returns-7 t c = let h : toZ w32 (ofZ w32 (c .literal .result)) ≡ c .literal .result = search needs in visit _ _ _ _ _ _ (c .before .before .before .before .before .before .before .before .before .if1 .left) _ (ap (λ (z : ℤ). Word z (c .before .before .before .before .before .before .before .before .before .before .before .args .left - 1)) (h ∙ c .literal .ensures) ∙ literal-at _ _ _ _ (c .before .before .before .before .before .before .before .before .before .before .before .pre .1 .1) _ _ (sym (c .before .before .before .before .before .before .before .before .read .ensures) ∙ c .before .before .before .before .before .before .r .given .1) (c .before .before .before .before .before .before .before .before .before .before .before .pre .1 .2) (form-literal _ (omega arith) (omega arith)) _)
+eval-returns-7 t c = visit _ _ _ _ _ _ (c .before .before .before .before .before .before .before .before .before .if1 .left) _ (c .element .ensures ∙ element-at _ _ _ _ (c .before .before .before .before .before .before .before .before .before .before .before .pre .1 .1) _ _ (sym (c .before .before .before .before .before .before .before .before .read .ensures) ∙ c .before .before .before .before .before .before .r .given .1) (c .before .before .before .before .before .before .before .before .before .before .before .pre .1 .2) (form-element _ (c .before .before .before .before .match2 .keys5)) _ _ (c .before .eval2 .ensures))
 
 eval-returns-8 : (t : ℕ) → eval-lts.Need-returns-8 (callees t) (eval-at t) eval.Post
-eval-returns-8 t c = let h : toZ w32 (ofZ w32 (c .before .before .before .before .x .given .0 .0)) ≡ c .before .before .before .before .x .given .0 .0 = search needs in visit _ _ _ _ _ _ (c .before .before .before .before .before .before .before .before .before .before .before .before .before .before .before .before .if1 .left) _ ((rw h at (c .combined .ensures)) ∙ two-at _ _ _ _ (c .before .before .before .before .before .before .before .before .before .before .before .before .before .before .before .before .before .before .pre .1 .1) _ _ (sym (c .before .before .before .before .before .before .before .before .before .before .before .before .before .before .before .read .ensures) ∙ c .before .before .before .before .before .before .before .before .before .before .before .before .before .r .given .1) (c .before .before .before .before .before .before .before .before .before .before .before .before .before .before .before .before .before .before .pre .1 .2) (form-binary _ (omega (arith, c .before .before .before .before .before .before .before .before .before .before .before .match2 .rest .0 .0 .0 .1, c .before .before .before .before .before .before .before .before .before .before .before .match2 .rest .0 .0 .1)) (omega arith)) _ _ (c .before .before .before .before .before .before .eval2 .ensures) _ _ (c .before .before .before .before .x .given .1) _ (c .before .eval3 .ensures))
+eval-returns-8 t c = let h : toZ w32 (ofZ w32 (c .literal .result)) ≡ c .literal .result = search needs in visit _ _ _ _ _ _ (c .before .before .before .before .before .before .before .before .before .if1 .left) _ (ap (λ (z : ℤ). Word z (c .before .before .before .before .before .before .before .before .before .before .before .args .left - 1)) (h ∙ c .literal .ensures) ∙ literal-at _ _ _ _ (c .before .before .before .before .before .before .before .before .before .before .before .pre .1 .1) _ _ (sym (c .before .before .before .before .before .before .before .before .read .ensures) ∙ c .before .before .before .before .before .before .r .given .1) (c .before .before .before .before .before .before .before .before .before .before .before .pre .1 .2) (form-literal _ (omega arith) (omega arith)) _)
 
 eval-returns-9 : (t : ℕ) → eval-lts.Need-returns-9 (callees t) (eval-at t) eval.Post
-eval-returns-9 t c = visit _ _ _ _ _ _ (c .before .before .before .before .before .before .before .before .before .before .before .before .before .if1 .left) _ (first-refused _ _ _ _ (c .before .before .before .before .before .before .before .before .before .before .before .before .before .before .before .pre .1 .1) _ _ (sym (c .before .before .before .before .before .before .before .before .before .before .before .before .read .ensures) ∙ c .before .before .before .before .before .before .before .before .before .before .r .given .1) (c .before .before .before .before .before .before .before .before .before .before .before .before .before .before .before .pre .1 .2) (form-binary _ (omega (arith, c .before .before .before .before .before .before .before .before .match2 .rest .0 .0 .0 .1, c .before .before .before .before .before .before .before .before .match2 .rest .0 .0 .1)) (omega arith)) _ _ (c .before .before .before .eval2 .ensures) _ _ (c .before .x2 .given .1))
+eval-returns-9 t c = let h : toZ w32 (ofZ w32 (c .before .before .before .before .x .given .0 .0)) ≡ c .before .before .before .before .x .given .0 .0 = search needs in visit _ _ _ _ _ _ (c .before .before .before .before .before .before .before .before .before .before .before .before .before .before .before .before .if1 .left) _ ((rw h at (c .combined .ensures)) ∙ two-at _ _ _ _ (c .before .before .before .before .before .before .before .before .before .before .before .before .before .before .before .before .before .before .pre .1 .1) _ _ (sym (c .before .before .before .before .before .before .before .before .before .before .before .before .before .before .before .read .ensures) ∙ c .before .before .before .before .before .before .before .before .before .before .before .before .before .r .given .1) (c .before .before .before .before .before .before .before .before .before .before .before .before .before .before .before .before .before .before .pre .1 .2) (form-binary _ (from-9 (c .before .before .before .before .before .before .before .before .before .if3 .left) (c .before .before .before .before .before .before .before .before .before .before .before .match2 .rest .0 .0 .0 .0 .1) (c .before .before .before .before .before .before .before .before .before .before .before .match2 .rest .0 .0 .0 .1)) (omega arith)) _ _ (c .before .before .before .before .before .before .eval3 .ensures) _ _ (c .before .before .before .before .x .given .1) _ (c .before .eval4 .ensures))
 
 eval-returns-10 : (t : ℕ) → eval-lts.Need-returns-10 (callees t) (eval-at t) eval.Post
-eval-returns-10 t c = visit _ _ _ _ _ _ (c .before .before .before .before .before .before .before .before .before .before .before .before .if1 .left) _ (first-stuck _ _ _ _ (c .before .before .before .before .before .before .before .before .before .before .before .before .before .before .pre .1 .1) _ _ (sym (c .before .before .before .before .before .before .before .before .before .before .before .read .ensures) ∙ c .before .before .before .before .before .before .before .before .before .r .given .1) (c .before .before .before .before .before .before .before .before .before .before .before .before .before .before .pre .1 .2) (form-binary _ (omega (arith, c .before .before .before .before .before .before .before .match2 .rest .0 .0 .0 .1, c .before .before .before .before .before .before .before .match2 .rest .0 .0 .1)) (omega arith)) _ _ (c .before .before .eval2 .ensures) (c .enum-told2 .given .1))
+eval-returns-10 t c = visit _ _ _ _ _ _ (c .before .before .before .before .before .before .before .before .before .before .before .before .before .if1 .left) _ (first-refused _ _ _ _ (c .before .before .before .before .before .before .before .before .before .before .before .before .before .before .before .pre .1 .1) _ _ (sym (c .before .before .before .before .before .before .before .before .before .before .before .before .read .ensures) ∙ c .before .before .before .before .before .before .before .before .before .before .r .given .1) (c .before .before .before .before .before .before .before .before .before .before .before .before .before .before .before .pre .1 .2) (form-binary _ (from-9 (c .before .before .before .before .before .before .if3 .left) (c .before .before .before .before .before .before .before .before .match2 .rest .0 .0 .0 .0 .1) (c .before .before .before .before .before .before .before .before .match2 .rest .0 .0 .0 .1)) (omega arith)) _ _ (c .before .before .before .eval3 .ensures) _ _ (c .before .x2 .given .1))
 
 eval-returns-11 : (t : ℕ) → eval-lts.Need-returns-11 (callees t) (eval-at t) eval.Post
-eval-returns-11 t c = absurd (other-stuck _ _ _ _ (c .before .before .before .before .before .before .before .before .pre .1 .1) _ _ (sym (c .before .before .before .before .before .read .ensures) ∙ c .before .before .before .r .given .1) (c .before .before .before .before .before .before .before .before .pre .1 .2) (form-expression _ (λ u v. let k = c .if2 .taken in omega arith)))
+eval-returns-11 t c = visit _ _ _ _ _ _ (c .before .before .before .before .before .before .before .before .before .before .before .before .if1 .left) _ (first-stuck _ _ _ _ (c .before .before .before .before .before .before .before .before .before .before .before .before .before .before .pre .1 .1) _ _ (sym (c .before .before .before .before .before .before .before .before .before .before .before .read .ensures) ∙ c .before .before .before .before .before .before .before .before .before .r .given .1) (c .before .before .before .before .before .before .before .before .before .before .before .before .before .before .pre .1 .2) (form-binary _ (from-9 (c .before .before .before .before .before .if3 .left) (c .before .before .before .before .before .before .before .match2 .rest .0 .0 .0 .0 .1) (c .before .before .before .before .before .before .before .match2 .rest .0 .0 .0 .1)) (omega arith)) _ _ (c .before .before .eval3 .ensures) (c .enum-told2 .given .1))
 
 eval-returns-12 : (t : ℕ) → eval-lts.Need-returns-12 (callees t) (eval-at t) eval.Post
-eval-returns-12 t c = absurd (other-stuck _ _ _ _ (c .before .before .before .before .before .before .before .before .before .before .pre .1 .1) _ _ (sym (c .before .before .before .before .before .before .before .read .ensures) ∙ c .before .before .before .before .before .r .given .1) (c .before .before .before .before .before .before .before .before .before .before .pre .1 .2) (form-expression _ (λ u v. let k = c .if4 .left in omega (arith, c .before .before .before .match2 .rest .0 .1, c .before .before .before .match2 .rest .1))))
+eval-returns-12 t c = absurd (other-stuck _ _ _ _ (c .before .before .before .before .before .before .before .before .pre .1 .1) _ _ (sym (c .before .before .before .before .before .read .ensures) ∙ c .before .before .before .r .given .1) (c .before .before .before .before .before .before .before .before .pre .1 .2) (form-expression _ (λ u v. let k = c .if2 .taken in omega arith)))
+
+eval-returns-13 : (t : ℕ) → eval-lts.Need-returns-13 (callees t) (eval-at t) eval.Post
+eval-returns-13 t c = absurd (other-stuck _ _ _ _ (c .before .before .before .before .before .before .before .before .before .before .pre .1 .1) _ _ (sym (c .before .before .before .before .before .before .before .read .ensures) ∙ c .before .before .before .before .before .r .given .1) (c .before .before .before .before .before .before .before .before .before .before .pre .1 .2) (form-expression _ (λ u v. let k = c .if4 .left in omega (arith, c .before .before .before .match2 .rest .0 .0 .1, c .before .before .before .match2 .rest .0 .1, c .before .before .before .match2 .rest .1))))
 
 pub +eval-spec : {M : Type 1} → statement M
 +eval-spec = close μ-eval λ t. eval-lts.spec (callees t)
@@ -194,27 +184,21 @@ pub +eval-spec : {M : Type 1} → statement M
     (eval-cast-eval t)
     (eval-eval-requires t)
     (eval-negated-requires t)
-    (eval-element-copy-out-t23 t)
-    (eval-cast-t24 t)
-    (eval-add-t25 t)
-    (eval-mul-t26 t)
-    (eval-add-t27 t)
-    (eval-mul-t28 t)
-    (eval-shared-slice-copy-out-t30 t)
-    (eval-element-copy-out-t33 t)
-    (eval-cast-t34 t)
-    (eval-add-t35 t)
-    (eval-mul-t36 t)
-    (eval-add-t37 t)
-    (eval-mul-t38 t)
-    (eval-shared-slice-copy-out-t40 t)
-    (eval-element-copy-out-literal t)
-    (eval-literal-requires t)
+    (eval-cast-cell-word t)
+    (eval-cell-word-requires t)
+    (eval-cast-cell-word-2 t)
+    (eval-cell-word-requires-2 t)
+    (eval-cast-element t)
     (eval-cast-eval-2 t)
     (eval-eval-requires-2 t)
-    (eval-enum-known-x t)
+    (eval-element-requires t)
+    (eval-element-copy-out-literal t)
+    (eval-literal-requires t)
     (eval-cast-eval-3 t)
     (eval-eval-requires-3 t)
+    (eval-enum-known-x t)
+    (eval-cast-eval-4 t)
+    (eval-eval-requires-4 t)
     (eval-combined-requires t)
     (eval-enum-known-x-2 t)
     (eval-enum-told-2 t)
@@ -228,3 +212,4 @@ pub +eval-spec : {M : Type 1} → statement M
     (eval-returns-10 t)
     (eval-returns-11 t)
     (eval-returns-12 t)
+    (eval-returns-13 t)

@@ -1,13 +1,12 @@
 use mathlib.Core.Path.{_≡_, sym, ap, _∙_}
-use native.Mathlib.Omega.{arith}
 use lib.IntN.{ℤ}
 use mir.Syntax.{w32}
 use mir.Val.{ofZ, toZ}
-use borrow.Author.Needs.{needs}
 use Rattle.engine_ints.specs.declared.Work.the-variants.{Word}
 use Rattle.engine_ints.proofs.Range.{back}
 use Rattle.engine_ready.proofs.Expressions.{local-inside, no-other-place}
 use Rattle.engine_expressions.proofs.Places.{not-absent, element-low, variable-here, variable-at, local-at, constant-at, constant-none}
+use borrow.Author.Needs.{needs}
 use Rattle.engine_expressions.proofs.variable.Statement.{statement}
 use Rattle.engine_expressions.proofs.variable.Tie as tie
 
@@ -53,38 +52,23 @@ element-copy-out-literal c = search needs
 literal-requires : tie.Need-literal-requires
 literal-requires c κs = element-low _ _ _ _ (c .before .before .before .before .before .before .before .before .before .before .before .before .before .before .pre .1)
 
-element-copy-out-t25 : tie.Need-element-copy-out-t25
-element-copy-out-t25 c = search needs
+cell-word-requires : tie.Need-cell-word-requires
+cell-word-requires c κs = variable-here _ _ _ _ (c .before .before .before .pre .1) _ _ (c .before .before .before .pre .3) (c .before .before .before .pre .2) (c .before .before .before .pre .4) (c .match .keys2)
 
-add-t26 : tie.Need-add-t26
-add-t26 c = record { fits = omega (arith, variable-here _ _ _ _ (c .before .before .before .before .pre .1) _ _ (c .before .before .before .before .pre .3) (c .before .before .before .before .pre .2) (c .before .before .before .before .pre .4) (c .before .match .keys2)) }
+mul-t24 : tie.Need-mul-t24
+mul-t24 c = search needs
 
-mul-t27 : tie.Need-mul-t27
-mul-t27 c = record { fits = omega (arith, variable-here _ _ _ _ (c .before .before .before .before .pre .1) _ _ (c .before .before .before .before .pre .3) (c .before .before .before .before .pre .2) (c .before .before .before .before .pre .4) (c .before .match .keys2)) }
-
-add-t28 : tie.Need-add-t28
-add-t28 c = record { fits = omega (arith, variable-here _ _ _ _ (c .before .before .before .before .pre .1) _ _ (c .before .before .before .before .pre .3) (c .before .before .before .before .pre .2) (c .before .before .before .before .pre .4) (c .before .match .keys2)) }
-
-mul-t29 : tie.Need-mul-t29
-mul-t29 c = record { fits = omega (arith, variable-here _ _ _ _ (c .before .before .before .before .pre .1) _ _ (c .before .before .before .before .pre .3) (c .before .before .before .before .pre .2) (c .before .before .before .before .pre .4) (c .before .match .keys2)) }
-
-shared-slice-copy-out-t31 : tie.Need-shared-slice-copy-out-t31
-shared-slice-copy-out-t31 c = omega (arith, variable-here _ _ _ _ (c .before .before .before .before .pre .1) _ _ (c .before .before .before .before .pre .3) (c .before .before .before .before .pre .2) (c .before .before .before .before .pre .4) (c .before .match .keys2))
-
-mul-t32 : tie.Need-mul-t32
-mul-t32 c = search needs
-
-element-copy-out-t35 : tie.Need-element-copy-out-t35
-element-copy-out-t35 c = local-inside _ _ _ _ (c .before .before .before .pre .1) _ _ (c .before .before .before .pre .3) (c .before .before .before .pre .2) (c .before .before .before .pre .4) (c .match .keys3)
+element-copy-out-t27 : tie.Need-element-copy-out-t27
+element-copy-out-t27 c = local-inside _ _ _ _ (c .before .before .before .pre .1) _ _ (c .before .before .before .pre .3) (c .before .before .before .pre .2) (c .before .before .before .pre .4) (c .match .keys3)
 
 returns-3 : tie.Need-returns-3
 returns-3 c = let h : toZ w32 (ofZ w32 (c .literal .result)) ≡ c .literal .result = search needs in ap (λ (z : ℤ). Word z (c .before .before .before .before .before .before .before .before .before .before .before .before .before .before .before .args .left)) (h ∙ c .literal .ensures) ∙ constant-at _ _ _ _ (c .before .before .before .before .before .before .before .before .before .before .before .before .before .before .before .pre .1) _ _ (c .before .before .before .before .before .before .before .before .before .before .before .before .before .before .before .pre .3) (c .before .before .before .before .before .before .before .before .before .before .before .before .before .before .before .pre .2) (c .before .before .before .before .before .before .before .before .before .before .before .before .before .before .before .pre .4) (c .before .before .before .before .before .before .before .before .before .before .before .before .match .keys1) _ (sym (c .before .before .before .before .before .before .before .before .before .before .read .ensures) ∙ c .before .before .before .before .before .before .before .before .b .given .1) _ (c .before .before .before .before .before .before .field .ensures .0) _ (sym (c .before .before .before .before .before .read2 .ensures) ∙ c .before .before .before .c .given .1) _
 
 returns-4 : tie.Need-returns-4
-returns-4 c = ap (λ (z : ℤ). Word z (c .before .before .before .before .before .args .left)) (back (record { sfits = c .t31 .given })) ∙ variable-at _ _ _ _ (c .before .before .before .before .before .pre .1) _ _ (c .before .before .before .before .before .pre .3) (c .before .before .before .before .before .pre .2) (c .before .before .before .before .before .pre .4) (c .before .before .match .keys2) _
+returns-4 c = let h : toZ w32 (ofZ w32 (c .cell-word .result)) ≡ c .cell-word .result = search needs in ap (λ (z : ℤ). Word z (c .before .before .before .before .args .left)) (h ∙ c .cell-word .ensures) ∙ variable-at _ _ _ _ (c .before .before .before .before .pre .1) _ _ (c .before .before .before .before .pre .3) (c .before .before .before .before .pre .2) (c .before .before .before .before .pre .4) (c .before .match .keys2) _
 
 returns-5 : tie.Need-returns-5
-returns-5 c = ap (λ (z : ℤ). Word z (c .before .before .before .before .args .left)) (back (record { sfits = c .t35 .given })) ∙ local-at _ _ _ _ (c .before .before .before .before .pre .1) _ _ (c .before .before .before .before .pre .3) (c .before .before .before .before .pre .2) (c .before .before .before .before .pre .4) (c .before .match .keys3) _
+returns-5 c = ap (λ (z : ℤ). Word z (c .before .before .before .before .args .left)) (back (record { sfits = c .t27 .given })) ∙ local-at _ _ _ _ (c .before .before .before .before .pre .1) _ _ (c .before .before .before .before .pre .3) (c .before .before .before .before .pre .2) (c .before .before .before .before .pre .4) (c .before .match .keys3) _
 
 returns-6 : tie.Need-returns-6
 returns-6 c = let n = c .match .rest in absurd (no-other-place _ _ _ _ (c .before .before .before .pre .1) _ _ (c .before .before .before .pre .3) (c .before .before .before .pre .2) (c .before .before .before .pre .4) (n .0 .0 .1) (n .0 .1) (n .1))
@@ -107,14 +91,9 @@ variable-spec =
     returns-2
     element-copy-out-literal
     literal-requires
-    element-copy-out-t25
-    add-t26
-    mul-t27
-    add-t28
-    mul-t29
-    shared-slice-copy-out-t31
-    mul-t32
-    element-copy-out-t35
+    cell-word-requires
+    mul-t24
+    element-copy-out-t27
     returns-3
     returns-4
     returns-5

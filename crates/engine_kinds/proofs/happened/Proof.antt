@@ -25,7 +25,7 @@ returns : tie.Need-returns
 returns c = as-outside _ _ _ (c .before .before .before .before .before .before .pre .1) _ (c .before .before .before .before .number-at .ensures) (c .before .before .before .if1 .taken) _ (c .before .sent-outside .ensures)
 
 sliced-requires : tie.Need-sliced-requires
-sliced-requires c κs = (c .before .before .before .before .before .pre .0, slice-copied _ _ _ (c .before .before .before .before .before .pre .1) _ (c .before .before .before .number-at .ensures) _ (c .before .before .before .before .before .pre .4) (c .before .if2 .taken))
+sliced-requires c κs = (c .before .before .before .before .before .pre .0, slice-copied _ _ _ (c .before .before .before .before .before .pre .1) _ (c .before .before .before .number-at .ensures) _ (c .before .before .before .before .before .pre .4) (c .before .if2 .taken), c .before .before .before .before .before .pre .5)
 
 same-length-2 : tie.Need-same-length-2
 same-length-2 c = search needs
@@ -52,16 +52,16 @@ remove-requires : tie.Need-remove-requires
 remove-requires c κs = (laid _ _ (c .before .before .before .before .before .before .before .before .before .before .pre .0 .state), omega (arith, c .before .before .before .before .waiting-count .ensures, c .before .before .before .if3 .left))
 
 delivers-requires : tie.Need-delivers-requires
-delivers-requires c κs = let k = takes _ _ _ _ (c .before .before .before .before .before .before .before .before .before .before .before .before .before .before .pre .0) (c .before .before .before .before .before .before .before .before .before .before .before .before .before .before .pre .1) _ (c .before .before .before .before .before .before .before .before .before .before .before .before .number-at .ensures) (c .before .before .before .before .before .before .before .before .before .before .before .if1 .left) (c .before .before .before .before .before .before .before .before .before .before .if2 .left) _ (c .before .before .before .before .before .before .before .before .before .before .before .before .before .before .pre .2) _ (c .before .before .before .before .before .before .before .before .waiting-count .ensures) (c .before .before .before .before .before .before .before .if3 .left) _ (c .before .before .before .before .before .telegram-at .ensures _ (c .before .before .before .before .before .before .before .before .before .before .before .before .before .before .pre .0 .state .whole)) _ (c .before .before .before .remove .ensures _ (c .before .before .before .before .before .before .before .before .before .before .before .before .before .before .pre .0 .state)) in (taken-plays k, taken-long k (c .before .before .before .before .before .before .before .before .before .before .before .before .before .before .args .old .now) (c .before .before .before .before .before .before .before .before .before .before .before .before .before .before .pre .3), taken-fits k, taken-outer k (c .before .match .keys1))
+delivers-requires c κs = let k = takes _ _ _ _ (c .before .before .before .before .before .before .before .before .before .before .before .before .before .before .pre .0) (c .before .before .before .before .before .before .before .before .before .before .before .before .before .before .pre .1) _ (c .before .before .before .before .before .before .before .before .before .before .before .before .number-at .ensures) (c .before .before .before .before .before .before .before .before .before .before .before .if1 .left) (c .before .before .before .before .before .before .before .before .before .before .if2 .left) _ (c .before .before .before .before .before .before .before .before .before .before .before .before .before .before .pre .2) _ (c .before .before .before .before .before .before .before .before .waiting-count .ensures) (c .before .before .before .before .before .before .before .if3 .left) _ (c .before .before .before .before .before .telegram-at .ensures _ (c .before .before .before .before .before .before .before .before .before .before .before .before .before .before .pre .0 .state .whole)) _ (c .before .before .before .remove .ensures _ (c .before .before .before .before .before .before .before .before .before .before .before .before .before .before .pre .0 .state)) in (taken-plays k, taken-long k (c .before .before .before .before .before .before .before .before .before .before .before .before .before .before .args .old .now) (c .before .before .before .before .before .before .before .before .before .before .before .before .before .before .pre .3), taken-fits k, taken-outer k (c .before .match .keys1), c .before .before .before .before .before .before .before .before .before .before .before .before .before .before .pre .5)
 
 number-requires : tie.Need-number-requires
 number-requires c κs = ap (leZ (pos 0)) (given (c .before .before .before .before .before .before .telegram-at .result .receiver) (c .struct-told .given .1 .0 .1)) ∙ receiver-number _ (c .before .before .before .before .before .before .before .before .before .before .before .before .before .before .before .pre .0 .passed) _ (taken-fits (takes _ _ _ _ (c .before .before .before .before .before .before .before .before .before .before .before .before .before .before .before .pre .0) (c .before .before .before .before .before .before .before .before .before .before .before .before .before .before .before .pre .1) _ (c .before .before .before .before .before .before .before .before .before .before .before .before .before .number-at .ensures) (c .before .before .before .before .before .before .before .before .before .before .before .before .if1 .left) (c .before .before .before .before .before .before .before .before .before .before .before .if2 .left) _ (c .before .before .before .before .before .before .before .before .before .before .before .before .before .before .before .pre .2) _ (c .before .before .before .before .before .before .before .before .before .waiting-count .ensures) (c .before .before .before .before .before .before .before .before .if3 .left) _ (c .before .before .before .before .before .before .telegram-at .ensures _ (c .before .before .before .before .before .before .before .before .before .before .before .before .before .before .before .pre .0 .state .whole)) _ (c .before .before .before .before .remove .ensures _ (c .before .before .before .before .before .before .before .before .before .before .before .before .before .before .before .pre .0 .state))))
 
 panicked-requires : tie.Need-panicked-requires
-panicked-requires c κs = let k = takes _ _ _ _ (c .before .before .before .before .before .before .before .before .before .before .before .before .before .before .before .before .pre .0) (c .before .before .before .before .before .before .before .before .before .before .before .before .before .before .before .before .pre .1) _ (c .before .before .before .before .before .before .before .before .before .before .before .before .before .before .number-at .ensures) (c .before .before .before .before .before .before .before .before .before .before .before .before .before .if1 .left) (c .before .before .before .before .before .before .before .before .before .before .before .before .if2 .left) _ (c .before .before .before .before .before .before .before .before .before .before .before .before .before .before .before .before .pre .2) _ (c .before .before .before .before .before .before .before .before .before .before .waiting-count .ensures) (c .before .before .before .before .before .before .before .before .before .if3 .left) _ (c .before .before .before .before .before .before .before .telegram-at .ensures _ (c .before .before .before .before .before .before .before .before .before .before .before .before .before .before .before .before .pre .0 .state .whole)) _ (c .before .before .before .before .before .remove .ensures _ (c .before .before .before .before .before .before .before .before .before .before .before .before .before .before .before .before .pre .0 .state)) in (taken-plays k, taken-long k (c .before .before .before .before .before .before .before .before .before .before .before .before .before .before .before .before .args .old .now) (c .before .before .before .before .before .before .before .before .before .before .before .before .before .before .before .before .pre .3), corrupt-bound k (c .before .before .before .match .keys2) _ (c .number .ensures ∙ ap natAbs (given (c .before .before .before .before .before .before .before .telegram-at .result .receiver) (c .before .struct-told .given .1 .0 .1))))
+panicked-requires c κs = let k = takes _ _ _ _ (c .before .before .before .before .before .before .before .before .before .before .before .before .before .before .before .before .pre .0) (c .before .before .before .before .before .before .before .before .before .before .before .before .before .before .before .before .pre .1) _ (c .before .before .before .before .before .before .before .before .before .before .before .before .before .before .number-at .ensures) (c .before .before .before .before .before .before .before .before .before .before .before .before .before .if1 .left) (c .before .before .before .before .before .before .before .before .before .before .before .before .if2 .left) _ (c .before .before .before .before .before .before .before .before .before .before .before .before .before .before .before .before .pre .2) _ (c .before .before .before .before .before .before .before .before .before .before .waiting-count .ensures) (c .before .before .before .before .before .before .before .before .before .if3 .left) _ (c .before .before .before .before .before .before .before .telegram-at .ensures _ (c .before .before .before .before .before .before .before .before .before .before .before .before .before .before .before .before .pre .0 .state .whole)) _ (c .before .before .before .before .before .remove .ensures _ (c .before .before .before .before .before .before .before .before .before .before .before .before .before .before .before .before .pre .0 .state)) in (taken-plays k, taken-long k (c .before .before .before .before .before .before .before .before .before .before .before .before .before .before .before .before .args .old .now) (c .before .before .before .before .before .before .before .before .before .before .before .before .before .before .before .before .pre .3), corrupt-bound k (c .before .before .before .match .keys2) _ (c .number .ensures ∙ ap natAbs (given (c .before .before .before .before .before .before .before .telegram-at .result .receiver) (c .before .struct-told .given .1 .0 .1))), c .before .before .before .before .before .before .before .before .before .before .before .before .before .before .before .before .pre .5)
 
 reacts-requires : tie.Need-reacts-requires
-reacts-requires c κs = let k = takes _ _ _ _ (c .before .before .before .before .before .before .before .before .before .before .before .before .before .before .pre .0) (c .before .before .before .before .before .before .before .before .before .before .before .before .before .before .pre .1) _ (c .before .before .before .before .before .before .before .before .before .before .before .before .number-at .ensures) (c .before .before .before .before .before .before .before .before .before .before .before .if1 .left) (c .before .before .before .before .before .before .before .before .before .before .if2 .left) _ (c .before .before .before .before .before .before .before .before .before .before .before .before .before .before .pre .2) _ (c .before .before .before .before .before .before .before .before .waiting-count .ensures) (c .before .before .before .before .before .before .before .if3 .left) _ (c .before .before .before .before .before .telegram-at .ensures _ (c .before .before .before .before .before .before .before .before .before .before .before .before .before .before .pre .0 .state .whole)) _ (c .before .before .before .remove .ensures _ (c .before .before .before .before .before .before .before .before .before .before .before .before .before .before .pre .0 .state)) in (taken-plays k, taken-long k (c .before .before .before .before .before .before .before .before .before .before .before .before .before .before .args .old .now) (c .before .before .before .before .before .before .before .before .before .before .before .before .before .before .pre .3), taken-fits k, taken-inner k (c .before .match .rest .0 .1) (c .before .match .rest .1))
+reacts-requires c κs = let k = takes _ _ _ _ (c .before .before .before .before .before .before .before .before .before .before .before .before .before .before .pre .0) (c .before .before .before .before .before .before .before .before .before .before .before .before .before .before .pre .1) _ (c .before .before .before .before .before .before .before .before .before .before .before .before .number-at .ensures) (c .before .before .before .before .before .before .before .before .before .before .before .if1 .left) (c .before .before .before .before .before .before .before .before .before .before .if2 .left) _ (c .before .before .before .before .before .before .before .before .before .before .before .before .before .before .pre .2) _ (c .before .before .before .before .before .before .before .before .waiting-count .ensures) (c .before .before .before .before .before .before .before .if3 .left) _ (c .before .before .before .before .before .telegram-at .ensures _ (c .before .before .before .before .before .before .before .before .before .before .before .before .before .before .pre .0 .state .whole)) _ (c .before .before .before .remove .ensures _ (c .before .before .before .before .before .before .before .before .before .before .before .before .before .before .pre .0 .state)) in (taken-plays k, taken-long k (c .before .before .before .before .before .before .before .before .before .before .before .before .before .before .args .old .now) (c .before .before .before .before .before .before .before .before .before .before .before .before .before .before .pre .3), taken-fits k, taken-inner k (c .before .match .rest .0 .1) (c .before .match .rest .1), c .before .before .before .before .before .before .before .before .before .before .before .before .before .before .pre .5)
 
 same-length-4 : tie.Need-same-length-4
 same-length-4 c = search needs

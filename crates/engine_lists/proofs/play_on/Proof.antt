@@ -12,10 +12,10 @@ use Rattle.engine_lists.proofs.play_on.Statement.{statement}
 use Rattle.engine_lists.proofs.play_on.Tie as tie
 
 abbrev Inv-loop : tie.InvT-loop
-Inv-loop sheet directory events st₀ spare₀ answers₀ count i₀ st spare answers i = Playing sheet directory st × (length st ≡ length st₀) × (length spare ≡ length spare₀) × (length answers ≡ length answers₀) × (i ≤ count) × (count ≡ length events / 9) × (inWords (eventsOf sheet st₀ (eventsFrom events count 0)) ≡ behind (take (10 * i) answers) (rest sheet directory events count i st))
+Inv-loop sheet directory cells events st₀ spare₀ answers₀ count i₀ st spare answers i = Playing sheet directory st × (length st ≡ length st₀) × (length spare ≡ length spare₀) × (length answers ≡ length answers₀) × (i ≤ count) × (count ≡ length events / 9) × (inWords (eventsOf sheet st₀ (eventsFrom events count 0)) ≡ behind (take (10 * i) answers) (rest sheet directory events count i st))
 
 abbrev μ-loop : tie.MeasureT-loop
-μ-loop sheet directory events st₀ spare₀ answers₀ count i₀ st spare answers i = count - i
+μ-loop sheet directory cells events st₀ spare₀ answers₀ count i₀ st spare answers i = count - i
 
 loop-holds : tie.Need-loop-holds Inv-loop μ-loop
 loop-holds c = (c .before .pre .0, refl, refl, refl, omega arith, refl, no-event-yet (c .before .args .sheet .now) (c .before .args .directory .now) (c .before .args .events .now) _ (c .before .args .st .now) (c .before .args .answers .now))
@@ -39,7 +39,7 @@ part-next-end : tie.Need-part-next-end Inv-loop μ-loop
 part-next-end c = omega arith
 
 next-requires : tie.Need-next-requires Inv-loop μ-loop
-next-requires c κs = let v = c .before .before .before .before .loop .inv in (v .0, v .2 ∙ c .before .before .before .before .before .before .pre .1 ∙ sym (v .1))
+next-requires c κs = let v = c .before .before .before .before .loop .inv in (v .0, v .2 ∙ c .before .before .before .before .before .before .pre .1 ∙ sym (v .1), c .before .before .before .before .before .before .pre .3)
 
 mul-put-answer : tie.Need-mul-put-answer Inv-loop μ-loop
 mul-put-answer c = omega arith
@@ -49,7 +49,7 @@ put-answer-requires c κs =
     let v = c .before .before .before .before .before .before .before .before .loop .inv in
     let l = c .before .before .before .before .before .before .before .loop-test .taken in
     let m = c .before .before .before .before .before .before .before .before .before .before .pre .2 in
-    (omega arith, steps-small (c .before .before .before .before .before .before .before .before .before .before .args .sheet .now) (λ k. omega (arith, c .before .before .before .before .before .before .before .before .before .shared-slice-known .given k)) (c .before .before .before .before .before .before .before .before .loop .st) _ (c .before .before .before .next .result) (c .before .before .before .next .last .1 .1 .0) (c .before .before .before .next .ensures))
+    (omega arith, steps-small (c .before .before .before .before .before .before .before .before .before .before .args .sheet .now) (λ k. omega (arith, c .before .before .before .before .before .before .before .before .before .shared-slice-known .given k)) (c .before .before .before .before .before .before .before .before .loop .st) _ (c .before .before .before .next .result) (c .before .before .before .next .last .1 .1 .1 .0) (c .before .before .before .next .ensures))
 
 add-i : tie.Need-add-i Inv-loop μ-loop
 add-i c = let l = c .before .before .before .before .before .before .before .before .before .loop-test .taken in omega arith
@@ -69,7 +69,7 @@ loop-again c =
     let nine : 9 * i + 9 - 9 * i ≡ 9 = omega arith in
     let e : take (9 * i + 9 - 9 * i) (drop (9 * i) (s .args .events .now)) ≡ eventAt (s .args .events .now) i = ap (λ n. take n (drop (9 * i) (s .args .events .now))) nine in
     let room : length (c .before .before .before .before .before .before .before .before .before .before .loop .answers) ≡ 10 * (length (s .args .events .now) / 9) = v .3 ∙ s .pre .2 in
-    (goes-on (s .args .sheet .now) (s .args .directory .now) st _ (next .result) (next .last .1 .1 .0) (v .0) (next .ensures), next .kept .1 .1 .0 ∙ v .1, next .kept .1 .1 .1 .0 ∙ v .2, put .kept .0 ∙ v .3, omega arith, v .5, event-more (s .args .sheet .now) (s .args .directory .now) (s .args .events .now) _ i st (c .before .before .before .before .before .before .before .before .before .before .loop .answers) _ l room (v .0) (v .6) _ e (next .result) (next .last .1 .1 .0) (next .ensures) (put .last .0) (put .ensures))
+    (goes-on (s .args .sheet .now) (s .args .directory .now) st _ (next .result) (next .last .1 .1 .1 .0) (v .0) (next .ensures), next .kept .1 .1 .1 .0 ∙ v .1, next .kept .1 .1 .1 .1 .0 ∙ v .2, put .kept .0 ∙ v .3, omega arith, v .5, event-more (s .args .sheet .now) (s .args .directory .now) (s .args .events .now) _ i st (c .before .before .before .before .before .before .before .before .before .before .loop .answers) _ l room (v .0) (v .6) _ e (next .result) (next .last .1 .1 .1 .0) (next .ensures) (put .last .0) (put .ensures))
 
 same-length : tie.Need-same-length Inv-loop μ-loop
 same-length c = search needs

@@ -10,10 +10,10 @@ use Rattle.engine_starts.proofs.from_defaults.Statement.{statement}
 use Rattle.engine_starts.proofs.from_defaults.Tie as tie
 
 abbrev Inv-loop : tie.InvT-loop
-Inv-loop sheet directory st₀ first count most steps₀ i₀ st steps i = (i ≤ count) × OfSheet sheet st × (steps ≤ i * 65535) × (started sheet ≡ startFrom sheet (count - i) (first + i) steps st)
+Inv-loop sheet directory cells st₀ first count most steps₀ i₀ st steps i = (i ≤ count) × OfSheet sheet st × (steps ≤ i * 65535) × (started sheet ≡ startFrom sheet (count - i) (first + i) steps st)
 
 abbrev μ-loop : tie.MeasureT-loop
-μ-loop sheet directory st₀ first count most steps₀ i₀ st steps i = count - i
+μ-loop sheet directory cells st₀ first count most steps₀ i₀ st steps i = count - i
 
 default-state-requires : tie.Need-default-state-requires Inv-loop μ-loop
 default-state-requires c κs = search needs
@@ -40,7 +40,7 @@ add-initial c =
     record { fits = omega arith }
 
 initial-requires : tie.Need-initial-requires Inv-loop μ-loop
-initial-requires c κs = (record { directory = c .before .before .before .before .before .before .before .before .before .before .pre .0; passed = c .before .before .before .before .before .before .before .before .before .before .pre .1; state = c .before .before .loop .inv .1 }, here-bound _ (c .before .before .before .before .before .before .before .before .before .before .pre .1) _ _ _ _ (c .before .before .before .before .before .externals .ensures .0) (c .before .before .before .before .count-in .ensures _ (c .before .before .before .before .before .before .before .before .before .before .pre .0)) (c .before .before .before .limit .ensures .0) (c .before .loop-test .taken))
+initial-requires c κs = (record { directory = c .before .before .before .before .before .before .before .before .before .before .pre .0; passed = c .before .before .before .before .before .before .before .before .before .before .pre .1; state = c .before .before .loop .inv .1 }, here-bound _ (c .before .before .before .before .before .before .before .before .before .before .pre .1) _ _ _ _ (c .before .before .before .before .before .externals .ensures .0) (c .before .before .before .before .count-in .ensures _ (c .before .before .before .before .before .before .before .before .before .before .pre .0)) (c .before .before .before .limit .ensures .0) (c .before .loop-test .taken), c .before .before .before .before .before .before .before .before .before .before .pre .3)
 
 enum-known-r : tie.Need-enum-known-r Inv-loop μ-loop
 enum-known-r c = search needs

@@ -30,7 +30,7 @@ add-run-body c = search needs
 run-body-requires : tie.Need-run-body-requires
 run-body-requires c κs =
     let x = chart-element _ _ _ (sym (c .before .before .before .before .before .before .before .chart-of .ensures) ∙ c .before .before .before .before .before .c .given .1) in
-    (c .before .before .before .before .before .before .before .before .before .pre .0 .directory, c .before .before .before .before .before .before .before .before .before .pre .0 .passed, c .before .before .before .before .before .before .before .before .before .pre .0 .state, initial-called _ (c .before .before .before .before .before .before .before .before .before .pre .0 .passed) _ (x .0) _ (x .1) _ (c .before .before .before .with-role .ensures))
+    (c .before .before .before .before .before .before .before .before .before .pre .0 .directory, c .before .before .before .before .before .before .before .before .before .pre .0 .passed, c .before .before .before .before .before .before .before .before .before .pre .0 .state, initial-called _ (c .before .before .before .before .before .before .before .before .before .pre .0 .passed) _ (x .0) _ (x .1) _ (c .before .before .before .with-role .ensures), c .before .before .before .before .before .before .before .before .before .pre .2)
 
 same-length : tie.Need-same-length
 same-length c = search needs

@@ -7,7 +7,7 @@ use Prim.Native.Nat.{ℕ, _<_}
 use borrow.Fn.Kinds.{In}
 use borrow.Fn.PlainCycle.{Measures, is, falls, and as joined}
 use Rattle.sheet.specs.Names.{root}
-use Rattle.sheet_rules.specs.Forms.{assign, externalSend, internalSend, arm, clockAct, call as calls, choice, loop, sequence}
+use Rattle.sheet_rules.specs.Forms.{assign, externalSend, internalSend, arm, clockAct, call as calls, choice, loop, sequence, assignElement}
 use Rattle.machine.specs.Run.{inBody, runOf}
 use Rattle.sheet_rules.proofs.Forms.{form-arm, form-clockAct}
 use Rattle.engine_ints.proofs.Range.{is-zero, not-zero}
@@ -15,9 +15,9 @@ use Rattle.engine_ready.specs.Ready.{contextAt, Ready}
 use Rattle.engine_ready.proofs.Statements.{ready-after, choice-operand, choice-then, choice-else, loop-operand, loop-body, sequence-first, sequence-second}
 use Rattle.engine_sending.specs.Visit.{Visit}
 use Rattle.engine_sending.proofs.Sends.{data-given, no-record}
-use Rattle.engine_acts.proofs.Acts.{act-cell}
-use Rattle.engine_statements.proofs.Bodies.{body-called, number-small, has-data, four-parameters, callable, given-left, call-done, called-refused, called-stuck, too-deep, body-runs, innerOf, inner-context, fresh-there, few-parameters, few-variables, inner-ready, inner-statement}
-use Rattle.engine_statements.proofs.Steps.{word-left, done-left, none-left, no-node, other-stuck, visit, skips, choice-no, choice-yes, choice-refused, choice-stuck, loop-ends, loop-refused, loop-stuck, turn-refused, turn-stuck, turn-visit, turn-none, turn-again, first-done, first-refused, first-stuck, with-ran, step-back, past-four, below-next, form-assign, form-external, form-internal, form-call, form-choice, form-loop, form-sequence}
+use Rattle.engine_acts.proofs.Acts.{act-lies}
+use Rattle.engine_statements.proofs.Bodies.{body-called, number-small, has-data, four-parameters, callable, given-left, call-done, called-refused, called-stuck, too-deep, body-runs, inner-context, fresh-there, few-parameters, few-variables, inner-ready, inner-statement}
+use Rattle.engine_statements.proofs.Steps.{word-left, done-left, none-left, no-node, other-stuck, visit, skips, choice-no, choice-yes, choice-refused, choice-stuck, loop-ends, loop-refused, loop-stuck, turn-refused, turn-stuck, turn-visit, turn-none, turn-again, first-done, first-refused, first-stuck, with-ran, step-back, past-four, below-next, form-assign, form-external, form-internal, form-call, form-choice, form-loop, form-sequence, form-assign-element}
 use Rattle.engine_statements.proofs.call.Reads as call
 use Rattle.engine_statements.proofs.call.Kinds as call-kinds
 use Rattle.engine_statements.proofs.+call+enter+repeat+run.Lts-call as call-lts
@@ -32,6 +32,8 @@ use Rattle.engine_statements.proofs.run.Kinds as run-kinds
 use Rattle.engine_statements.proofs.+call+enter+repeat+run.Lts-run as run-lts
 use Rattle.engine_acts.proofs.arming.Reads as arming-reads
 use Rattle.engine_acts.proofs.assign.Reads as assign-reads
+use Rattle.engine_acts.proofs.assign_element.Reads as assign-element-reads
+use Rattle.engine_cells.proofs.inner.Reads as inner-reads
 use Rattle.engine_acts.proofs.clock.Reads as clock-reads
 use Rattle.engine_sending.proofs.external_send.Reads as external-send-reads
 use Rattle.engine_sending.proofs.gather.Reads as gather-reads
@@ -84,7 +86,7 @@ call-claims t = (read-reads.Asked, read-reads.Learnt, gather-reads.Asked, gather
 
 -- what enter knows of those it calls
 abbrev enter-claims : ℕ → enter-lts.Claims
-enter-claims t = (fresh-locals-reads.Asked, fresh-locals-reads.Learnt, run-below t, run.Post)
+enter-claims t = (inner-reads.Asked, inner-reads.Learnt, fresh-locals-reads.Asked, fresh-locals-reads.Learnt, run-below t, run.Post)
 
 -- what repeat knows of those it calls
 abbrev repeat-claims : ℕ → repeat-lts.Claims
@@ -109,6 +111,8 @@ run-claims t = (
   run.Post,
   repeat-below t,
   repeat.Post,
+  assign-element-reads.Asked,
+  assign-element-reads.Learnt,
   arming-reads.Asked,
   arming-reads.Learnt,
   clock-reads.Asked,
@@ -122,7 +126,7 @@ call-cast-number : (t : ℕ) → call-lts.Need-cast-number (call-claims t) (call
 call-cast-number t c = search needs
 
 call-add-number : (t : ℕ) → call-lts.Need-add-number (call-claims t) (call-at t) call.Post
-call-add-number t c = let h : getD (c .before .before .before .args .context .now) 4 0 + c .before .before .before .args .r .f1 < 65536 = number-small _ _ _ _ _ _ (c .before .before .before .pre .1 .1) in let g : getD (c .before .before .before .args .context .now) 4 0 + c .before .before .before .args .r .f1 < 18446744073709551616 = omega arith in record { fits = g }
+call-add-number t c = let h : getD (c .before .before .before .args .context .now) 3 0 + c .before .before .before .args .r .f1 < 65536 = number-small _ _ _ _ _ _ (c .before .before .before .pre .1 .1) in let g : getD (c .before .before .before .args .context .now) 3 0 + c .before .before .before .args .r .f1 < 18446744073709551616 = omega arith in record { fits = g }
 
 call-read-requires : (t : ℕ) → call-lts.Need-read-requires (call-claims t) (call-at t) call.Post
 call-read-requires t c κs = search needs
@@ -178,38 +182,26 @@ call-returns-4 t c = called-stuck _ _ _ _ _ _ (c .before .before .before .before
 enter-returns : (t : ℕ) → enter-lts.Need-returns (enter-claims t) (enter-at t) enter.Post
 enter-returns t c = λ lo. too-deep _ _ _ _ _ _ _ lo (c .if1 .taken)
 
-enter-element-copy-out-run : (t : ℕ) → enter-lts.Need-element-copy-out-run (enter-claims t) (enter-at t) enter.Post
-enter-element-copy-out-run t c = search needs
-
-enter-element-copy-out-t18 : (t : ℕ) → enter-lts.Need-element-copy-out-t18 (enter-claims t) (enter-at t) enter.Post
-enter-element-copy-out-t18 t c = search needs
-
-enter-element-copy-out-t21 : (t : ℕ) → enter-lts.Need-element-copy-out-t21 (enter-claims t) (enter-at t) enter.Post
-enter-element-copy-out-t21 t c = search needs
-
-enter-element-copy-out-t24 : (t : ℕ) → enter-lts.Need-element-copy-out-t24 (enter-claims t) (enter-at t) enter.Post
-enter-element-copy-out-t24 t c = search needs
-
-enter-element-copy-out-t27 : (t : ℕ) → enter-lts.Need-element-copy-out-t27 (enter-claims t) (enter-at t) enter.Post
-enter-element-copy-out-t27 t c = search needs
+enter-inner-requires : (t : ℕ) → enter-lts.Need-inner-requires (enter-claims t) (enter-at t) enter.Post
+enter-inner-requires t c κs = c .before .before .pre .1 .1 .running .whole
 
 enter-fresh-locals-requires : (t : ℕ) → enter-lts.Need-fresh-locals-requires (enter-claims t) (enter-at t) enter.Post
-enter-fresh-locals-requires t c κs = (c .before .before .before .before .before .before .before .pre .1 .0, few-parameters _ _ _ _ _ _ (c .before .before .before .before .before .before .before .pre .1 .1), few-variables _ _ _ _ _ _ (c .before .before .before .before .before .before .before .pre .1 .1))
+enter-fresh-locals-requires t c κs = (c .before .before .before .pre .1 .0, few-parameters _ _ _ _ _ _ (c .before .before .before .pre .1 .1), few-variables _ _ _ _ _ _ (c .before .before .before .pre .1 .1))
 
 enter-add-run : (t : ℕ) → enter-lts.Need-add-run (enter-claims t) (enter-at t) enter.Post
-enter-add-run t c = let h = c .before .before .before .before .before .before .before .before .before .before .before .pre .1 .2 in record { fits = omega arith }
+enter-add-run t c = let h = c .before .before .before .before .before .before .before .pre .1 .2 in record { fits = omega arith }
 
 enter-cast-run : (t : ℕ) → enter-lts.Need-cast-run (enter-claims t) (enter-at t) enter.Post
 enter-cast-run t c = search needs
 
 enter-run-requires : (t : ℕ) → enter-lts.Need-run-requires (enter-claims t) (enter-at t) enter.Post
-enter-run-requires t c κs = let q = c .before .before .before .before .before .before .before .before .before .before .before .before .pre .0 in let h = c .before .before .before .before .before .before .before .before .before .before .if1 .left in (omega arith, (c .before .before .before .before .before .before .before .before .before .before .before .before .pre .1 .0, subst (λ lo. Ready (c .before .before .before .before .before .before .before .before .before .before .before .before .args .sheet .now) (innerOf (c .before .before .before .before .before .before .before .before .before .before .before .before .args .context .now) (c .before .before .before .before .before .before .before .before .before .before .before .before .args .number)) (c .before .before .before .before .before .before .before .before .before .before .before .before .args .st .now) lo) (sym (c .before .before .before .before .fresh-locals .ensures)) (inner-ready _ _ _ _ _ _ (c .before .before .before .before .before .before .before .before .before .before .before .before .pre .1 .1)), inner-statement _ _ _ _ _ _ (c .before .before .before .before .before .before .before .before .before .before .before .before .pre .1 .1), omega arith))
+enter-run-requires t c κs = let q = c .before .before .before .before .before .before .before .before .pre .0 in let h = c .before .before .before .before .before .before .if1 .left in (omega arith, (c .before .before .before .before .before .before .before .before .pre .1 .0, subst (λ lo. Ready (c .before .before .before .before .before .before .before .before .args .sheet .now) (c .before .before .before .before .before .inner .result) (c .before .before .before .before .before .before .before .before .args .st .now) lo) (sym (c .before .before .before .before .fresh-locals .ensures)) (inner-ready _ _ _ _ _ _ (c .before .before .before .before .before .before .before .before .pre .1 .1) _ (c .before .before .before .before .before .inner .ensures)), inner-statement _ _ _ _ _ _ (c .before .before .before .before .before .before .before .before .pre .1 .1) _ (c .before .before .before .before .before .inner .ensures), omega arith))
 
 enter-same-length : (t : ℕ) → enter-lts.Need-same-length (enter-claims t) (enter-at t) enter.Post
 enter-same-length t c = search needs
 
 enter-returns-2 : (t : ℕ) → enter-lts.Need-returns-2 (enter-claims t) (enter-at t) enter.Post
-enter-returns-2 t c = λ lo. body-runs _ _ _ _ _ _ _ lo (let h = c .before .before .before .before .before .before .before .before .before .before .before .before .if1 .left in omega arith) (fresh-there _ _ _ _ _ _ (c .before .before .before .before .before .before .before .before .before .before .before .before .before .before .pre .1 .1)) _ _ _ (c .before .run .ensures .1 ∙ ap (λ y. runOf (c .before .before .before .before .before .before .before .before .before .before .before .before .before .before .args .sheet .now) (c .before .before .before .before .before .before .before .before .before .before .before .before .before .before .args .depth + 1) y (root (c .before .before .before .before .before .before .before .before .before .before .before .before .before .before .args .b)) (c .before .before .before .before .before .before .before .before .before .before .before .before .before .before .args .left) (c .before .before .before .before .before .before .before .before .before .before .before .before .before .before .args .st .now) (c .before .before .before .before .before .before .fresh-locals .result)) (inner-context _ _ _ _ _ _ (c .before .before .before .before .before .before .before .before .before .before .before .before .before .before .pre .1 .1)) ∙ ap (λ lo. runOf (c .before .before .before .before .before .before .before .before .before .before .before .before .before .before .args .sheet .now) (c .before .before .before .before .before .before .before .before .before .before .before .before .before .before .args .depth + 1) (inBody (contextAt (c .before .before .before .before .before .before .before .before .before .before .before .before .before .before .args .sheet .now) (c .before .before .before .before .before .before .before .before .before .before .before .before .before .before .args .context .now)) (c .before .before .before .before .before .before .before .before .before .before .before .before .before .before .args .b)) (root (c .before .before .before .before .before .before .before .before .before .before .before .before .before .before .args .b)) (c .before .before .before .before .before .before .before .before .before .before .before .before .before .before .args .left) (c .before .before .before .before .before .before .before .before .before .before .before .before .before .before .args .st .now) lo) (c .before .before .before .before .before .before .fresh-locals .ensures))
+enter-returns-2 t c = λ lo. body-runs _ _ _ _ _ _ _ lo (let h = c .before .before .before .before .before .before .before .before .if1 .left in omega arith) (fresh-there _ _ _ _ _ _ (c .before .before .before .before .before .before .before .before .before .before .pre .1 .1)) _ _ _ (c .before .run .ensures .1 ∙ ap (λ y. runOf (c .before .before .before .before .before .before .before .before .before .before .args .sheet .now) (c .before .before .before .before .before .before .before .before .before .before .args .depth + 1) y (root (c .before .before .before .before .before .before .before .before .before .before .args .b)) (c .before .before .before .before .before .before .before .before .before .before .args .left) (c .before .before .before .before .before .before .before .before .before .before .args .st .now) (c .before .before .before .before .before .before .fresh-locals .result)) (inner-context _ _ _ _ _ _ (c .before .before .before .before .before .before .before .before .before .before .pre .1 .1) _ (c .before .before .before .before .before .before .before .inner .ensures)) ∙ ap (λ lo. runOf (c .before .before .before .before .before .before .before .before .before .before .args .sheet .now) (c .before .before .before .before .before .before .before .before .before .before .args .depth + 1) (inBody (contextAt (c .before .before .before .before .before .before .before .before .before .before .args .sheet .now) (c .before .before .before .before .before .before .before .before .before .before .args .context .now)) (c .before .before .before .before .before .before .before .before .before .before .args .b)) (root (c .before .before .before .before .before .before .before .before .before .before .args .b)) (c .before .before .before .before .before .before .before .before .before .before .args .left) (c .before .before .before .before .before .before .before .before .before .before .args .st .now) lo) (c .before .before .before .before .before .before .fresh-locals .ensures))
 
 abbrev repeat-Inv-loop : repeat-lts.InvT-loop
 repeat-Inv-loop sheet directory context st₀ lo₀ depth n r left l₀ st lo l = Visit sheet context st lo n r loop × (runOf sheet depth (contextAt sheet context) n (suc left) st₀ lo₀ ≡ runOf sheet depth (contextAt sheet context) n (suc l) st lo) × (l ≤ left) × (length st ≡ length st₀) × (length lo ≡ length lo₀)
@@ -376,11 +368,14 @@ run-enum-known-o-2 t c = search needs
 run-enum-told-3 : (t : ℕ) → run-lts.Need-enum-told-3 (run-claims t) (run-at t) run.Post
 run-enum-told-3 t c = search needs
 
+run-assign-element-requires : (t : ℕ) → run-lts.Need-assign-element-requires (run-claims t) (run-at t) run.Post
+run-assign-element-requires t c κs = (c .before .before .before .before .before .before .before .before .before .pre .1 .0, visit _ _ _ _ (c .before .before .before .before .before .before .before .before .before .pre .1 .1) _ _ (sym (c .before .before .before .before .before .before .read .ensures) ∙ c .before .before .before .before .r .given .1) (c .before .before .before .before .before .before .before .before .before .pre .1 .2) assignElement (form-assign-element _ (c .before .before .match2 .keys9)))
+
 run-arming-requires : (t : ℕ) → run-lts.Need-arming-requires (run-claims t) (run-at t) run.Post
-run-arming-requires t c κs = (c .before .before .before .before .before .before .before .before .before .before .before .pre .1 .0, visit _ _ _ _ (c .before .before .before .before .before .before .before .before .before .before .before .pre .1 .1) _ _ (sym (c .before .before .before .before .before .before .before .before .read .ensures) ∙ c .before .before .before .before .before .before .r .given .1) (c .before .before .before .before .before .before .before .before .before .before .before .pre .1 .2) arm (form-arm _ (past-four _ (c .before .before .before .if3 .left) (c .before .before .before .before .match2 .rest .0 .0 .0 .0 .0 .0 .0 .1) (c .before .before .before .before .match2 .rest .0 .0 .0 .0 .0 .0 .1) (c .before .before .before .before .match2 .rest .0 .0 .0 .0 .0 .1) (c .before .before .before .before .match2 .rest .0 .0 .0 .0 .1)) (below-next (c .before .before .if4 .taken))))
+run-arming-requires t c κs = (c .before .before .before .before .before .before .before .before .before .before .before .pre .1 .0, visit _ _ _ _ (c .before .before .before .before .before .before .before .before .before .before .before .pre .1 .1) _ _ (sym (c .before .before .before .before .before .before .before .before .read .ensures) ∙ c .before .before .before .before .before .before .r .given .1) (c .before .before .before .before .before .before .before .before .before .before .before .pre .1 .2) arm (form-arm _ (past-four (c .before .before .before .if3 .left) (c .before .before .before .before .match2 .rest .0 .0 .0 .0 .0 .0 .0 .0 .1) (c .before .before .before .before .match2 .rest .0 .0 .0 .0 .0 .0 .0 .1) (c .before .before .before .before .match2 .rest .0 .0 .0 .0 .0 .0 .1) (c .before .before .before .before .match2 .rest .0 .0 .0 .0 .0 .1)) (below-next (c .before .before .if4 .taken))))
 
 run-clock-requires : (t : ℕ) → run-lts.Need-clock-requires (run-claims t) (run-at t) run.Post
-run-clock-requires t c κs = act-cell _ _ _ _ _ _ (visit _ _ _ _ (c .before .before .before .before .before .before .before .before .before .before .before .pre .1 .1) _ _ (sym (c .before .before .before .before .before .before .before .before .read .ensures) ∙ c .before .before .before .before .before .before .r .given .1) (c .before .before .before .before .before .before .before .before .before .before .before .pre .1 .2) clockAct (form-clockAct _ (c .before .before .if4 .left) (below-next (c .before .if5 .taken))))
+run-clock-requires t c κs = act-lies _ _ _ _ _ _ (visit _ _ _ _ (c .before .before .before .before .before .before .before .before .before .before .before .pre .1 .1) _ _ (sym (c .before .before .before .before .before .before .before .before .read .ensures) ∙ c .before .before .before .before .before .before .r .given .1) (c .before .before .before .before .before .before .before .before .before .before .before .pre .1 .2) clockAct (form-clockAct _ (c .before .before .if4 .left) (below-next (c .before .if5 .taken))))
 
 run-returns-3 : (t : ℕ) → run-lts.Need-returns-3 (run-claims t) (run-at t) run.Post
 run-returns-3 t c = (c .before .before .before .before .before .before .before .pre .1 .1 .locals .sixteen, step-back _ _ _ _ _ _ _ (c .before .before .before .before .before .if1 .left) (skips _ _ _ _ (c .before .before .before .before .before .before .before .pre .1 .1) _ _ (sym (c .before .before .before .before .read .ensures) ∙ c .before .before .r .given .1) (c .before .before .before .before .before .before .before .pre .1 .2) (c .match2 .keys1) _ _))
@@ -461,22 +456,35 @@ run-same-length-13 : (t : ℕ) → run-lts.Need-same-length-13 (run-claims t) (r
 run-same-length-13 t c = search needs
 
 run-returns-16 : (t : ℕ) → run-lts.Need-returns-16 (run-claims t) (run-at t) run.Post
-run-returns-16 t c = (c .before .before .before .before .before .before .before .before .before .before .before .before .before .pre .1 .1 .locals .sixteen, step-back _ _ _ _ _ _ _ (c .before .before .before .before .before .before .before .before .before .before .before .if1 .left) (c .before .arming .ensures (c .before .before .before .before .before .before .before .before .before .before .before .before .before .args .depth)))
+run-returns-16 t c = (c .before .before .before .before .before .before .before .before .before .before .before .pre .1 .1 .locals .sixteen, step-back _ _ _ _ _ _ _ (c .before .before .before .before .before .before .before .before .before .if1 .left) (c .before .assign-element .ensures (c .before .before .before .before .before .before .before .before .before .before .before .args .depth)))
 
 run-same-length-14 : (t : ℕ) → run-lts.Need-same-length-14 (run-claims t) (run-at t) run.Post
 run-same-length-14 t c = search needs
 
 run-returns-17 : (t : ℕ) → run-lts.Need-returns-17 (run-claims t) (run-at t) run.Post
-run-returns-17 t c = (c .before .before .before .before .before .before .before .before .before .before .before .before .before .pre .1 .1 .locals .sixteen, step-back _ _ _ _ _ _ _ (c .before .before .before .before .before .before .before .before .before .before .before .if1 .left) (c .before .clock .ensures _ _ _ (c .before .before .before .before .before .before .before .before .before .before .before .before .before .args .depth) (visit _ _ _ _ (c .before .before .before .before .before .before .before .before .before .before .before .before .before .pre .1 .1) _ _ (sym (c .before .before .before .before .before .before .before .before .before .before .read .ensures) ∙ c .before .before .before .before .before .before .before .before .r .given .1) (c .before .before .before .before .before .before .before .before .before .before .before .before .before .pre .1 .2) clockAct (form-clockAct _ (c .before .before .before .before .if4 .left) (below-next (c .before .before .before .if5 .taken))))))
+run-returns-17 t c = (c .before .before .before .before .before .before .before .before .before .before .before .before .before .pre .1 .1 .locals .sixteen, step-back _ _ _ _ _ _ _ (c .before .before .before .before .before .before .before .before .before .before .before .if1 .left) (c .before .arming .ensures (c .before .before .before .before .before .before .before .before .before .before .before .before .before .args .depth)))
+
+run-same-length-15 : (t : ℕ) → run-lts.Need-same-length-15 (run-claims t) (run-at t) run.Post
+run-same-length-15 t c = search needs
 
 run-returns-18 : (t : ℕ) → run-lts.Need-returns-18 (run-claims t) (run-at t) run.Post
-run-returns-18 t c = (c .before .before .before .before .before .before .before .before .pre .1 .1 .locals .sixteen, step-back _ _ _ _ _ _ _ (c .before .before .before .before .before .before .if1 .left) (other-stuck _ _ _ _ (c .before .before .before .before .before .before .before .before .pre .1 .1) _ _ (sym (c .before .before .before .before .before .read .ensures) ∙ c .before .before .before .r .given .1) _ _ (λ p q. let a = c .if3 .taken in omega arith)))
+run-returns-18 t c = (c .before .before .before .before .before .before .before .before .before .before .before .before .before .pre .1 .1 .locals .sixteen, step-back _ _ _ _ _ _ _ (c .before .before .before .before .before .before .before .before .before .before .before .if1 .left) (c .before .clock .ensures _ _ _ (c .before .before .before .before .before .before .before .before .before .before .before .before .before .args .depth) (visit _ _ _ _ (c .before .before .before .before .before .before .before .before .before .before .before .before .before .pre .1 .1) _ _ (sym (c .before .before .before .before .before .before .before .before .before .before .read .ensures) ∙ c .before .before .before .before .before .before .before .before .r .given .1) (c .before .before .before .before .before .before .before .before .before .before .before .before .before .pre .1 .2) clockAct (form-clockAct _ (c .before .before .before .before .if4 .left) (below-next (c .before .before .before .if5 .taken))))))
 
 run-returns-19 : (t : ℕ) → run-lts.Need-returns-19 (run-claims t) (run-at t) run.Post
-run-returns-19 t c = (c .before .before .before .before .before .before .before .before .before .before .pre .1 .1 .locals .sixteen, step-back _ _ _ _ _ _ _ (c .before .before .before .before .before .before .before .before .if1 .left) (other-stuck _ _ _ _ (c .before .before .before .before .before .before .before .before .before .before .pre .1 .1) _ _ (sym (c .before .before .before .before .before .before .before .read .ensures) ∙ c .before .before .before .before .before .r .given .1) _ _ (λ p q. let a = c .if5 .left in let b = c .before .before .before .match2 .rest .1 in let d = c .before .before .before .match2 .rest .0 .1 in let e = c .before .before .before .match2 .rest .0 .0 .1 in let f = c .before .before .before .match2 .rest .0 .0 .0 .1 in omega arith)))
+run-returns-19 t c = (c .before .before .before .before .before .before .before .before .pre .1 .1 .locals .sixteen, step-back _ _ _ _ _ _ _ (c .before .before .before .before .before .before .if1 .left) (other-stuck _ _ _ _ (c .before .before .before .before .before .before .before .before .pre .1 .1) _ _ (sym (c .before .before .before .before .before .read .ensures) ∙ c .before .before .before .r .given .1) _ _ (λ p q. let a = c .if3 .taken in omega arith)))
+
+run-returns-20 : (t : ℕ) → run-lts.Need-returns-20 (run-claims t) (run-at t) run.Post
+run-returns-20 t c = (c .before .before .before .before .before .before .before .before .before .before .pre .1 .1 .locals .sixteen, step-back _ _ _ _ _ _ _ (c .before .before .before .before .before .before .before .before .if1 .left) (other-stuck _ _ _ _ (c .before .before .before .before .before .before .before .before .before .before .pre .1 .1) _ _ (sym (c .before .before .before .before .before .before .before .read .ensures) ∙ c .before .before .before .before .before .r .given .1) _ _ (λ p q. let a = past-four (c .if5 .left) (c .before .before .before .match2 .rest .0 .0 .0 .0 .1) (c .before .before .before .match2 .rest .0 .0 .0 .1) (c .before .before .before .match2 .rest .0 .0 .1) (c .before .before .before .match2 .rest .0 .1) in let f = c .before .before .before .match2 .rest .1 in omega arith)))
 
 pub +call+enter+repeat+run-spec : {M : Type 1} → statement M
-+call+enter+repeat+run-spec = close μ-call μ-enter μ-repeat μ-run (λ t. call-lts.spec (call-claims t)
++call+enter+repeat+run-spec =
+    close
+    μ-call
+    μ-enter
+    μ-repeat
+    μ-run
+    (λ t. call-lts.spec
+    (call-claims t)
     (call-at t)
     call.Post
     (call-element-copy-out-number t)
@@ -504,11 +512,7 @@ pub +call+enter+repeat+run-spec : {M : Type 1} → statement M
     (enter-at t)
     enter.Post
     (enter-returns t)
-    (enter-element-copy-out-run t)
-    (enter-element-copy-out-t18 t)
-    (enter-element-copy-out-t21 t)
-    (enter-element-copy-out-t24 t)
-    (enter-element-copy-out-t27 t)
+    (enter-inner-requires t)
     (enter-fresh-locals-requires t)
     (enter-add-run t)
     (enter-cast-run t)
@@ -547,7 +551,7 @@ pub +call+enter+repeat+run-spec : {M : Type 1} → statement M
     (repeat-enum-told-2 t)
     (repeat-same-length-6 t)
     (repeat-returns-6 t))
-    λ t. run-lts.spec
+    (λ t. run-lts.spec
     (run-claims t)
     (run-at t)
     run.Post
@@ -578,6 +582,7 @@ pub +call+enter+repeat+run-spec : {M : Type 1} → statement M
     (run-run-requires-4 t)
     (run-enum-known-o-2 t)
     (run-enum-told-3 t)
+    (run-assign-element-requires t)
     (run-arming-requires t)
     (run-clock-requires t)
     (run-returns-3 t)
@@ -609,5 +614,7 @@ pub +call+enter+repeat+run-spec : {M : Type 1} → statement M
     (run-returns-16 t)
     (run-same-length-14 t)
     (run-returns-17 t)
+    (run-same-length-15 t)
     (run-returns-18 t)
     (run-returns-19 t)
+    (run-returns-20 t))

@@ -1,6 +1,5 @@
 use borrow.Author.Needs.{needs}
-use Rattle.sheet_rules.specs.Fields.{fieldOf, fieldAt}
-use Rattle.machine.specs.Values.{membersOf}
+use Rattle.sheet_rules.specs.Fields.{fieldOf, fieldAt, membersOf}
 use Rattle.engine_valid_values.proofs.members.Statement.{statement}
 use Rattle.engine_valid_values.proofs.members.Tie as tie
 

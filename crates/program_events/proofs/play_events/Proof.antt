@@ -9,10 +9,10 @@ use Rattle.program_events.proofs.play_events.Statement.{statement}
 use Rattle.program_events.proofs.play_events.Tie as tie
 
 abbrev Inv-loop : tie.InvT-loop
-Inv-loop fd sheet directory st₀ spare₀ most events₀ words₀ answers₀ out₀ have₀ done₀ st spare events words answers out have done = Playing sheet directory st × (length st ≡ length st₀) × (length spare ≡ length spare₀) × (length events ≡ 36000) × (length words ≡ 9000) × (length answers ≡ 10000) × (length out ≡ 32768) × (have < 36) × (done ≤ most)
+Inv-loop fd sheet directory cells st₀ spare₀ most events₀ words₀ answers₀ out₀ have₀ done₀ st spare events words answers out have done = Playing sheet directory st × (length st ≡ length st₀) × (length spare ≡ length spare₀) × (length events ≡ 36000) × (length words ≡ 9000) × (length answers ≡ 10000) × (length out ≡ 32768) × (have < 36) × (done ≤ most)
 
 abbrev μ-loop : tie.MeasureT-loop
-μ-loop fd sheet directory st₀ spare₀ most events₀ words₀ answers₀ out₀ have₀ done₀ st spare events words answers out have done = 36 * (most - done) - have
+μ-loop fd sheet directory cells st₀ spare₀ most events₀ words₀ answers₀ out₀ have₀ done₀ st spare events words answers out have done = 36 * (most - done) - have
 
 loop-holds : tie.Need-loop-holds Inv-loop μ-loop
 loop-holds c = (c .before .pre .0, refl, refl, refl, refl, refl, refl, omega arith, omega arith)
@@ -54,7 +54,7 @@ round-requires c κs =
     let i = c .before .before .before .before .before .before .before .before .before .before .before .loop .inv .3 in
     let l = c .before .before .before .before .before .before .before .before .before .before .loop-test .taken in
     let f = c .before .before .before .before .before .before .before .before .before .before .before .before .before .fits .most in
-    (c .before .before .before .before .before .before .before .before .before .before .before .loop .inv .0, c .before .before .before .before .before .before .before .before .before .before .before .loop .inv .2 ∙ c .before .before .before .before .before .before .before .before .before .before .before .before .before .pre .1 ∙ sym (c .before .before .before .before .before .before .before .before .before .before .before .loop .inv .1), omega arith, omega arith, c .before .before .before .before .before .before .before .before .before .before .before .loop .inv .4, c .before .before .before .before .before .before .before .before .before .before .before .loop .inv .5, omega arith, c .before .before .before .before .before .before .before .before .before .before .before .loop .inv .6)
+    (c .before .before .before .before .before .before .before .before .before .before .before .loop .inv .0, c .before .before .before .before .before .before .before .before .before .before .before .loop .inv .2 ∙ c .before .before .before .before .before .before .before .before .before .before .before .before .before .pre .1 ∙ sym (c .before .before .before .before .before .before .before .before .before .before .before .loop .inv .1), omega arith, omega arith, c .before .before .before .before .before .before .before .before .before .before .before .loop .inv .4, c .before .before .before .before .before .before .before .before .before .before .before .loop .inv .5, omega arith, c .before .before .before .before .before .before .before .before .before .before .before .loop .inv .6, c .before .before .before .before .before .before .before .before .before .before .before .before .before .pre .2)
 
 slice-aggregate-keep-rest : tie.Need-slice-aggregate-keep-rest Inv-loop μ-loop
 slice-aggregate-keep-rest c = sym (c .before .before .before .before .before .before .before .before .before .before .before .before .before .before .before .read-more .kept .1 .0 ∙ c .before .before .before .before .before .before .before .before .before .before .before .before .before .before .before .before .before .before .loop .inv .3)
@@ -74,12 +74,12 @@ loop-again c =
     let r = c .before .keep-rest .ensures .0 in
     let l = c .before .before .before .before .before .before .before .before .before .before .before .before .before .before .before .before .before .before .before .loop-test .taken in (
       c .before .before .before .before .before .before .before .before .round .ensures,
-      c .before .before .before .before .before .before .before .before .round .kept .1 .1 .0 ∙ c .before .before .before .before .before .before .before .before .before .before .before .before .before .before .before .before .before .before .before .before .loop .inv .1,
-      c .before .before .before .before .before .before .before .before .round .kept .1 .1 .1 .0 ∙ c .before .before .before .before .before .before .before .before .before .before .before .before .before .before .before .before .before .before .before .before .loop .inv .2,
+      c .before .before .before .before .before .before .before .before .round .kept .1 .1 .1 .0 ∙ c .before .before .before .before .before .before .before .before .before .before .before .before .before .before .before .before .before .before .before .before .loop .inv .1,
+      c .before .before .before .before .before .before .before .before .round .kept .1 .1 .1 .1 .0 ∙ c .before .before .before .before .before .before .before .before .before .before .before .before .before .before .before .before .before .before .before .before .loop .inv .2,
       c .before .keep-rest .kept .0 ∙ c .before .before .before .before .before .before .before .before .before .before .before .before .before .before .before .before .before .read-more .kept .1 .0 ∙ c .before .before .before .before .before .before .before .before .before .before .before .before .before .before .before .before .before .before .before .before .loop .inv .3,
-      c .before .before .before .before .before .before .before .before .round .kept .1 .1 .1 .1 .1 .1 .0 ∙ c .before .before .before .before .before .before .before .before .before .before .before .before .before .before .before .before .before .before .before .before .loop .inv .4,
-      c .before .before .before .before .before .before .before .before .round .kept .1 .1 .1 .1 .1 .1 .1 .0 ∙ c .before .before .before .before .before .before .before .before .before .before .before .before .before .before .before .before .before .before .before .before .loop .inv .5,
-      c .before .before .before .before .before .before .before .before .round .kept .1 .1 .1 .1 .1 .1 .1 .1 .1 .0 ∙ c .before .before .before .before .before .before .before .before .before .before .before .before .before .before .before .before .before .before .before .before .loop .inv .6,
+      c .before .before .before .before .before .before .before .before .round .kept .1 .1 .1 .1 .1 .1 .1 .0 ∙ c .before .before .before .before .before .before .before .before .before .before .before .before .before .before .before .before .before .before .before .before .loop .inv .4,
+      c .before .before .before .before .before .before .before .before .round .kept .1 .1 .1 .1 .1 .1 .1 .1 .0 ∙ c .before .before .before .before .before .before .before .before .before .before .before .before .before .before .before .before .before .before .before .before .loop .inv .5,
+      c .before .before .before .before .before .before .before .before .round .kept .1 .1 .1 .1 .1 .1 .1 .1 .1 .1 .0 ∙ c .before .before .before .before .before .before .before .before .before .before .before .before .before .before .before .before .before .before .before .before .loop .inv .6,
       omega arith,
       omega arith,
     )

@@ -1,0 +1,101 @@
+use mathlib.Core.Path.{sym, _∙_}
+use Rattle.engine_store.proofs.Laws.{given}
+use Rattle.engine_ready.proofs.Statements.{index-operand, element-operand, element-word}
+use Rattle.engine_sending.proofs.Sends.{on-word, on-refused, on-stuck}
+use Rattle.engine_acts.proofs.Acts.{element-reaches}
+use borrow.Author.Needs.{needs}
+use Rattle.engine_acts.proofs.assign_element.Statement.{statement}
+use Rattle.engine_acts.proofs.assign_element.Tie as tie
+
+cast-eval : tie.Need-cast-eval
+cast-eval c = search needs
+
+eval-requires : tie.Need-eval-requires
+eval-requires c κs = (c .before .before .before .pre .0, c .before .before .before .pre .1 .ready, index-operand _ _ _ _ (c .before .before .before .pre .1 .ready) _ _ (c .before .before .before .pre .1 .there) (c .before .before .before .pre .1 .statement) (c .before .before .before .pre .1 .form))
+
+enum-known-index : tie.Need-enum-known-index
+enum-known-index c = search needs
+
+cast-eval-2 : tie.Need-cast-eval-2
+cast-eval-2 c = search needs
+
+eval-requires-2 : tie.Need-eval-requires-2
+eval-requires-2 c κs = (c .before .before .before .before .before .before .before .before .before .pre .0, c .before .before .before .before .before .before .before .before .before .pre .1 .ready, element-operand _ _ _ _ (c .before .before .before .before .before .before .before .before .before .pre .1 .ready) _ _ (c .before .before .before .before .before .before .before .before .before .pre .1 .there) (c .before .before .before .before .before .before .before .before .before .pre .1 .statement) (c .before .before .before .before .before .before .before .before .before .pre .1 .form))
+
+enum-known-value : tie.Need-enum-known-value
+enum-known-value c = search needs
+
+cast-put-element : tie.Need-cast-put-element
+cast-put-element c = search needs
+
+put-element-requires : tie.Need-put-element-requires
+put-element-requires c κs = element-reaches _ _ _ _ _ _ (c .before .before .before .before .before .before .before .before .before .before .before .before .before .before .before .pre .1)
+
+enum-known-value-2 : tie.Need-enum-known-value-2
+enum-known-value-2 c = search needs
+
+enum-told : tie.Need-enum-told
+enum-told c = search needs
+
+enum-known-index-2 : tie.Need-enum-known-index-2
+enum-known-index-2 c = search needs
+
+enum-told-2 : tie.Need-enum-told-2
+enum-told-2 c = search needs
+
+same-length : tie.Need-same-length
+same-length c = search needs
+
+returns : tie.Need-returns
+returns c = λ depth. (rw (given (c .before .before .before .before .before .value .given .0 .0) (c .before .before .before .before .known-told2 .given .0 .1), given (c .before .before .before .before .before .before .before .before .before .before .before .index .given .0 .0) (c .before .before .before .before .before .before .before .before .before .before .known-told .given .0 .1)) at (c .before .put-element .ensures (c .before .before .before .before .before .before .before .before .before .before .before .before .before .before .before .before .before .args .lo .now))) ∙ on-word _ _ _ _ _ _ (sym (c .before .before .before .before .before .value .given .1) ∙ c .before .before .before .before .before .before .before .eval2 .ensures) ∙ on-word _ _ _ _ _ _ (sym (c .before .before .before .before .before .before .before .before .before .before .before .index .given .1) ∙ c .before .before .before .before .before .before .before .before .before .before .before .before .before .eval .ensures) ∙ sym (element-word _ _ _ _ (c .before .before .before .before .before .before .before .before .before .before .before .before .before .before .before .before .before .pre .1 .ready) _ _ (c .before .before .before .before .before .before .before .before .before .before .before .before .before .before .before .before .before .pre .1 .there) (c .before .before .before .before .before .before .before .before .before .before .before .before .before .before .before .before .before .pre .1 .statement) (c .before .before .before .before .before .before .before .before .before .before .before .before .before .before .before .before .before .pre .1 .form) depth _)
+
+same-length-2 : tie.Need-same-length-2
+same-length-2 c = search needs
+
+returns-2 : tie.Need-returns-2
+returns-2 c = λ depth. on-refused _ _ _ _ _ _ (sym (c .before .value2 .given .1) ∙ c .before .before .before .eval2 .ensures) ∙ on-word _ _ _ _ _ _ (sym (c .before .before .before .before .before .before .before .index .given .1) ∙ c .before .before .before .before .before .before .before .before .before .eval .ensures) ∙ sym (element-word _ _ _ _ (c .before .before .before .before .before .before .before .before .before .before .before .before .before .pre .1 .ready) _ _ (c .before .before .before .before .before .before .before .before .before .before .before .before .before .pre .1 .there) (c .before .before .before .before .before .before .before .before .before .before .before .before .before .pre .1 .statement) (c .before .before .before .before .before .before .before .before .before .before .before .before .before .pre .1 .form) depth _)
+
+same-length-3 : tie.Need-same-length-3
+same-length-3 c = search needs
+
+returns-3 : tie.Need-returns-3
+returns-3 c = λ depth. on-stuck _ _ _ _ (sym (c .enum-told .given .1) ∙ c .before .before .eval2 .ensures) ∙ on-word _ _ _ _ _ _ (sym (c .before .before .before .before .before .before .index .given .1) ∙ c .before .before .before .before .before .before .before .before .eval .ensures) ∙ sym (element-word _ _ _ _ (c .before .before .before .before .before .before .before .before .before .before .before .before .pre .1 .ready) _ _ (c .before .before .before .before .before .before .before .before .before .before .before .before .pre .1 .there) (c .before .before .before .before .before .before .before .before .before .before .before .before .pre .1 .statement) (c .before .before .before .before .before .before .before .before .before .before .before .before .pre .1 .form) depth _)
+
+same-length-4 : tie.Need-same-length-4
+same-length-4 c = search needs
+
+returns-4 : tie.Need-returns-4
+returns-4 c = λ depth. on-refused _ _ _ _ _ _ (sym (c .before .index2 .given .1) ∙ c .before .before .before .eval .ensures) ∙ sym (element-word _ _ _ _ (c .before .before .before .before .before .before .before .pre .1 .ready) _ _ (c .before .before .before .before .before .before .before .pre .1 .there) (c .before .before .before .before .before .before .before .pre .1 .statement) (c .before .before .before .before .before .before .before .pre .1 .form) depth _)
+
+same-length-5 : tie.Need-same-length-5
+same-length-5 c = search needs
+
+returns-5 : tie.Need-returns-5
+returns-5 c = λ depth. on-stuck _ _ _ _ (sym (c .enum-told2 .given .1) ∙ c .before .before .eval .ensures) ∙ sym (element-word _ _ _ _ (c .before .before .before .before .before .before .pre .1 .ready) _ _ (c .before .before .before .before .before .before .pre .1 .there) (c .before .before .before .before .before .before .pre .1 .statement) (c .before .before .before .before .before .before .pre .1 .form) depth _)
+
+pub assign-element-spec : {M : Type 1} → statement M
+assign-element-spec =
+    tie.close
+    (tie.spec
+    cast-eval
+    eval-requires
+    enum-known-index
+    cast-eval-2
+    eval-requires-2
+    enum-known-value
+    cast-put-element
+    put-element-requires
+    enum-known-value-2
+    enum-told
+    enum-known-index-2
+    enum-told-2
+    same-length
+    returns
+    same-length-2
+    returns-2
+    same-length-3
+    returns-3
+    same-length-4
+    returns-4
+    same-length-5
+    returns-5)

@@ -1,0 +1,24 @@
+-- Where the cells of variables begin, as numbers in a table, so that a variable's cell is found without a search.
+use Prim.Native.Nat.{ℕ, _+_, _*_, _-_, _<_, _≤_}
+use mathlib.Core.Path.{_≡_}
+use mathlib.Core.List.{List}
+use lib.ListN.{length, getD}
+use Rattle.sheet.specs.declared.Record.{Record}
+use Rattle.sheet.specs.declared.Found.the-variants.{Present}
+use Rattle.sheet.specs.Names.{chartVariables}
+use Rattle.sheet_rules.specs.Fields.{externalsOf}
+use Rattle.sheet_rules.specs.Indices.{cellsBefore}
+use Rattle.machine.specs.Values.{chartOf, firstCell}
+
+-- The first cells of every element's variables, 33 numbers for an element: "up to 32 variables" in a chart, and the cell
+-- behind the last one's.
+pub record CellTable (s t : List ℕ) : Type 0 where
+  pub size : length t ≡ 2112
+  pub right : (e : ℕ) (c : Record) → chartOf s e ≡ Present c → (n : ℕ) → n ≤ chartVariables c .count → getD t (33 * (e - externalsOf s) + n) 0 ≡ firstCell s e + cellsBefore s c n
+
+-- Where the cells of chart c's first n variables begin was entered from place `at` on, the first one's at a given cell;
+-- as many as it has and one more are a whole row. What stands before stays.
+pub record Row (s : List ℕ) (c : Record) (at cell n : ℕ) (t t′ : List ℕ) : Type 0 where
+  pub size : length t′ ≡ 2112
+  pub new : (m : ℕ) → m < n → getD t′ (at + m) 0 ≡ cell + cellsBefore s c m
+  pub old : (m : ℕ) → m < at → getD t′ m 0 ≡ getD t m 0

@@ -1,0 +1,76 @@
+-- Where the cells of a running body's variables lie, by its numbers.
+use Prim.Native.Nat.{ℕ, _+_, _-_, _<_, _≤_}
+use mathlib.Core.Path.{_≡_, ap, _∙_}
+use mathlib.Core.List.{List}
+use mathlib.Core.Bool.{true}
+use native.Mathlib.Omega.{arith}
+use lib.ListN.{length}
+use lib.IntN.{ℤ, natAbs}
+use borrow.Author.Tests.{leb-true}
+use Rattle.sheet.specs.All.{_and_}
+use Rattle.sheet.specs.Names.{chartVariables}
+use Rattle.sheet.proofs.All.{and-first, and-second}
+use Rattle.sheet_rules.specs.Indices.{indexAt, isPlain, cellsTaken, cellsBefore}
+use Rattle.sheet_rules.specs.Shape.{chartShape}
+use Rattle.machine.specs.Values.{isBelow}
+use Rattle.sheet_rules.specs.declared.Checked.the-variants.{Passed}
+use Rattle.sheet_rules.specs.Check.{checkOf}
+use Rattle.machine.specs.State.{cellAt, cellOf, placeAt, stateLength}
+use Rattle.machine.specs.Valid.{OfSheet}
+use Rattle.machine_passed.proofs.Records.{chart-shape, cells-limit}
+use Rattle.machine_passed.proofs.Charts.{element-chart}
+use Rattle.machine_passed.proofs.Indices.{has-cell}
+use Rattle.sheet_rules.proofs.Fields.{sum-more}
+use Rattle.machine_states.proofs.Parts.{below-abs}
+use Rattle.machine_states.proofs.Kept.{cell-in-state}
+use Rattle.engine_ready.specs.Ready.{cellIn, contextAt, Running, Ready, Lies, Reaches}
+
+-- "Elements have at most 512 variables together"
+pub state-short : (s : List ℕ) (st : List ℤ) → checkOf s ≡ Passed → OfSheet s st → length st ≤ 5128
+unfolding stateLength placeAt
+state-short s st ok o = omega (arith, cells-limit s ok, o .whole)
+
+-- an index that was tested
+pub reached-inside : (w : List ℕ) (st : List ℤ) (n : ℕ) → Reaches w st n → (i : ℤ) → isBelow i (cellIn w (n + 1) - cellIn w n) ≡ true → cellAt (cellIn w n + natAbs i) + 8 ≤ length st
+reached-inside w st n h i b = h .inside (natAbs i) (below-abs i _ b)
+
+module _ (s w : List ℕ) (running : Running s w) where
+  -- "variables (up to 32)"
+  pub few-variables : chartVariables (contextAt s w .chart) .count ≤ 32
+  unfolding chartShape
+  few-variables = leb-true _ _ (and-first _ _ (and-second _ _ (and-second _ _ (and-second _ _ (chart-shape s (running .passed) _ _ (running .placed .element .chart))))))
+
+  module _ (n : ℕ) (h : n < chartVariables (contextAt s w .chart) .count) where
+    pub cell-is : (k : ℕ) → cellOf s (contextAt s w .element) (contextAt s w .chart) n k ≡ cellAt (cellIn w n + k)
+    unfolding cellOf contextAt
+    cell-is k = ap cellAt (omega (arith, running .cells n (omega arith)))
+
+    -- a plain variable's cell
+    pub plain-is : cellOf s (contextAt s w .element) (contextAt s w .chart) n 0 ≡ cellAt (cellIn w n)
+    plain-is = cell-is 0 ∙ ap cellAt (omega arith)
+
+    next-is : cellIn w (n + 1) ≡ cellIn w n + cellsTaken s (chartVariables (contextAt s w .chart) .first + n)
+    unfolding cellsBefore
+    next-is = omega (arith, running .cells n (omega arith), running .cells (n + 1) (omega arith), sum-more n (λ j. cellsTaken s (chartVariables (contextAt s w .chart) .first + j)))
+
+    pub taken-is : cellIn w (n + 1) - cellIn w n ≡ cellsTaken s (chartVariables (contextAt s w .chart) .first + n)
+    taken-is = omega (arith, next-is)
+
+module _ (s w : List ℕ) (st lo : List ℤ) (ready : Ready s w st lo) (n : ℕ) (h : n < chartVariables (contextAt s w .chart) .count) where
+  -- every cell of a variable lies in the state
+  cell-inside : (k : ℕ) → k < cellsTaken s (chartVariables (contextAt s w .chart) .first + n) → cellAt (cellIn w n + k) + 8 ≤ length st
+  cell-inside k l = let e = cell-is s w (ready .running) n h k in omega (arith, cell-in-state s st (ready .state) _ _ (element-chart s _ _ _ (ready .running .placed .element)) n h k l)
+
+  pub reaches : Reaches w st n
+  reaches = record {
+    whole = ready .running .whole;
+    number = omega (arith, few-variables s w (ready .running));
+    rise = omega (arith, next-is s w (ready .running) n h);
+    inside = λ k l. cell-inside k (omega (arith, taken-is s w (ready .running) n h));
+  }
+
+  pub plain-inside : isPlain (indexAt s (chartVariables (contextAt s w .chart) .first + n)) ≡ true → cellAt (cellIn w n) + 8 ≤ length st
+  plain-inside p = let e = plain-is s w (ready .running) n h in omega (arith, cell-in-state s st (ready .state) _ _ (element-chart s _ _ _ (ready .running .placed .element)) n h 0 (has-cell s _ p))
+
+  pub lies : isPlain (indexAt s (chartVariables (contextAt s w .chart) .first + n)) ≡ true → Lies w st n
+  lies p = record { whole = ready .running .whole; number = omega (arith, few-variables s w (ready .running)); inside = plain-inside p; short = state-short s st (ready .running .passed) (ready .state) }

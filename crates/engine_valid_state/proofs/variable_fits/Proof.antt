@@ -1,0 +1,77 @@
+use native.Mathlib.Omega.{arith}
+use mathlib.Core.Path.{_≡_, refl}
+use mathlib.Core.List.{List}
+use mathlib.Core.Bool.{Bool, true}
+use Prim.Native.Nat.{ℕ, _+_, _-_, _≤_}
+use lib.IntN.{ℤ}
+use borrow.Author.Needs.{needs}
+use Rattle.sheet.specs.All.{allBelow}
+use Rattle.sheet.proofs.All.{all-more, loop-fails, loop-ends}
+use Rattle.sheet_types.proofs.Laws.{no, so}
+use Rattle.machine.specs.State.{cellAt}
+use Rattle.machine.specs.Valid.{cellFits}
+use Rattle.engine_valid_state.proofs.variable_fits.Statement.{statement}
+use Rattle.engine_valid_state.proofs.variable_fits.Tie as tie
+
+abbrev fits : List ℕ → ℕ → ℕ → List ℤ → ℕ → ℕ → Bool
+fits s e t st cell k = cellFits s e t st (cellAt (cell + k))
+
+abbrev Inv-loop : tie.InvT-loop
+Inv-loop sheet directory e t cell n st k₀ k = (k ≤ n) × (allBelow k (fits sheet e t st cell) ≡ true)
+
+abbrev μ-loop : tie.MeasureT-loop
+μ-loop sheet directory e t cell n st k₀ k = n - k
+
+loop-holds : tie.Need-loop-holds Inv-loop μ-loop
+unfolding allBelow
+loop-holds c = (omega arith, refl)
+
+add-at : tie.Need-add-at Inv-loop μ-loop
+unfolding cellAt
+add-at c = let l = c .loop-test .taken in let h = c .before .before .before .pre .1 in omega arith
+
+mul-at : tie.Need-mul-at Inv-loop μ-loop
+unfolding cellAt
+mul-at c = let l = c .loop-test .taken in let h = c .before .before .before .pre .1 in omega arith
+
+add-at-2 : tie.Need-add-at-2 Inv-loop μ-loop
+unfolding cellAt
+add-at-2 c = let l = c .loop-test .taken in let h = c .before .before .before .pre .1 in omega arith
+
+cell-fits-requires : tie.Need-cell-fits-requires Inv-loop μ-loop
+unfolding cellAt
+cell-fits-requires c κs = let l = c .loop-test .taken in let h = c .before .before .before .pre .1 in (c .before .before .before .pre .0, omega arith)
+
+returns : tie.Need-returns Inv-loop μ-loop
+unfolding cellAt
+returns c = loop-fails _ _ (c .before .before .before .loop .k) _ refl (c .before .before .loop-test .taken) (no (c .before .cell-fits .ensures) (c .if1 .taken))
+
+add-k : tie.Need-add-k Inv-loop μ-loop
+add-k c = search needs
+
+loop-less : tie.Need-loop-less Inv-loop μ-loop
+loop-less c = search needs
+
+loop-again : tie.Need-loop-again Inv-loop μ-loop
+unfolding cellAt
+loop-again c = (omega arith, all-more (c .before .before .before .loop .k) _ (c .before .before .before .loop .inv .1) (so (c .before .cell-fits .ensures) (c .if1 .left)))
+
+returns-2 : tie.Need-returns-2 Inv-loop μ-loop
+returns-2 c = loop-ends _ _ _ _ refl (c .before .loop .inv .0) (c .loop-test .left) (c .before .loop .inv .1)
+
+pub variable-fits-spec : {M : Type 1} → statement M
+variable-fits-spec =
+    tie.close
+    (tie.spec
+    Inv-loop
+    μ-loop
+    loop-holds
+    add-at
+    mul-at
+    add-at-2
+    cell-fits-requires
+    returns
+    add-k
+    loop-less
+    loop-again
+    returns-2)
