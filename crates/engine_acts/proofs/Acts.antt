@@ -1,17 +1,17 @@
 -- What the acts of a statement come to.
-use Prim.Native.Nat.{ℕ, zero, suc, _+_, _*_, _-_, _<_, _≤_}
+use Prim.Native.Nat.{ℕ, zero, suc, _+_, _-_, _<_}
 use mathlib.Core.Path.{_≡_, refl, sym, ap, subst, _∙_}
 use mathlib.Core.List.{List, _∷_}
 use mathlib.Core.Bool.{Bool, true, false, not}
 use native.Mathlib.Omega.{arith}
 use native.Mathlib.Decide.{ℕ-discrete}
-use lib.ListN.{length, set, replicate}
+use lib.ListN.{set, replicate}
 use lib.Dec.{eqb}
-use lib.IntN.{ℤ, pos, negsuc, natAbs}
+use lib.IntN.{ℤ, pos, negsuc}
 use lib.Signed.{leZ, ltZ}
 use mir.Syntax.{w32}
 use mir.Val.{SFits, ofZ, toZ}
-use borrow.Author.Tests.{le-ltb, eq-eqb, ne-eqb, le-leb, not-true, not-false}
+use borrow.Author.Tests.{le-ltb, eq-eqb, ne-eqb, le-leb}
 use Rattle.sheet.specs.declared.Record.{Record}
 use Rattle.sheet.specs.Names.{bodyParameters, bodyLocals, chartVariables}
 use Rattle.machine.specs.declared.Ran.the-variants.{Done, Refused, Stuck}
@@ -19,17 +19,19 @@ use Rattle.sheet_rules.specs.Forms.{assign, clockAct, arm, assignElement}
 use Rattle.sheet_rules.specs.Shape.{variablesAt}
 use Rattle.sheet_rules.specs.Indices.{indexAt, isPlain}
 use Rattle.sheet_rules.specs.Types.{variableAt, clockOf}
-use Rattle.machine.specs.Values.{isBelow}
 use Rattle.machine.specs.State.{cellAt, putWords}
 use Rattle.machine.specs.Eval.{Context, boolWord, variableAtCell}
 use Rattle.machine.specs.Run.{world, armed, clockSet, assigned, runOf}
 use Rattle.machine_passed.proofs.Indices.{clock-plain}
 use Rattle.machine_sound.proofs.Locals.{few}
 use Rattle.engine_ints.proofs.Range.{back}
-use Rattle.engine_ready.specs.Ready.{cellIn, contextAt, Lies, Reaches}
-use Rattle.engine_ready.specs.Words.{elementPut, fourWords}
-use Rattle.engine_ready.proofs.Cells.{plain-is, lies, reaches, reached-inside}
-use Rattle.engine_ready.proofs.Statements.{assign-inside, assign-plain, act-inside, act-clock, arm-inside, arm-clock, started-word, stopped-word, element-below}
+use Rattle.engine_context.specs.Context.{cellIn}
+use Rattle.engine_ready.specs.Ready.{contextAt, Lies, Reaches, IsExpression}
+use Rattle.engine_context.specs.declared.Place.{Place}
+use Rattle.engine_context.specs.declared.Place.the-variants.{At, Outside}
+use Rattle.engine_ready.specs.Words.{putAt, fourWords}
+use Rattle.engine_ready.proofs.Cells.{plain-is, lies, reaches}
+use Rattle.engine_ready.proofs.Statements.{assign-inside, assign-plain, act-inside, act-clock, arm-inside, arm-clock, started-word, stopped-word, element-below, index-operand, element-operand}
 use Rattle.engine_sending.specs.Visit.{Visit}
 use Rattle.engine_acts.specs.Armed.{armedValue}
 
@@ -90,26 +92,22 @@ module _ (s w : List ℕ) (st lo : List ℤ) (n : ℕ) (r : Record) where
   pub arm-lies : (v : Visit s w st lo n r arm) → Lies w st (r .f1)
   arm-lies v = lies s w st lo (v .ready) (r .f1) (arm-inside s w st lo (v .ready) n r (v .there) (v .statement) (v .form)) (clock-plain s (v .ready .running .passed) _ (arm-clock s w st lo (v .ready) n r (v .there) (v .statement) (v .form)))
 
+  pub element-operands : (v : Visit s w st lo n r assignElement) → IsExpression s w (r .f2) × IsExpression s w (r .f3)
+  element-operands v = (index-operand s w st lo (v .ready) n r (v .there) (v .statement) (v .form), element-operand s w st lo (v .ready) n r (v .there) (v .statement) (v .form))
+
   pub element-reaches : (v : Visit s w st lo n r assignElement) → Reaches w st (r .f1)
   element-reaches v = reaches s w st lo (v .ready) (r .f1) (element-below s w st lo (v .ready) n r (v .there) (v .statement) (v .form))
 
--- ---- a value to an element, at an index that was tested
+-- ---- a value to an element, by where its index was found to lead
 
-module _ (a b : ℕ) (i z : ℤ) (l : ℕ) (st lo : List ℤ) (t : Bool) (test : t ≡ isBelow i (b - a)) where
-  pub put-outside : not t ≡ true → world (Refused 11 l) st lo ≡ elementPut a b i z l st lo
-  unfolding elementPut
-  put-outside h = rw (elementPut, sym test ∙ not-true t h) refl
+module _ (p q : Place) (z : ℤ) (l : ℕ) (st lo : List ℤ) (found : q ≡ p) where
+  pub put-there : (k : ℕ) → q ≡ At k → world (Done l) (set st k z) lo ≡ putAt p z l st lo
+  unfolding putAt
+  put-there k e = ap (λ p. putAt p z l st lo) (sym e ∙ found)
 
-  pub put-below : not t ≡ false → isBelow i (b - a) ≡ true
-  put-below h = sym test ∙ not-false t h
-
-  pub put-inside : not t ≡ false → (k : ℕ) → k ≡ natAbs i → world (Done l) (set st (8 + 8 * (a + k)) z) lo ≡ elementPut a b i z l st lo
-  unfolding elementPut cellAt
-  put-inside h k e = ap (λ k. world (Done l) (set st (8 + 8 * (a + k)) z) lo) e ∙ rw (elementPut, put-below h) refl
-
-pub put-here : (w : List ℕ) (st : List ℤ) (n : ℕ) → Reaches w st n → (i : ℤ) → isBelow i (cellIn w (n + 1) - cellIn w n) ≡ true → 8 + 8 * (cellIn w n + natAbs i) + 8 ≤ length st
-unfolding cellAt
-put-here w st n h i b = reached-inside w st n h i b
+  pub put-outside : q ≡ Outside → world (Refused 11 l) st lo ≡ putAt p z l st lo
+  unfolding putAt
+  put-outside e = ap (λ p. putAt p z l st lo) (sym e ∙ found)
 
 -- ---- arming
 

@@ -9,7 +9,7 @@ use Rattle.sheet.specs.Names.{dataOf, operator, Timeout-type}
 use Rattle.sheet_rules.specs.Types.{clockOf}
 use Rattle.machine.specs.State.{cellAt}
 use Rattle.machine.specs.Run.{World, armed}
-use Rattle.engine_ready.specs.Ready.{cellIn}
+use Rattle.engine_context.specs.Context.{cellIn}
 use Rattle.engine_ready.specs.Words.{thenData}
 use Rattle.engine_sending.specs.Sent.{dataAt}
 

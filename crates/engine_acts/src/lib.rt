@@ -1,6 +1,6 @@
 // What a statement does that sends nothing and runs no other statement.
+use engine_context::Place;
 use engine_ints::Work;
-use engine_ready::CELLS;
 use machine::Ran;
 use sheet::Found;
 use sheet::Range;
@@ -17,18 +17,11 @@ ghost use Rattle.sheet_rules.specs.Types.{clockOf};
 ghost use Rattle.machine.specs.State.{cellAt};
 ghost use Rattle.machine.specs.Eval.{Context, variableAtCell};
 ghost use Rattle.machine.specs.Run.{world, assigned, runOf};
-ghost use Rattle.engine_ready.specs.Ready.{cellIn, contextAt, Lies, Reaches};
-ghost use Rattle.engine_ready.specs.Words.{elementPut};
+ghost use Rattle.engine_context.specs.Context.{cellIn, leadsTo};
+ghost use Rattle.engine_ready.specs.Ready.{contextAt, Lies, Reaches};
+ghost use Rattle.engine_ready.specs.Words.{putAt};
 ghost use Rattle.engine_sending.specs.Visit.{Visit};
 ghost use Rattle.engine_acts.specs.Armed.{armedValue, armedWith};
-
-// Where the cell of the element's plain variable n begins in the state.
-fn first_word(context: &[usize; 38], n: usize) -> usize
-    requires { ⌜ (length (now context) ≡ 38) × (n < 32) × (cellAt (cellIn (now context) n) < 5128) ⌝ }
-    ensures { λ k. ⌜ k ≡ cellAt (cellIn (now (context .entry)) n) ⌝ }
-{
-    8 + 8 * context[CELLS + n]
-}
 
 // A value to a plain variable: place 1 of the chart, 2 of the body.
 fn put(
@@ -45,7 +38,7 @@ fn put(
 {
     match place {
         1 => {
-            let at = first_word(context, number as usize);
+            let at = engine_context::first_word(context, number as usize);
             st[at] = z;
             Ran::Done { left }
         }
@@ -81,15 +74,16 @@ pub fn assign(
 // A value to the element of array n at index i; "11, index outside its number".
 fn put_element(context: &[usize; 38], st: &mut [i32], n: usize, i: i32, z: i32, left: u32) -> Ran
     requires { ⌜ Reaches (now context) (now st) n ⌝ }
-    ensures { λ r. ⌜ ((lo : List ℤ) → world r (now (st .exit)) lo ≡ elementPut (cellIn (now (context .entry)) n) (cellIn (now (context .entry)) (n + 1)) i z left (now (st .entry)) lo) ⌝ }
+    ensures { λ r. ⌜ ((lo : List ℤ) → world r (now (st .exit)) lo ≡ putAt (leadsTo (cellIn (now (context .entry)) n) (cellIn (now (context .entry)) (n + 1)) i) z left (now (st .entry)) lo) ⌝ }
 {
-    let first = context[CELLS + n];
-    let count = context[CELLS + (n + 1)] - first;
-    if !engine_valid_words::is_below(i, count) {
-        return Ran::Refused { number: 11, left };
+    let p = engine_context::element_word(context, n, i);
+    match p {
+        Place::At(k) => {
+            st[k] = z;
+            Ran::Done { left }
+        }
+        Place::Outside => Ran::Refused { number: 11, left },
     }
-    st[8 + 8 * (first + engine_valid_words::number(i))] = z;
-    Ran::Done { left }
 }
 
 // "assign (44: f1 variable, f2 index, f3 value) an element"
@@ -167,7 +161,7 @@ fn arm_with(
             }
             engine_store::put_clock(
                 st,
-                first_word(context, r.f1 as usize),
+                engine_context::first_word(context, r.f1 as usize),
                 1,
                 first_value(r.f0, period),
                 period,
@@ -213,6 +207,10 @@ pub fn clock(context: &[usize; 38], st: &mut [i32], r: Record, left: u32) -> Ran
     ensures { λ o. ⌜ ((s : List ℕ) (lo : List ℤ) (n depth : ℕ) → Visit s (now (context .entry)) (now (st .entry)) lo n r clockAct → world o (now (st .exit)) lo ≡ runOf s depth (contextAt s (now (context .entry))) n (suc left) (now (st .entry)) lo) ⌝ }
 {
     let running = engine_ints::bool_word(r.f0 == 38);
-    engine_store::set_clock(st, first_word(context, r.f1 as usize), running);
+    engine_store::set_clock(
+        st,
+        engine_context::first_word(context, r.f1 as usize),
+        running,
+    );
     Ran::Done { left }
 }

@@ -37,7 +37,7 @@ pub fn run_body(
     let Found::Present(body) = sheet_reader::read(sheet, directory, 5, number) else {
         return Ran::Stuck;
     };
-    let context = engine_cells::context(
+    let context = engine_context::context(
         cells,
         e,
         i,

@@ -1,4 +1,4 @@
--- Charts by their binding's number, the table of cells, and the numbers of a running body.
+-- Charts by their binding's number, and the table of cells.
 use Prim.Native.Nat.{ℕ, _+_, _*_, _-_, _<_, _≤_}
 use mathlib.Core.Path.{_≡_, refl, sym, ap, subst, _∙_}
 use mathlib.Core.List.{List}
@@ -131,15 +131,3 @@ module _ (s : List ℕ) (ok : checkOf s ≡ Passed) where
     size = r .size;
     right = λ e c p n m. let x = chart-element s e c p in r .right (e - externalsOf s) c (omega (arith, present-below s bindings (e - externalsOf s) (x .0) (x .1 .binding))) (sym (chart-present s (e - externalsOf s) (x .0) (x .1 .binding)) ∙ x .1 .chart) n m;
   }
-
--- ---- the numbers of a running body: five, then its element's part of the table, of which n are copied
-
-module _ (w : List ℕ) (n x : ℕ) where
-  pub copied-head : (m : ℕ) → m < 5 → getD (set w (5 + n) x) m 0 ≡ getD w m 0
-  copied-head m l = getD-set-other w (5 + n) m x 0 (λ q. omega arith)
-
-  pub copied-more : (f : ℕ → ℕ) → length w ≡ 38 → n < 33 → x ≡ f n → ((m : ℕ) → m < n → getD w (5 + m) 0 ≡ f m) → (m : ℕ) → m < n + 1 → getD (set w (5 + n) x) (5 + m) 0 ≡ f m
-  copied-more f s l e h m k = elim (ℕ-discrete m n) [
-    | yes q ↦ rw q (getD-set-same w (5 + n) x 0 (omega arith) ∙ e)
-    | no q ↦ getD-set-other w (5 + n) (5 + m) x 0 (λ r. q (omega arith)) ∙ h m (omega arith)
-  ]

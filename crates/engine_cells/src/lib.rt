@@ -1,10 +1,9 @@
-// Where the cells of every element's variables begin: a table, filled once for a call or a list, and
-// the numbers of a running body, which hold its element's part of the table.
+// Where the cells of every element's variables begin: a table, filled once for a call or a list.
 use sheet::Found;
 use sheet::Record;
 ghost use mathlib.Core.Path.{_≡_};
-ghost use Prim.Native.Nat.{ℕ, _+_, _*_, _<_, _≤_};
-ghost use lib.ListN.{length, getD};
+ghost use Prim.Native.Nat.{_+_, _≤_};
+ghost use lib.ListN.{length};
 ghost use Rattle.sheet.specs.Names.{chartVariables};
 ghost use Rattle.sheet.specs.Sheet.{directoryOf};
 ghost use Rattle.sheet_rules.specs.declared.Checked.the-variants.{Passed};
@@ -67,42 +66,4 @@ pub fn fill(sheet: &[u8], directory: &[usize; 16], cells: &mut [usize; 2112]) ->
         i += 1;
     }
     cell
-}
-
-// The numbers of a running body: its element, binding, chart, the chart's first body, its own number,
-// and the cells of its element's variables.
-pub fn context(
-    cells: &[usize; 2112],
-    e: usize,
-    i: usize,
-    chart: usize,
-    first: usize,
-    body: usize,
-    count: usize,
-) -> [usize; 38]
-    requires { ⌜ (i < 64) × (count ≤ 32) ⌝ }
-    ensures { λ w. ⌜ (length w ≡ 38) × (getD w 0 0 ≡ e) × (getD w 1 0 ≡ i) × (getD w 2 0 ≡ chart) × (getD w 3 0 ≡ first) × (getD w 4 0 ≡ body) × ((n : ℕ) → n ≤ count → getD w (5 + n) 0 ≡ getD (now (cells .entry)) (33 * i + n) 0) ⌝ }
-{
-    let mut w = [0usize; 38];
-    w[0] = e;
-    w[1] = i;
-    w[2] = chart;
-    w[3] = first;
-    w[4] = body;
-    let mut n: usize = 0;
-    while n <= count {
-        w[5 + n] = cells[33 * i + n];
-        n += 1;
-    }
-    w
-}
-
-// The numbers of a body that another one of the same element calls.
-pub fn inner(context: &[usize; 38], body: usize) -> [usize; 38]
-    requires { ⌜ length (now context) ≡ 38 ⌝ }
-    ensures { λ w. ⌜ (length w ≡ 38) × (getD w 4 0 ≡ body) × ((n : ℕ) → (n ≡ 4 → ⊥) → getD w n 0 ≡ getD (now (context .entry)) n 0) ⌝ }
-{
-    let mut own = *context;
-    own[4] = body;
-    own
 }

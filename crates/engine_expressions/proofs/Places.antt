@@ -1,12 +1,12 @@
 -- The same laws in the code's terms: words found by the numbers of a body, steps counted down.
-use Prim.Native.Nat.{ℕ, suc, _+_, _*_, _-_, _<_, _≤_}
+use Prim.Native.Nat.{ℕ, suc, _+_, _-_, _<_, _≤_}
 use mathlib.Core.Path.{_≡_, refl, sym, ap, _∙_}
 use mathlib.Core.List.{List}
-use mathlib.Core.Bool.{Bool, true, false, not}
+use mathlib.Core.Bool.{Bool, true, false}
 use native.Mathlib.Omega.{arith}
-use lib.ListN.{length, getD}
-use lib.IntN.{ℤ, pos, natAbs}
-use borrow.Author.Tests.{ltb-true, not-true, not-false}
+use lib.ListN.{getD}
+use lib.IntN.{ℤ, pos}
+use borrow.Author.Tests.{ltb-true}
 use Rattle.sheet.specs.declared.Record.{Record}
 use Rattle.sheet.specs.declared.Found.{Found}
 use Rattle.sheet.specs.declared.Found.the-variants.{Present, Absent}
@@ -18,16 +18,19 @@ use Rattle.sheet_rules.specs.Fields.{fieldOf, componentsOf}
 use Rattle.sheet.specs.Table.{lookUp}
 use Rattle.sheet_rules.specs.Forms.{literal, read, unary, binary, clock, readElement, formOf}
 use Rattle.sheet_rules.specs.Shape.{constantOf}
-use Rattle.machine.specs.Values.{isBelow, isBound}
+use Rattle.machine.specs.Values.{isBound}
 use Rattle.machine.specs.State.{cellAt, wordOf}
 use Rattle.machine.specs.Eval.{literalValue, evalOf}
 use Rattle.machine_passed.proofs.Records.{one-record, components-limit}
 use Rattle.engine_ints.specs.declared.Work.{Work}
 use Rattle.engine_ints.specs.declared.Work.the-variants.{Word, Refused, Stuck}
 use Rattle.engine_ints.specs.Work.{workOf, thenWork, notWork, binaryWork}
-use Rattle.engine_ready.specs.Ready.{elementIn, bindingIn, cellIn, contextAt, Ready, Reaches, IsExpression}
-use Rattle.engine_ready.specs.Words.{elementWork}
-use Rattle.engine_ready.proofs.Cells.{few-variables, reaches, reached-inside}
+use Rattle.engine_context.specs.Context.{elementIn, bindingIn, cellIn, leadsTo}
+use Rattle.engine_ready.specs.Ready.{contextAt, Ready, Reaches, IsExpression}
+use Rattle.engine_context.specs.declared.Place.{Place}
+use Rattle.engine_context.specs.declared.Place.the-variants.{At, Outside}
+use Rattle.engine_ready.specs.Words.{wordAt}
+use Rattle.engine_ready.proofs.Cells.{reaches}
 use Rattle.engine_ready.proofs.Expressions as laws
 
 pub not-absent : (f : Found) (r : Record) → f ≡ Present r → f ≡ Absent → ⊥
@@ -68,29 +71,16 @@ module _ (x : Work) (K : ℤ → ℕ → Work) where
   unfolding thenWork
   stuck-then e = sym (ap (λ x. thenWork x K) e)
 
--- ---- an element at an index that was tested
+-- ---- an element, by where its index was found to lead
 
-module _ (st : List ℤ) (a b : ℕ) (i : ℤ) (l : ℕ) (t : Bool) (test : t ≡ isBelow i (b - a)) where
-  pub outside-word : not t ≡ true → Refused 11 l ≡ elementWork st a b i l
-  unfolding elementWork
-  outside-word h = rw (elementWork, sym test ∙ not-true t h) refl
+module _ (st : List ℤ) (p q : Place) (l : ℕ) (found : q ≡ p) where
+  pub word-there : (k : ℕ) → q ≡ At k → Word (getD st k (pos 0)) l ≡ wordAt st p l
+  unfolding wordAt wordOf
+  word-there k e = ap (λ p. wordAt st p l) (sym e ∙ found)
 
-  pub inside-below : not t ≡ false → isBelow i (b - a) ≡ true
-  inside-below h = sym test ∙ not-false t h
-
-  inside-word : not t ≡ false → Word (wordOf st (cellAt (a + natAbs i))) l ≡ elementWork st a b i l
-  unfolding elementWork
-  inside-word h = rw (elementWork, inside-below h) refl
-
-  -- by the number that the index is
-  pub inside-at : not t ≡ false → (k : ℕ) → k ≡ natAbs i → Word (getD st (8 + 8 * (a + k)) (pos 0)) l ≡ elementWork st a b i l
-  unfolding wordOf cellAt
-  inside-at h k e = ap (λ k. Word (getD st (8 + 8 * (a + k)) (pos 0)) l) e ∙ inside-word h
-
--- its words lie in the state
-pub inside-here : (w : List ℕ) (st : List ℤ) (n : ℕ) → Reaches w st n → (i : ℤ) → isBelow i (cellIn w (n + 1) - cellIn w n) ≡ true → 8 + 8 * (cellIn w n + natAbs i) + 8 ≤ length st
-unfolding cellAt
-inside-here w st n h i b = reached-inside w st n h i b
+  pub word-outside : q ≡ Outside → Refused 11 l ≡ wordAt st p l
+  unfolding wordAt
+  word-outside e = ap (λ p. wordAt st p l) (sym e ∙ found)
 
 -- a visit takes one step
 pub visit : (s w : List ℕ) (st lo : List ℤ) (n l : ℕ) → (l ≡ 0 → ⊥) → (o : Work) → o ≡ workOf (evalOf s (contextAt s w) st lo n (suc (l - 1))) → o ≡ workOf (evalOf s (contextAt s w) st lo n l)
@@ -113,9 +103,6 @@ module _ (s w : List ℕ) (st lo : List ℤ) (ready : Ready s w st lo) where
     literal-at q l = sym (laws.literal-word s w st lo ready n r there e q l)
 
     module _ (q : formOf (operator r) ≡ read) where
-      pub variable-here : r .f1 ≡ 1 → (length w ≡ 38) × (r .f2 < 32) × (cellAt (cellIn w (r .f2)) + 0 < length st)
-      variable-here one = (ready .running .whole, omega (arith, laws.variable-below s w st lo ready n r there e q one, few-variables s w (ready .running)), omega (arith, laws.variable-inside s w st lo ready n r there e q one))
-
       pub variable-at : r .f1 ≡ 1 → (l : ℕ) → Word (wordOf st (cellAt (cellIn w (r .f2)) + 0)) l ≡ given l
       variable-at one l = sym (laws.variable-word s w st lo ready n r there e q one l ∙ ap (λ k. Word (wordOf st k) l) (let k : cellAt (cellIn w (r .f2)) ≡ cellAt (cellIn w (r .f2)) + 0 = omega arith in k))
 
@@ -136,9 +123,6 @@ module _ (s w : List ℕ) (st lo : List ℤ) (ready : Ready s w st lo) where
         constant-none h l = sym (laws.parameter-stuck s w st lo ready n r there e q none (sym constant ∙ h) l)
 
     module _ (q : formOf (operator r) ≡ clock) where
-      pub clock-here : (k : ℕ) → k < 8 → (length w ≡ 38) × (r .f1 < 32) × (cellAt (cellIn w (r .f1)) + k < length st)
-      clock-here k l = (ready .running .whole, omega (arith, laws.clock-inside s w st lo ready n r there e q, few-variables s w (ready .running)), omega (arith, laws.clock-in-state s w st lo ready n r there e q))
-
       pub running-at : operator r ≡ 17 → (l : ℕ) → Word (wordOf st (cellAt (cellIn w (r .f1)) + 0)) l ≡ given l
       running-at h l = sym (laws.running-word s w st lo ready n r there e q h l ∙ ap (λ k. Word (wordOf st k) l) (let k : cellAt (cellIn w (r .f1)) ≡ cellAt (cellIn w (r .f1)) + 0 = omega arith in k))
 
@@ -152,8 +136,8 @@ module _ (s w : List ℕ) (st lo : List ℤ) (ready : Ready s w st lo) where
       pub reaches-at : Reaches w st (r .f1)
       reaches-at = reaches s w st lo ready (r .f1) (laws.element-below s w st lo ready n r there e q)
 
-      pub element-at : (l : ℕ) (y : Work) → y ≡ workOf (evalOf s (contextAt s w) st lo (r .f2) l) → thenWork y (elementWork st (cellIn w (r .f1)) (cellIn w (r .f1 + 1))) ≡ given l
-      element-at l y h = ap (λ o. thenWork o (elementWork st (cellIn w (r .f1)) (cellIn w (r .f1 + 1)))) h ∙ sym (laws.element-word s w st lo ready n r there e q l)
+      pub element-at : (l : ℕ) (y : Work) → y ≡ workOf (evalOf s (contextAt s w) st lo (r .f2) l) → thenWork y (λ i. wordAt st (leadsTo (cellIn w (r .f1)) (cellIn w (r .f1 + 1)) i)) ≡ given l
+      element-at l y h = ap (λ o. thenWork o (λ i. wordAt st (leadsTo (cellIn w (r .f1)) (cellIn w (r .f1 + 1)) i))) h ∙ sym (laws.element-word s w st lo ready n r there e q l)
 
     pub not-at : formOf (operator r) ≡ unary → (l : ℕ) (y : Work) → y ≡ workOf (evalOf s (contextAt s w) st lo (r .f1) l) → thenWork y notWork ≡ given l
     not-at q l y h = ap (λ o. thenWork o notWork) h ∙ sym (laws.not-word s w st lo ready n r there e q l)

@@ -1,21 +1,21 @@
 // What an expression gives.
+use engine_context::BINDING;
+use engine_context::ELEMENT;
+use engine_context::Place;
 use engine_ints::Work;
-use engine_ready::BINDING;
-use engine_ready::CELLS;
-use engine_ready::ELEMENT;
 use sheet::Found;
 use sheet::Record;
 ghost use mathlib.Core.Path.{_≡_};
 ghost use Prim.Native.Nat.{suc, _+_, _<_};
-ghost use lib.ListN.{length};
 ghost use Rattle.sheet.specs.declared.Found.the-variants.{Present};
 ghost use Rattle.sheet.specs.Sheet.{directoryOf, recordOf};
 ghost use Rattle.sheet_rules.specs.Forms.{read, formOf};
 ghost use Rattle.machine.specs.State.{cellAt, wordOf};
 ghost use Rattle.machine.specs.Eval.{literalValue, evalOf};
 ghost use Rattle.engine_ints.specs.Work.{workOf, thenWork, binaryWork, notWork};
-ghost use Rattle.engine_ready.specs.Ready.{cellIn, contextAt, Ready, Reaches, IsExpression};
-ghost use Rattle.engine_ready.specs.Words.{elementWork};
+ghost use Rattle.engine_context.specs.Context.{cellIn, leadsTo};
+ghost use Rattle.engine_ready.specs.Ready.{contextAt, Ready, Lies, Reaches, IsExpression};
+ghost use Rattle.engine_ready.specs.Words.{wordAt};
 
 // The word that a literal writes down, in element e.
 fn literal(e: usize, r: Record) -> i32
@@ -56,33 +56,29 @@ fn combined(op: u16, a: i32, y: Work) -> Work
 
 // Word k in the cell of the element's plain variable n.
 fn cell_word(context: &[usize; 38], st: &[i32], n: usize, k: usize) -> i32
-    requires { ⌜ (length (now context) ≡ 38) × (n < 32) × (cellAt (cellIn (now context) n) + k < length (now st)) ⌝ }
+    requires { ⌜ Lies (now context) (now st) n × (k < 8) ⌝ }
     ensures { λ z. ⌜ z ≡ wordOf (now (st .entry)) (cellAt (cellIn (now (context .entry)) n) + k) ⌝ }
 {
-    st[8 + 8 * context[CELLS + n] + k]
+    st[engine_context::first_word(context, n) + k]
 }
 
 // The element of array n at index i; "11, index outside its number". An index of a data type is never
 // outside.
 fn element_at(context: &[usize; 38], st: &[i32], n: usize, i: i32, left: u32) -> Work
     requires { ⌜ Reaches (now context) (now st) n ⌝ }
-    ensures { λ z. ⌜ z ≡ elementWork (now (st .entry)) (cellIn (now (context .entry)) n) (cellIn (now (context .entry)) (n + 1)) i left ⌝ }
+    ensures { λ z. ⌜ z ≡ wordAt (now (st .entry)) (leadsTo (cellIn (now (context .entry)) n) (cellIn (now (context .entry)) (n + 1)) i) left ⌝ }
 {
-    let first = context[CELLS + n];
-    let count = context[CELLS + (n + 1)] - first;
-    if !engine_valid_words::is_below(i, count) {
-        return Work::Refused { number: 11, left };
-    }
-    Work::Word {
-        word: st[8 + 8 * (first + engine_valid_words::number(i))],
-        left,
+    let p = engine_context::element_word(context, n, i);
+    match p {
+        Place::At(k) => Work::Word { word: st[k], left },
+        Place::Outside => Work::Refused { number: 11, left },
     }
 }
 
 // The same, by what the index gives.
 fn element(context: &[usize; 38], st: &[i32], n: usize, x: Work) -> Work
     requires { ⌜ Reaches (now context) (now st) n ⌝ }
-    ensures { λ z. ⌜ z ≡ thenWork x (elementWork (now (st .entry)) (cellIn (now (context .entry)) n) (cellIn (now (context .entry)) (n + 1))) ⌝ }
+    ensures { λ z. ⌜ z ≡ thenWork x (λ i. wordAt (now (st .entry)) (leadsTo (cellIn (now (context .entry)) n) (cellIn (now (context .entry)) (n + 1)) i)) ⌝ }
 {
     match x {
         Work::Word { word, left } => element_at(context, st, n, word, left),

@@ -1,10 +1,9 @@
 -- What an expression of a passed sheet gives in words, form by form.
-use Prim.Native.Nat.{ℕ, zero, suc, _+_, _-_, _<_, _≤_}
+use Prim.Native.Nat.{ℕ, zero, suc, _+_, _-_, _<_}
 use mathlib.Core.Path.{_≡_, refl, sym, ap, subst, _∙_}
 use mathlib.Core.List.{List}
 use mathlib.Core.Bool.{Bool, true, false}
 use native.Mathlib.Omega.{arith}
-use lib.ListN.{length}
 use lib.Dec.{ltb, eqb}
 use lib.IntN.{ℤ, natAbs}
 use borrow.Author.Tests.{ltb-true, lt-ltb, eq-eqb, ne-eqb}
@@ -44,9 +43,11 @@ use Rattle.machine_sound.proofs.Indices.{ranged, Indexed, array-index, array-le
 use Rattle.engine_ints.specs.declared.Work.{Work}
 use Rattle.engine_ints.specs.declared.Work.the-variants.{Word, Refused, Stuck}
 use Rattle.engine_ints.specs.Work.{workOf, thenWork, notWork, combinedWork, binaryWork}
-use Rattle.engine_ready.specs.Ready.{cellIn, contextAt, Ready, IsExpression}
-use Rattle.engine_ready.specs.Words.{elementWork}
-use Rattle.engine_ready.proofs.Cells.{cell-is, plain-is, taken-is, plain-inside}
+use Rattle.engine_context.specs.Context.{cellIn, leadsTo}
+use Rattle.engine_ready.specs.Ready.{contextAt, Ready, Lies, IsExpression}
+use Rattle.engine_context.specs.declared.Place.the-variants.{At, Outside}
+use Rattle.engine_ready.specs.Words.{wordAt}
+use Rattle.engine_ready.proofs.Cells.{cell-is, plain-is, taken-is, lies}
 
 -- a test that holds is passed
 needs-word : (b : Bool) (o : Out) (w : Work) → (b ≡ true → workOf o ≡ w) → (workOf (needs b o) ≡ Stuck → ⊥) → workOf (needs b o) ≡ w
@@ -181,7 +182,7 @@ module _ (s w : List ℕ) (st lo : List ℤ) (ready : Ready s w st lo) where
       unfolding fieldsShape
       read-inside = ltb-true _ _ (and-first _ _ (fields read q))
 
-      pub variable-below : r .f1 ≡ 1 → r .f2 < chartVariables (x .chart) .count
+      variable-below : r .f1 ≡ 1 → r .f2 < chartVariables (x .chart) .count
       unfolding variablesAt
       variable-below one = subst (λ p. r .f2 < variablesAt (x .chart) (x .body) p) one read-inside
 
@@ -190,9 +191,9 @@ module _ (s w : List ℕ) (st lo : List ℤ) (ready : Ready s w st lo) where
       unfolding typeIn readType
       read-plain = and-second _ _ (asked _ _ (typed read q) .0)
 
-      pub variable-inside : r .f1 ≡ 1 → cellAt (cellIn w (r .f2)) + 8 ≤ length st
+      pub variable-lies : r .f1 ≡ 1 → Lies w st (r .f2)
       unfolding variableAt
-      variable-inside one = plain-inside s w st lo ready (r .f2) (variable-below one) (subst (λ p. isPlain (indexAt s (variableAt (x .chart) (x .body) p (r .f2))) ≡ true) one read-plain)
+      variable-lies one = lies s w st lo ready (r .f2) (variable-below one) (subst (λ p. isPlain (indexAt s (variableAt (x .chart) (x .body) p (r .f2))) ≡ true) one read-plain)
 
       pub local-inside : r .f1 ≡ 2 → r .f2 < 16
       unfolding variablesAt
@@ -241,7 +242,7 @@ module _ (s w : List ℕ) (st lo : List ℤ) (ready : Ready s w st lo) where
     -- ---- clocks
 
     module _ (q : formOf (operator r) ≡ clock) where
-      pub clock-inside : r .f1 < chartVariables (x .chart) .count
+      clock-inside : r .f1 < chartVariables (x .chart) .count
       unfolding fieldsShape
       clock-inside = ltb-true _ _ (and-first _ _ (fields clock q))
 
@@ -249,8 +250,8 @@ module _ (s w : List ℕ) (st lo : List ℤ) (ready : Ready s w st lo) where
       unfolding typeIn clockType
       is-clock = asked _ _ (typed clock q) .0
 
-      pub clock-in-state : cellAt (cellIn w (r .f1)) + 8 ≤ length st
-      clock-in-state = plain-inside s w st lo ready (r .f1) clock-inside (clock-plain s (ready .running .passed) _ is-clock)
+      pub clock-lies : Lies w st (r .f1)
+      clock-lies = lies s w st lo ready (r .f1) clock-inside (clock-plain s (ready .running .passed) _ is-clock)
 
       abbrev here : cellOf s (x .element) (x .chart) (r .f1) 0 ≡ cellAt (cellIn w (r .f1))
       here = plain-is s w (ready .running) (r .f1) clock-inside
@@ -300,17 +301,17 @@ module _ (s w : List ℕ) (st lo : List ℤ) (ready : Ready s w st lo) where
           let r′ = declared-record s d (chart-variable-declared s (ready .running .passed) _ _ (placed .element .chart) (r .f1) element-below) in
           needs-met _ _ (lt-ltb _ _ element-below) ∙ on-present _ (r′ .0) _ (r′ .1) ∙ ap (λ t. elementAs s x st (r .f1) t (reached (indexAt s d) v) l) (r′ .2) ∙ ap (λ i. elementAs s x st (r .f1) (typeAt s d) i l) (index .goes v k i)
 
-      pub element-word : (l : ℕ) → workOf (evalOf s x st lo n (suc l)) ≡ thenWork (workOf (evalOf s x st lo (r .f2) l)) (elementWork st (cellIn w (r .f1)) (cellIn w (r .f1 + 1)))
-      unfolding evalIn elementWork elementAs variableAtCell within workOf
+      pub element-word : (l : ℕ) → workOf (evalOf s x st lo n (suc l)) ≡ thenWork (workOf (evalOf s x st lo (r .f2) l)) (λ i. wordAt st (leadsTo (cellIn w (r .f1)) (cellIn w (r .f1 + 1)) i))
+      unfolding evalIn leadsTo wordAt elementAs variableAtCell within workOf
       element-word l =
           ap workOf (visited readElement q l)
           ∙ then-word s (index .kind) (evalOf s x st lo (r .f2) l) _ _ (operand-gives (r .f2) _ index-lower (index .kind) l (index .typed)) (λ v m k i.
           let gives = element-gives s (ready .running .passed) x placed st lo cells (ready .locals) (r .f1) m element-below (array-data s (ready .running .passed) d (f (r .f2)) indexed) v (array-leads s d (f (r .f2)) indexed v k i) in
           let same = ap workOf (element-value v m k i) in
           same ∙ go v m (isBelow (v .word) (cellsTaken s d)) (λ z. not-stuck s (typeAt s d) (elementVal s x st (r .f1) v m) gives (same ∙ z))
-          ∙ ap {B = Work} (λ c. elim (isBelow (v .word) c) [ true ↦ Word (wordOf st (cellAt (cellIn w (r .f1) + natAbs (v .word)))) m | false ↦ Refused 11 m ]) (sym (taken-is s w (ready .running) (r .f1) element-below)))
+          ∙ ap {B = Work} (λ c. wordAt st (elim (isBelow (v .word) c) [ true ↦ At (cellAt (cellIn w (r .f1) + natAbs (v .word))) | false ↦ Outside ]) m) (sym (taken-is s w (ready .running) (r .f1) element-below)))
         where
-          go : (v : Value) (m : ℕ) (b : Bool) → (workOf (elementAs s x st (r .f1) (typeAt s d) (elim b [ true ↦ inside (natAbs (v .word)) | false ↦ outOfRange ]) m) ≡ Stuck → ⊥) → workOf (elementAs s x st (r .f1) (typeAt s d) (elim b [ true ↦ inside (natAbs (v .word)) | false ↦ outOfRange ]) m) ≡ elim b [ true ↦ Word (wordOf st (cellAt (cellIn w (r .f1) + natAbs (v .word)))) m | false ↦ Refused 11 m ]
+          go : (v : Value) (m : ℕ) (b : Bool) → (workOf (elementAs s x st (r .f1) (typeAt s d) (elim b [ true ↦ inside (natAbs (v .word)) | false ↦ outOfRange ]) m) ≡ Stuck → ⊥) → workOf (elementAs s x st (r .f1) (typeAt s d) (elim b [ true ↦ inside (natAbs (v .word)) | false ↦ outOfRange ]) m) ≡ wordAt st (elim b [ true ↦ At (cellAt (cellIn w (r .f1) + natAbs (v .word))) | false ↦ Outside ]) m
           go v m true g = needs-word _ (out.Val (val (typeAt s d) (wordOf st (variableAtCell s x (r .f1) (natAbs (v .word))))) m) _ (λ b. ap (λ i. Word (wordOf st i) m) (cell-is s w (ready .running) (r .f1) element-below (natAbs (v .word)))) g
           go v m false g = refl
 

@@ -47,10 +47,12 @@ use Rattle.machine_sound.proofs.Run.{is-statement, stated, called-in, few-param
 use Rattle.machine_sound.proofs.Armed.{armed-clock}
 use Rattle.machine_sound.proofs.Indices.{ranged, Indexed, array-index}
 use Rattle.engine_ints.specs.Work.{workOf}
-use Rattle.engine_ready.specs.Ready.{cellIn, contextAt, Ready, IsExpression, IsStatement, HasData}
+use Rattle.engine_context.specs.Context.{cellIn, leadsTo}
+use Rattle.engine_ready.specs.Ready.{contextAt, Ready, IsExpression, IsStatement, HasData}
 use Rattle.engine_ready.proofs.Expressions.{cells}
 use Rattle.engine_ready.proofs.Cells.{cell-is, plain-is, taken-is}
-use Rattle.engine_ready.specs.Words.{thenWord, elementPut, Data, given, refused, stuck, before, thenDatum, dataFrom, thenData, DataTold}
+use Rattle.engine_context.specs.declared.Place.the-variants.{At, Outside}
+use Rattle.engine_ready.specs.Words.{thenWord, putAt, Data, given, refused, stuck, before, thenDatum, dataFrom, thenData, DataTold}
 
 -- a value of its type goes on as its word
 operand-word : (s : List ℕ) (o : Out) (t : ℕ) (st lo : List ℤ) (K : Value → ℕ → World) (L : ℤ → ℕ → World) → Gives s t o → ((v : Value) (m : ℕ) → v .kind ≡ t → inType s t (v .word) ≡ true → K v m ≡ L (v .word) m) → thenOperand o st lo K ≡ thenWord (workOf o) st lo L
@@ -233,11 +235,11 @@ module _ (s w : List ℕ) (st lo : List ℤ) (ready : Ready s w st lo) where
       unfolding fieldOf
       element-operand = expression (r .f3) (element-low 1 (omega arith)) (typeAt s d) (and-second _ _ element-types)
 
-      put-here : (i z : ℤ) (l : ℕ) → elementAssigned s x (r .f1) (ranged (cellsTaken s d) i) z l st lo ≡ elementPut (cellIn w (r .f1)) (cellIn w (r .f1 + 1)) i z l st lo
-      unfolding elementAssigned elementPut variableAtCell
-      put-here i z l = go (isBelow i (cellsTaken s d)) ∙ ap {B = World} (λ c. elim (isBelow i c) [ true ↦ world (Done l) (set st (cellAt (cellIn w (r .f1) + natAbs i)) z) lo | false ↦ world (Refused 11 l) st lo ]) (sym (taken-is s w (ready .running) (r .f1) element-below))
+      put-here : (i z : ℤ) (l : ℕ) → elementAssigned s x (r .f1) (ranged (cellsTaken s d) i) z l st lo ≡ putAt (leadsTo (cellIn w (r .f1)) (cellIn w (r .f1 + 1)) i) z l st lo
+      unfolding elementAssigned leadsTo putAt variableAtCell
+      put-here i z l = go (isBelow i (cellsTaken s d)) ∙ ap {B = World} (λ c. putAt (elim (isBelow i c) [ true ↦ At (cellAt (cellIn w (r .f1) + natAbs i)) | false ↦ Outside ]) z l st lo) (sym (taken-is s w (ready .running) (r .f1) element-below))
         where
-          go : (b : Bool) → elementAssigned s x (r .f1) (elim b [ true ↦ inside (natAbs i) | false ↦ outOfRange ]) z l st lo ≡ elim b [ true ↦ world (Done l) (set st (cellAt (cellIn w (r .f1) + natAbs i)) z) lo | false ↦ world (Refused 11 l) st lo ]
+          go : (b : Bool) → elementAssigned s x (r .f1) (elim b [ true ↦ inside (natAbs i) | false ↦ outOfRange ]) z l st lo ≡ putAt (elim b [ true ↦ At (cellAt (cellIn w (r .f1) + natAbs i)) | false ↦ Outside ]) z l st lo
           go true = ap (λ c. world (Done l) (set st c z) lo) (cell-is s w (ready .running) (r .f1) element-below (natAbs i))
           go false = refl
 
@@ -245,7 +247,7 @@ module _ (s w : List ℕ) (st lo : List ℤ) (ready : Ready s w st lo) where
           runOf s depth x n (suc l) st lo ≡
           thenWord (workOf (evalOf s x st lo (r .f2) l)) st lo (λ i l.
           thenWord (workOf (evalOf s x st lo (r .f3) l)) st lo (λ z l.
-          elementPut (cellIn w (r .f1)) (cellIn w (r .f1 + 1)) i z l st lo))
+          putAt (leadsTo (cellIn w (r .f1)) (cellIn w (r .f1 + 1)) i) z l st lo))
       unfolding runIn assignElementOf cellsTaken fieldOf
       element-word depth l =
           visited assignElement q depth l

@@ -3,7 +3,7 @@ use Prim.Native.Nat.{ℕ, _+_, _-_, _<_, _≤_}
 use mathlib.Core.Path.{_≡_}
 use mathlib.Core.List.{List}
 use mathlib.Core.Bool.{true}
-use lib.ListN.{length, getD}
+use lib.ListN.{length}
 use lib.IntN.{ℤ}
 use Rattle.sheet.specs.declared.Record.{Record}
 use Rattle.sheet.specs.declared.Range.{Range}
@@ -23,6 +23,7 @@ use Rattle.machine.specs.Valid.{OfSheet}
 use Rattle.machine.specs.Eval.{Context, evalOf}
 use Rattle.sheet_rules.specs.Check.{checkOf}
 use Rattle.machine_passed.specs.Places.{Placed, Locals}
+use Rattle.engine_context.specs.Context.{elementIn, bindingIn, chartIn, firstBodyIn, bodyIn, cellIn, Spans}
 use Rattle.machine_sound.specs.Gives.{Gives}
 
 -- a record, all zero where there is none
@@ -30,26 +31,7 @@ unfoldable pub recordOr0 : Found → Record
 recordOr0 (Present r) = r
 recordOr0 Absent = record { f0 = 0; f1 = 0; f2 = 0; f3 = 0; f4 = 0; f5 = 0; f6 = 0; f7 = 0 }
 
--- Where a body runs, as 38 numbers: the element, its binding's number, its chart's, its chart's first body's, the body's; then the first cell of each of its chart's variables, and one behind the last of them.
-abbrev pub elementIn : List ℕ → ℕ
-elementIn w = getD w 0 0
-
-abbrev pub bindingIn : List ℕ → ℕ
-bindingIn w = getD w 1 0
-
-abbrev pub chartIn : List ℕ → ℕ
-chartIn w = getD w 2 0
-
-abbrev pub firstBodyIn : List ℕ → ℕ
-firstBodyIn w = getD w 3 0
-
-abbrev pub bodyIn : List ℕ → ℕ
-bodyIn w = getD w 4 0
-
--- the first cell of variable n
-abbrev pub cellIn : List ℕ → ℕ → ℕ
-cellIn w n = getD w (5 + n) 0
-
+-- where a body runs, by its numbers
 unfoldable pub contextAt : List ℕ → List ℕ → Context
 contextAt s w = record { element = elementIn w; binding = recordOr0 (recordOf s bindings (bindingIn w)); chart = recordOr0 (recordOf s charts (chartIn w)); body = recordOr0 (recordOf s bodies (bodyIn w)) }
 
@@ -75,11 +57,9 @@ pub record Lies (w : List ℕ) (st : List ℤ) (n : ℕ) : Type 0 where
   pub inside : cellAt (cellIn w n) + 8 ≤ length st
   pub short : length st ≤ 5128
 
--- the cells of variable n, from its first one on and before the next variable's, lie in the state
+-- the cells of variable n lie in the state
 pub record Reaches (w : List ℕ) (st : List ℤ) (n : ℕ) : Type 0 where
-  pub whole : length w ≡ 38
-  pub number : n < 32
-  pub rise : cellIn w n ≤ cellIn w (n + 1)
+  pub spans : Spans w n
   pub inside : (k : ℕ) → k < cellIn w (n + 1) - cellIn w n → cellAt (cellIn w n + k) + 8 ≤ length st
 
 -- node n is an expression of the body

@@ -1,19 +1,19 @@
 -- How an engine goes on from words.
-use Prim.Native.Nat.{ℕ, zero, suc, _+_, _-_, _≤_}
+use Prim.Native.Nat.{ℕ, zero, suc, _+_, _≤_}
 use mathlib.Core.List.{List, [], _∷_}
-use mathlib.Core.Bool.{true, false}
 use lib.ListN.{set}
-use lib.IntN.{ℤ, natAbs}
+use lib.IntN.{ℤ}
 use Rattle.sheet.specs.declared.Record.{Record}
 use Rattle.sheet.specs.declared.Range.{Range}
 use Rattle.machine.specs.declared.Out.{Out}
 use Rattle.machine.specs.declared.Ran.{Ran}
 use Rattle.machine.specs.declared.Ran.the-variants.{Done, Refused, Stuck}
 use Rattle.sheet_rules.specs.Fields.{fieldOf}
-use Rattle.machine.specs.Values.{isBelow}
-use Rattle.machine.specs.State.{cellAt, wordOf}
+use Rattle.machine.specs.State.{wordOf}
 use Rattle.machine.specs.Run.{World, world, datum}
 use Rattle.machine_sound.specs.Gives.{WordsOf}
+use Rattle.engine_context.specs.declared.Place.{Place}
+use Rattle.engine_context.specs.declared.Place.the-variants.{At, Outside}
 use Rattle.engine_ints.specs.declared.Work.{Work}
 use Rattle.engine_ints.specs.declared.Work.the-variants as work
 use Rattle.engine_ints.specs.Work.{workOf}
@@ -24,13 +24,16 @@ thenWord (work.Word z l) st lo K = K z l
 thenWord (work.Refused n l) st lo K = world (Refused n l) st lo
 thenWord work.Stuck st lo K = world Stuck st lo
 
--- ---- an element of a variable whose cells are those from number a on, below b; "11, index outside its number"
+-- ---- an element where an index leads
 
-unfoldable pub elementWork : List ℤ → ℕ → ℕ → ℤ → ℕ → Work
-elementWork st a b i l = elim (isBelow i (b - a)) [ true ↦ work.Word (wordOf st (cellAt (a + natAbs i))) l | false ↦ work.Refused 11 l ]
+-- "11, index outside its number"
+unfoldable pub wordAt : List ℤ → Place → ℕ → Work
+wordAt st (At k) l = work.Word (wordOf st k) l
+wordAt st Outside l = work.Refused 11 l
 
-unfoldable pub elementPut : ℕ → ℕ → ℤ → ℤ → ℕ → List ℤ → List ℤ → World
-elementPut a b i z l st lo = elim (isBelow i (b - a)) [ true ↦ world (Done l) (set st (cellAt (a + natAbs i)) z) lo | false ↦ world (Refused 11 l) st lo ]
+unfoldable pub putAt : Place → ℤ → ℕ → List ℤ → List ℤ → World
+putAt (At k) z l st lo = world (Done l) (set st k z) lo
+putAt Outside z l st lo = world (Refused 11 l) st lo
 
 -- ---- data in words, with the steps left
 

@@ -28,7 +28,8 @@ use Rattle.machine_passed.proofs.Records.{components-limit, name-shape}
 use Rattle.engine_ints.proofs.Range.{back}
 use Rattle.engine_ints.specs.declared.Work.{Work}
 use Rattle.engine_ints.specs.declared.Work.the-variants as work
-use Rattle.engine_ready.specs.Ready.{elementIn, contextAt, Running}
+use Rattle.engine_context.specs.Context.{elementIn}
+use Rattle.engine_ready.specs.Ready.{contextAt, Running}
 use Rattle.engine_ready.specs.Words.{thenWord, Data, given, refused, stuck, thenData, ranData, fourWords}
 
 -- ---- going on from a word

@@ -9,7 +9,8 @@ use Rattle.machine.specs.Eval.{evalOf}
 use Rattle.machine.specs.Run.{World, telegram, append}
 use Rattle.engine_ints.specs.declared.Work.{Work}
 use Rattle.engine_ints.specs.Work.{workOf}
-use Rattle.engine_ready.specs.Ready.{elementIn, contextAt}
+use Rattle.engine_context.specs.Context.{elementIn}
+use Rattle.engine_ready.specs.Ready.{contextAt}
 use Rattle.engine_ready.specs.Words.{thenWord, Data, dataFrom, thenData}
 
 module _ (s w : List ℕ) (st lo : List ℤ) where

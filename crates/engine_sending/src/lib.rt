@@ -1,6 +1,6 @@
 // Data worked out, and telegrams sent.
+use engine_context::ELEMENT;
 use engine_ints::Work;
-use engine_ready::ELEMENT;
 use machine::Ran;
 use machine::Telegram;
 use sheet::Found;

@@ -34,7 +34,8 @@ use Rattle.machine_passed.proofs.Charts.{body-tree, body-static}
 use Rattle.machine_passed.proofs.Declared.{locals-there}
 use Rattle.machine_sound.proofs.Locals.{fresh-locals}
 use Rattle.machine_sound.proofs.Run.{called-in, is-statement}
-use Rattle.engine_ready.specs.Ready.{elementIn, firstBodyIn, recordOr0, contextAt, Running, Ready, IsStatement, HasData}
+use Rattle.engine_context.specs.Context.{elementIn, firstBodyIn}
+use Rattle.engine_ready.specs.Ready.{recordOr0, contextAt, Running, Ready, IsStatement, HasData}
 use Rattle.engine_ready.specs.Words.{given, DataTold, ranData, fourWords}
 use Rattle.engine_ready.proofs.Statements.{called-there, call-data, call-told, call-word}
 use Rattle.engine_sending.specs.Visit.{Visit}

@@ -1,6 +1,6 @@
 // What a statement does.
+use engine_context::FIRST_BODY;
 use engine_ints::Work;
-use engine_ready::FIRST_BODY;
 use machine::Ran;
 use sheet::Found;
 use sheet::Range;
@@ -35,7 +35,7 @@ fn enter(
     if 16 <= depth {
         return Ran::Refused { number: 9, left };
     }
-    let inner = engine_cells::inner(context, number);
+    let inner = engine_context::inner(context, number);
     let mut locals = engine_defaults::fresh_locals(sheet, directory, b, d);
     run(
         sheet,

@@ -1,8 +1,8 @@
 use mathlib.Core.Path.{sym, _∙_}
 use Rattle.engine_store.proofs.Laws.{given}
-use Rattle.engine_ready.proofs.Statements.{index-operand, element-operand, element-word}
+use Rattle.engine_ready.proofs.Statements.{element-word}
 use Rattle.engine_sending.proofs.Sends.{on-word, on-refused, on-stuck}
-use Rattle.engine_acts.proofs.Acts.{element-reaches}
+use Rattle.engine_acts.proofs.Acts.{element-operands, element-reaches}
 use borrow.Author.Needs.{needs}
 use Rattle.engine_acts.proofs.assign_element.Statement.{statement}
 use Rattle.engine_acts.proofs.assign_element.Tie as tie
@@ -11,7 +11,7 @@ cast-eval : tie.Need-cast-eval
 cast-eval c = search needs
 
 eval-requires : tie.Need-eval-requires
-eval-requires c κs = (c .before .before .before .pre .0, c .before .before .before .pre .1 .ready, index-operand _ _ _ _ (c .before .before .before .pre .1 .ready) _ _ (c .before .before .before .pre .1 .there) (c .before .before .before .pre .1 .statement) (c .before .before .before .pre .1 .form))
+eval-requires c κs = let v = c .before .before .before .pre .1 in let o = element-operands _ _ _ _ _ _ v in (c .before .before .before .pre .0, v .ready, search (o .0, o .1))
 
 enum-known-index : tie.Need-enum-known-index
 enum-known-index c = search needs
@@ -20,7 +20,7 @@ cast-eval-2 : tie.Need-cast-eval-2
 cast-eval-2 c = search needs
 
 eval-requires-2 : tie.Need-eval-requires-2
-eval-requires-2 c κs = (c .before .before .before .before .before .before .before .before .before .pre .0, c .before .before .before .before .before .before .before .before .before .pre .1 .ready, element-operand _ _ _ _ (c .before .before .before .before .before .before .before .before .before .pre .1 .ready) _ _ (c .before .before .before .before .before .before .before .before .before .pre .1 .there) (c .before .before .before .before .before .before .before .before .before .pre .1 .statement) (c .before .before .before .before .before .before .before .before .before .pre .1 .form))
+eval-requires-2 c κs = let v = c .before .before .before .before .before .before .before .before .before .pre .1 in let o = element-operands _ _ _ _ _ _ v in (c .before .before .before .before .before .before .before .before .before .pre .0, v .ready, search (o .0, o .1))
 
 enum-known-value : tie.Need-enum-known-value
 enum-known-value c = search needs

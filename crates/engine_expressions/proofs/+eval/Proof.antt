@@ -10,7 +10,8 @@ use borrow.Fn.PlainCycle.{Measures, is, falls, and as joined}
 use Rattle.sheet_rules.proofs.Forms.{form-literal, form-binary, form-clock, form-expression}
 use Rattle.engine_ints.specs.declared.Work.the-variants.{Word}
 use Rattle.engine_ready.proofs.Expressions.{absent-stuck, other-stuck, unary-low, unary-operand}
-use Rattle.engine_expressions.proofs.Places.{form-read, from-9, form-element, form-unary, visit, refused-at, element-low, literal-at, clock-here, running-at, value-at, index-at, reaches-at, element-at, not-at, operands-at, two-at, first-refused, first-stuck}
+use Rattle.engine_ready.proofs.Expressions.{clock-lies}
+use Rattle.engine_expressions.proofs.Places.{form-read, from-9, form-element, form-unary, visit, refused-at, element-low, literal-at, running-at, value-at, index-at, reaches-at, element-at, not-at, operands-at, two-at, first-refused, first-stuck}
 use Rattle.engine_expressions.proofs.eval.Reads as eval
 use Rattle.engine_expressions.proofs.eval.Kinds as eval-kinds
 use Rattle.engine_expressions.proofs.+eval.Lts-eval as eval-lts
@@ -87,13 +88,13 @@ eval-cast-cell-word : (t : ℕ) → eval-lts.Need-cast-cell-word (callees t) (ev
 eval-cast-cell-word t c = search needs
 
 eval-cell-word-requires : (t : ℕ) → eval-lts.Need-cell-word-requires (callees t) (eval-at t) eval.Post
-eval-cell-word-requires t c κs = clock-here _ _ _ _ (c .before .before .before .before .before .before .before .before .pre .1 .1) _ _ (sym (c .before .before .before .before .before .read .ensures) ∙ c .before .before .before .r .given .1) (c .before .before .before .before .before .before .before .before .pre .1 .2) (form-clock _ (let e = c .before .match2 .keys3 in omega arith) (let e = c .before .match2 .keys3 in omega arith)) 0 (omega arith)
+eval-cell-word-requires t c κs = (clock-lies _ _ _ _ (c .before .before .before .before .before .before .before .before .pre .1 .1) _ _ (sym (c .before .before .before .before .before .read .ensures) ∙ c .before .before .before .r .given .1) (c .before .before .before .before .before .before .before .before .pre .1 .2) (form-clock _ (let e = c .before .match2 .keys3 in omega arith) (let e = c .before .match2 .keys3 in omega arith)), omega arith)
 
 eval-cast-cell-word-2 : (t : ℕ) → eval-lts.Need-cast-cell-word-2 (callees t) (eval-at t) eval.Post
 eval-cast-cell-word-2 t c = search needs
 
 eval-cell-word-requires-2 : (t : ℕ) → eval-lts.Need-cell-word-requires-2 (callees t) (eval-at t) eval.Post
-eval-cell-word-requires-2 t c κs = clock-here _ _ _ _ (c .before .before .before .before .before .before .before .before .pre .1 .1) _ _ (sym (c .before .before .before .before .before .read .ensures) ∙ c .before .before .before .r .given .1) (c .before .before .before .before .before .before .before .before .pre .1 .2) (form-clock _ (let e = c .before .match2 .keys4 in omega arith) (let e = c .before .match2 .keys4 in omega arith)) 1 (omega arith)
+eval-cell-word-requires-2 t c κs = (clock-lies _ _ _ _ (c .before .before .before .before .before .before .before .before .pre .1 .1) _ _ (sym (c .before .before .before .before .before .read .ensures) ∙ c .before .before .before .r .given .1) (c .before .before .before .before .before .before .before .before .pre .1 .2) (form-clock _ (let e = c .before .match2 .keys4 in omega arith) (let e = c .before .match2 .keys4 in omega arith)), omega arith)
 
 eval-cast-element : (t : ℕ) → eval-lts.Need-cast-element (callees t) (eval-at t) eval.Post
 eval-cast-element t c = search needs

@@ -1,3 +1,4 @@
+use native.Mathlib.Omega.{arith}
 use mathlib.Core.Path.{_≡_, sym, ap, _∙_}
 use lib.IntN.{ℤ}
 use mir.Syntax.{w32}
@@ -5,7 +6,8 @@ use mir.Val.{ofZ, toZ}
 use Rattle.engine_ints.specs.declared.Work.the-variants.{Word}
 use Rattle.engine_ints.proofs.Range.{back}
 use Rattle.engine_ready.proofs.Expressions.{local-inside, no-other-place}
-use Rattle.engine_expressions.proofs.Places.{not-absent, element-low, variable-here, variable-at, local-at, constant-at, constant-none}
+use Rattle.engine_ready.proofs.Expressions.{variable-lies}
+use Rattle.engine_expressions.proofs.Places.{not-absent, element-low, variable-at, local-at, constant-at, constant-none}
 use borrow.Author.Needs.{needs}
 use Rattle.engine_expressions.proofs.variable.Statement.{statement}
 use Rattle.engine_expressions.proofs.variable.Tie as tie
@@ -53,7 +55,7 @@ literal-requires : tie.Need-literal-requires
 literal-requires c κs = element-low _ _ _ _ (c .before .before .before .before .before .before .before .before .before .before .before .before .before .before .pre .1)
 
 cell-word-requires : tie.Need-cell-word-requires
-cell-word-requires c κs = variable-here _ _ _ _ (c .before .before .before .pre .1) _ _ (c .before .before .before .pre .3) (c .before .before .before .pre .2) (c .before .before .before .pre .4) (c .match .keys2)
+cell-word-requires c κs = (variable-lies _ _ _ _ (c .before .before .before .pre .1) _ _ (c .before .before .before .pre .3) (c .before .before .before .pre .2) (c .before .before .before .pre .4) (c .match .keys2), omega arith)
 
 mul-t24 : tie.Need-mul-t24
 mul-t24 c = search needs

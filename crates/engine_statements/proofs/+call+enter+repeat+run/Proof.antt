@@ -33,7 +33,7 @@ use Rattle.engine_statements.proofs.+call+enter+repeat+run.Lts-run as r
 use Rattle.engine_acts.proofs.arming.Reads as arming-reads
 use Rattle.engine_acts.proofs.assign.Reads as assign-reads
 use Rattle.engine_acts.proofs.assign_element.Reads as assign-element-reads
-use Rattle.engine_cells.proofs.inner.Reads as inner-reads
+use Rattle.engine_context.proofs.inner.Reads as inner-reads
 use Rattle.engine_acts.proofs.clock.Reads as clock-reads
 use Rattle.engine_sending.proofs.external_send.Reads as external-send-reads
 use Rattle.engine_sending.proofs.gather.Reads as gather-reads

@@ -3,9 +3,9 @@ use mathlib.Core.Path.{_≡_, refl, _∙_}
 use native.Mathlib.Omega.{arith}
 use lib.ListN.{length, getD, length-set}
 use borrow.Author.Needs.{needs}
-use Rattle.engine_cells.proofs.Laws.{copied-head, copied-more}
-use Rattle.engine_cells.proofs.context.Statement.{statement}
-use Rattle.engine_cells.proofs.context.Tie as tie
+use Rattle.engine_context.proofs.Laws.{copied-head, copied-more}
+use Rattle.engine_context.proofs.context.Statement.{statement}
+use Rattle.engine_context.proofs.context.Tie as tie
 
 abbrev Inv-loop : tie.InvT-loop
 Inv-loop cells e i chart first body count w₀ n₀ w n = (n ≤ count + 1) × (length w ≡ 38) × ((m : ℕ) → m < 5 → getD w m 0 ≡ getD w₀ m 0) × ((m : ℕ) → m < n → getD w (5 + m) 0 ≡ getD cells (33 * i + m) 0)

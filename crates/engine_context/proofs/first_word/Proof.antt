@@ -1,8 +1,8 @@
 use native.Mathlib.Omega.{arith}
 use Rattle.machine.specs.State.{cellAt}
 use borrow.Author.Needs.{needs}
-use Rattle.engine_acts.proofs.first_word.Statement.{statement}
-use Rattle.engine_acts.proofs.first_word.Tie as tie
+use Rattle.engine_context.proofs.first_word.Statement.{statement}
+use Rattle.engine_context.proofs.first_word.Tie as tie
 
 add-result : tie.Need-add-result
 add-result c = search needs

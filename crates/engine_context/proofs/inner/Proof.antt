@@ -2,8 +2,8 @@ use native.Mathlib.Omega.{arith}
 use borrow.Author.Needs.{needs}
 use lib.ListN.{length-set}
 use lib.Seq.{getD-set-same, getD-set-other}
-use Rattle.engine_cells.proofs.inner.Statement.{statement}
-use Rattle.engine_cells.proofs.inner.Tie as tie
+use Rattle.engine_context.proofs.inner.Statement.{statement}
+use Rattle.engine_context.proofs.inner.Tie as tie
 
 array-write-own : tie.Need-array-write-own
 array-write-own c = search needs
