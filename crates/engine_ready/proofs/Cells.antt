@@ -31,7 +31,7 @@ use Rattle.engine_context.specs.Context.{elementIn, cellIn, leadsTo}
 use Rattle.engine_ready.specs.Ready.{contextAt, Running, Ready, Lies, Reaches}
 
 -- "Elements have at most 512 variables together"
-pub state-short : (s : List ℕ) (st : List ℤ) → checkOf s ≡ Passed → OfSheet s st → length st ≤ 5128
+state-short : (s : List ℕ) (st : List ℤ) → checkOf s ≡ Passed → OfSheet s st → length st ≤ 5128
 unfolding stateLength placeAt
 state-short s st ok o = omega (arith, cells-limit s ok, o .whole)
 
@@ -54,7 +54,7 @@ leads-inside w st n h i k = go (isBelow i (cellIn w (n + 1) - cellIn w n)) (λ b
 
 module _ (s w : List ℕ) (running : Running s w) where
   -- "variables (up to 32)"
-  pub few-variables : chartVariables (contextAt s w .chart) .count ≤ 32
+  few-variables : chartVariables (contextAt s w .chart) .count ≤ 32
   unfolding chartShape
   few-variables = leb-true _ _ (and-first _ _ (and-second _ _ (and-second _ _ (and-second _ _ (chart-shape s (running .passed) _ _ (running .placed .element .chart))))))
 
