@@ -7,7 +7,7 @@ use sheet::Range;
 use sheet::Record;
 ghost use mathlib.Core.Path.{_≡_};
 ghost use mathlib.Core.List.{List};
-ghost use Prim.Native.Nat.{ℕ, suc, _+_, _<_};
+ghost use Prim.Native.Nat.{ℕ, suc, _<_};
 ghost use lib.ListN.{length};
 ghost use lib.IntN.{ℤ};
 ghost use Rattle.sheet.specs.declared.Found.the-variants.{Present};
@@ -74,7 +74,7 @@ pub fn assign(
 // A value to the element of array n at index i; "11, index outside its number".
 fn put_element(context: &[usize; 38], st: &mut [i32], n: usize, i: i32, z: i32, left: u32) -> Ran
     requires { ⌜ Reaches (now context) (now st) n ⌝ }
-    ensures { λ r. ⌜ ((lo : List ℤ) → world r (now (st .exit)) lo ≡ putAt (leadsTo (cellIn (now (context .entry)) n) (cellIn (now (context .entry)) (n + 1)) i) z left (now (st .entry)) lo) ⌝ }
+    ensures { λ r. ⌜ ((lo : List ℤ) → world r (now (st .exit)) lo ≡ putAt (leadsTo (now (context .entry)) n i) z left (now (st .entry)) lo) ⌝ }
 {
     let p = engine_context::element_word(context, n, i);
     match p {

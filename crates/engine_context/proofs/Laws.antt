@@ -13,7 +13,7 @@ use Rattle.machine.specs.Values.{isBelow}
 use Rattle.machine.specs.State.{cellAt}
 use Rattle.machine_states.proofs.Parts.{below-abs}
 use Rattle.engine_context.specs.declared.Place.the-variants.{At, Outside}
-use Rattle.engine_context.specs.Context.{leadsTo}
+use Rattle.engine_context.specs.Context.{cellIn, Spans, leadsTo}
 
 -- ---- the numbers: five, then its element's part of the table, of which n are copied
 
@@ -29,19 +29,19 @@ module _ (w : List ℕ) (n x : ℕ) where
 
 -- ---- an index, by the test that compares it
 
-module _ (a b : ℕ) (i : ℤ) (t : Bool) (test : t ≡ isBelow i (b - a)) where
-  pub goes-outside : not t ≡ true → Outside ≡ leadsTo a b i
+module _ (w : List ℕ) (n : ℕ) (i : ℤ) (t : Bool) (test : t ≡ isBelow i (cellIn w (n + 1) - cellIn w n)) where
+  pub goes-outside : not t ≡ true → Outside ≡ leadsTo w n i
   unfolding leadsTo
   goes-outside h = rw (leadsTo, sym test ∙ not-true t h) refl
 
-  pub goes-below : not t ≡ false → isBelow i (b - a) ≡ true
+  pub goes-below : not t ≡ false → isBelow i (cellIn w (n + 1) - cellIn w n) ≡ true
   goes-below h = sym test ∙ not-false t h
 
   module _ (h : not t ≡ false) (k : ℕ) (e : k ≡ natAbs i) where
-    pub goes-inside : At (8 + 8 * (a + k)) ≡ leadsTo a b i
+    pub goes-inside : At (8 + 8 * (cellIn w n + k)) ≡ leadsTo w n i
     unfolding leadsTo cellAt
-    goes-inside = ap (λ k. At (8 + 8 * (a + k))) e ∙ rw (leadsTo, goes-below h) refl
+    goes-inside = ap (λ k. At (8 + 8 * (cellIn w n + k))) e ∙ rw (leadsTo, goes-below h) refl
 
     -- the cell is one of the few
-    pub goes-few : a ≤ b → b ≤ 512 → a + k ≤ 512
-    goes-few l m = omega (arith, below-abs i (b - a) (goes-below h))
+    pub goes-few : Spans w n → cellIn w n + k ≤ 512
+    goes-few l = omega (arith, below-abs i (cellIn w (n + 1) - cellIn w n) (goes-below h), l .rise, l .few)

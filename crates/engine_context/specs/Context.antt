@@ -36,6 +36,6 @@ pub record Spans (w : List ℕ) (n : ℕ) : Type 0 where
   pub rise : cellIn w n ≤ cellIn w (n + 1)
   pub few : cellIn w (n + 1) ≤ 512
 
--- where index i leads in a variable whose cells are those from number a on, below b
-unfoldable pub leadsTo : ℕ → ℕ → ℤ → Place
-leadsTo a b i = elim (isBelow i (b - a)) [ true ↦ At (cellAt (a + natAbs i)) | false ↦ Outside ]
+-- where index i leads in variable n
+unfoldable pub leadsTo : List ℕ → ℕ → ℤ → Place
+leadsTo w n i = elim (isBelow i (cellIn w (n + 1) - cellIn w n)) [ true ↦ At (cellAt (cellIn w n + natAbs i)) | false ↦ Outside ]

@@ -76,7 +76,7 @@ pub fn first_word(context: &[usize; 38], n: usize) -> usize
 // its index.
 pub fn element_word(context: &[usize; 38], n: usize, i: i32) -> Place
     requires { ⌜ Spans (now context) n ⌝ }
-    ensures { λ p. ⌜ p ≡ leadsTo (cellIn (now (context .entry)) n) (cellIn (now (context .entry)) (n + 1)) i ⌝ }
+    ensures { λ p. ⌜ p ≡ leadsTo (now (context .entry)) n i ⌝ }
 {
     let first = context[CELLS + n];
     let count = context[CELLS + (n + 1)] - first;

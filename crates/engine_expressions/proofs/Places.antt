@@ -136,8 +136,8 @@ module _ (s w : List ℕ) (st lo : List ℤ) (ready : Ready s w st lo) where
       pub reaches-at : Reaches w st (r .f1)
       reaches-at = reaches s w st lo ready (r .f1) (laws.element-below s w st lo ready n r there e q)
 
-      pub element-at : (l : ℕ) (y : Work) → y ≡ workOf (evalOf s (contextAt s w) st lo (r .f2) l) → thenWork y (λ i. wordAt st (leadsTo (cellIn w (r .f1)) (cellIn w (r .f1 + 1)) i)) ≡ given l
-      element-at l y h = ap (λ o. thenWork o (λ i. wordAt st (leadsTo (cellIn w (r .f1)) (cellIn w (r .f1 + 1)) i))) h ∙ sym (laws.element-word s w st lo ready n r there e q l)
+      pub element-at : (l : ℕ) (y : Work) → y ≡ workOf (evalOf s (contextAt s w) st lo (r .f2) l) → thenWork y (λ i. wordAt st (leadsTo w (r .f1) i)) ≡ given l
+      element-at l y h = ap (λ o. thenWork o (λ i. wordAt st (leadsTo w (r .f1) i))) h ∙ sym (laws.element-word s w st lo ready n r there e q l)
 
     pub not-at : formOf (operator r) ≡ unary → (l : ℕ) (y : Work) → y ≡ workOf (evalOf s (contextAt s w) st lo (r .f1) l) → thenWork y notWork ≡ given l
     not-at q l y h = ap (λ o. thenWork o notWork) h ∙ sym (laws.not-word s w st lo ready n r there e q l)

@@ -66,7 +66,7 @@ fn cell_word(context: &[usize; 38], st: &[i32], n: usize, k: usize) -> i32
 // outside.
 fn element_at(context: &[usize; 38], st: &[i32], n: usize, i: i32, left: u32) -> Work
     requires { ⌜ Reaches (now context) (now st) n ⌝ }
-    ensures { λ z. ⌜ z ≡ wordAt (now (st .entry)) (leadsTo (cellIn (now (context .entry)) n) (cellIn (now (context .entry)) (n + 1)) i) left ⌝ }
+    ensures { λ z. ⌜ z ≡ wordAt (now (st .entry)) (leadsTo (now (context .entry)) n i) left ⌝ }
 {
     let p = engine_context::element_word(context, n, i);
     match p {
@@ -78,7 +78,7 @@ fn element_at(context: &[usize; 38], st: &[i32], n: usize, i: i32, left: u32) ->
 // The same, by what the index gives.
 fn element(context: &[usize; 38], st: &[i32], n: usize, x: Work) -> Work
     requires { ⌜ Reaches (now context) (now st) n ⌝ }
-    ensures { λ z. ⌜ z ≡ thenWork x (λ i. wordAt (now (st .entry)) (leadsTo (cellIn (now (context .entry)) n) (cellIn (now (context .entry)) (n + 1)) i)) ⌝ }
+    ensures { λ z. ⌜ z ≡ thenWork x (λ i. wordAt (now (st .entry)) (leadsTo (now (context .entry)) n i)) ⌝ }
 {
     match x {
         Work::Word { word, left } => element_at(context, st, n, word, left),

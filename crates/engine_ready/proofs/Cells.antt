@@ -36,7 +36,7 @@ unfolding stateLength placeAt
 state-short s st ok o = omega (arith, cells-limit s ok, o .whole)
 
 -- where an index leads, the state has a word
-pub leads-inside : (w : List ℕ) (st : List ℤ) (n : ℕ) → Reaches w st n → (i : ℤ) (k : ℕ) → leadsTo (cellIn w n) (cellIn w (n + 1)) i ≡ At k → k < length st
+pub leads-inside : (w : List ℕ) (st : List ℤ) (n : ℕ) → Reaches w st n → (i : ℤ) (k : ℕ) → leadsTo w n i ≡ At k → k < length st
 unfolding leadsTo
 leads-inside w st n h i k = go (isBelow i (cellIn w (n + 1) - cellIn w n)) (λ b. h .inside (natAbs i) (below-abs i _ b))
   where

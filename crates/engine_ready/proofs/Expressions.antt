@@ -301,7 +301,7 @@ module _ (s w : List ℕ) (st lo : List ℤ) (ready : Ready s w st lo) where
           let r′ = declared-record s d (chart-variable-declared s (ready .running .passed) _ _ (placed .element .chart) (r .f1) element-below) in
           needs-met _ _ (lt-ltb _ _ element-below) ∙ on-present _ (r′ .0) _ (r′ .1) ∙ ap (λ t. elementAs s x st (r .f1) t (reached (indexAt s d) v) l) (r′ .2) ∙ ap (λ i. elementAs s x st (r .f1) (typeAt s d) i l) (index .goes v k i)
 
-      pub element-word : (l : ℕ) → workOf (evalOf s x st lo n (suc l)) ≡ thenWork (workOf (evalOf s x st lo (r .f2) l)) (λ i. wordAt st (leadsTo (cellIn w (r .f1)) (cellIn w (r .f1 + 1)) i))
+      pub element-word : (l : ℕ) → workOf (evalOf s x st lo n (suc l)) ≡ thenWork (workOf (evalOf s x st lo (r .f2) l)) (λ i. wordAt st (leadsTo w (r .f1) i))
       unfolding evalIn leadsTo wordAt elementAs variableAtCell within workOf
       element-word l =
           ap workOf (visited readElement q l)

@@ -235,7 +235,7 @@ module _ (s w : List ℕ) (st lo : List ℤ) (ready : Ready s w st lo) where
       unfolding fieldOf
       element-operand = expression (r .f3) (element-low 1 (omega arith)) (typeAt s d) (and-second _ _ element-types)
 
-      put-here : (i z : ℤ) (l : ℕ) → elementAssigned s x (r .f1) (ranged (cellsTaken s d) i) z l st lo ≡ putAt (leadsTo (cellIn w (r .f1)) (cellIn w (r .f1 + 1)) i) z l st lo
+      put-here : (i z : ℤ) (l : ℕ) → elementAssigned s x (r .f1) (ranged (cellsTaken s d) i) z l st lo ≡ putAt (leadsTo w (r .f1) i) z l st lo
       unfolding elementAssigned leadsTo putAt variableAtCell
       put-here i z l = go (isBelow i (cellsTaken s d)) ∙ ap {B = World} (λ c. putAt (elim (isBelow i c) [ true ↦ At (cellAt (cellIn w (r .f1) + natAbs i)) | false ↦ Outside ]) z l st lo) (sym (taken-is s w (ready .running) (r .f1) element-below))
         where
@@ -247,7 +247,7 @@ module _ (s w : List ℕ) (st lo : List ℤ) (ready : Ready s w st lo) where
           runOf s depth x n (suc l) st lo ≡
           thenWord (workOf (evalOf s x st lo (r .f2) l)) st lo (λ i l.
           thenWord (workOf (evalOf s x st lo (r .f3) l)) st lo (λ z l.
-          putAt (leadsTo (cellIn w (r .f1)) (cellIn w (r .f1 + 1)) i) z l st lo))
+          putAt (leadsTo w (r .f1) i) z l st lo))
       unfolding runIn assignElementOf cellsTaken fieldOf
       element-word depth l =
           visited assignElement q depth l
