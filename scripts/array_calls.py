@@ -103,6 +103,13 @@ def places(count):
     return 8 + 8 * count + 8 * 128
 
 
+def write():
+    """The calls to standard output, the answers to the file that is named."""
+    sys.stdout.buffer.write(b"".join(CALLS))
+    with open(sys.argv[1], "w") as answers:
+        answers.writelines(answer + "\n" for answer in ANSWERS)
+
+
 # Component 2 is E1; port 0 is log; name 0 is Go, 1 is Tick.
 DELIVER = [2, 0, 2, 0, 0, 0, 0, 0, 0]
 CORRUPT = [3, 0, 2, 0, 0, 0, 0, 0, 0]
@@ -366,9 +373,7 @@ def main():
     for part in (checked_indices, checked_elements, checked_declarations, checked_operators, checked_cells,
                  started, played, played_by_type, valid_states, slices):
         part()
-    sys.stdout.buffer.write(b"".join(CALLS))
-    with open(sys.argv[1], "w") as answers:
-        answers.writelines(answer + "\n" for answer in ANSWERS)
+    write()
 
 
 if __name__ == "__main__":

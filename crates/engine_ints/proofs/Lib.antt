@@ -1,2 +1,3 @@
+pub mod Rounding
 pub mod Range
 pub mod Words

@@ -4,18 +4,21 @@ use mathlib.Core.Path.{_≡_, refl, sym, _∙_}
 use mathlib.Core.Bool.{Bool, true, false, cond}
 use native.Mathlib.Omega.{arith}
 use native.Mathlib.Nat.{mul-le-mul, div-le-self, le-trans}
-use lib.Dec.{ltb, eqb}
+use lib.Dec.{ltb, eqb, leb→le, lt→ltb, ltb→lt}
 use lib.IntN.{ℤ, pos, negsuc, negℤ, subℕ, _+ℤ_, _-ℤ_, _*ℤ_}
-use lib.Signed.{mag, ltZ, quotZ}
+use lib.Signed.{mag, ltZ, quotZ, mag-rem, mag-shr, _≤ℤ_, _<ℤ_}
 use mir.Syntax.{w32, w64}
 use mir.Val.{SFits, ofZ, toZ}
 use mir.ValLaws.{toZ-ofZ}
-use borrow.Author.Tests.{ltb-true, ltb-false, eqb-true, lt-ltb, le-ltb, eq-eqb, ne-eqb}
+use borrow.Author.Tests.{ltb-true, ltb-false, eqb-true, eqb-false, lt-ltb, le-ltb, eq-eqb, ne-eqb}
 use Rattle.sheet.proofs.All.{true-false, not-so}
+use Rattle.machine_division.specs.Division.{quotient, remainder}
+use Rattle.machine_division.proofs.Laws.{positive-divisor, negative-divisor}
 use Rattle.machine.specs.Values.{fits32, isZero}
 use Rattle.machine.specs.Eval.{intOut, dividing}
 use Rattle.engine_ints.specs.declared.Work.the-variants.{Word, Refused}
 use Rattle.engine_ints.specs.Work.{workOf}
+use Rattle.engine_ints.proofs.Rounding.{left-over}
 
 pub widen : {z : ℤ} → SFits w32 z → SFits w64 z
 widen h = record { sfits = omega arith }
@@ -97,6 +100,11 @@ mag-quot (pos a) (negsuc b) = omega (arith, div-le-self a (suc b), mag-neg (a / 
 mag-quot (negsuc a) (pos b) = omega (arith, div-le-self (suc a) b, mag-neg (suc a / b))
 mag-quot (negsuc a) (negsuc b) = omega (arith, div-le-self (suc a) (suc b))
 
+mag-quotient : (x y : ℤ) → mag (quotient x y) ≤ mag x + 1
+unfolding quotient
+mag-quotient x (pos n) = omega (arith, mag-shr x n)
+mag-quotient x (negsuc n) = omega (arith, mag-shr (negℤ x) (suc n), mag-minus x)
+
 module _ {x y : ℤ} (hx : SFits w32 x) (hy : SFits w32 y) where
   pub add-fits : SFits w64 (x +ℤ y)
   add-fits = record { sfits = omega (arith, mag-add x y) }
@@ -112,18 +120,44 @@ module _ {x y : ℤ} (hx : SFits w32 x) (hy : SFits w32 y) where
   pub quot-fits : SFits w64 (quotZ x y)
   quot-fits = record { sfits = omega (arith, mag-quot x y) }
 
-  -- what is taken away for mod
-  small-part : mag (y *ℤ quotZ x y) ≤ 4611686020574871552
-  small-part =
-      let q = mag-quot x y in
-      let m : (mag y + 1) * (mag (quotZ x y) + 1) ≤ 2147483648 * 2147483649 = mul-le-mul {n₂ = 2147483648} {m₂ = 2147483649} (omega arith) (omega arith) in
-      omega (arith, mag-mul y (quotZ x y))
+  pub quotient-fits : SFits w64 (quotient x y)
+  quotient-fits = record { sfits = omega (arith, mag-quotient x y) }
 
-  pub part-fits : SFits w64 (y *ℤ quotZ x y)
-  part-fits = record { sfits = omega (arith, small-part) }
+  -- the divisor times a quotient, rounded either way
+  whole-fits : (q : ℤ) → mag q ≤ mag x + 1 → SFits w64 (y *ℤ q)
+  whole-fits q h =
+      let m : (mag y + 1) * (mag q + 1) ≤ 2147483648 * 2147483649 = mul-le-mul {n₂ = 2147483648} {m₂ = 2147483649} (omega arith) (omega arith) in
+      record { sfits = omega (arith, mag-mul y q) }
 
-  pub rest-fits : SFits w64 (x -ℤ y *ℤ quotZ x y)
-  rest-fits = record { sfits = omega (arith, small-part, mag-minus (y *ℤ quotZ x y), mag-add x (negℤ (y *ℤ quotZ x y))) }
+  pub quot-whole-fits : SFits w64 (y *ℤ quotZ x y)
+  quot-whole-fits = whole-fits (quotZ x y) (mag-quot x y)
+
+  pub quotient-whole-fits : SFits w64 (y *ℤ quotient x y)
+  quotient-whole-fits = whole-fits (quotient x y) (mag-quotient x y)
+
+  -- the quotient toward zero, less any word
+  pub less-fits : {z : ℤ} → SFits w32 z → SFits w64 (quotZ x y -ℤ z)
+  less-fits {z} h = record { sfits = omega (arith, mag-quot x y, mag-minus z, mag-add (quotZ x y) (negℤ z)) }
+
+  pub left-over-fits : SFits w32 (x -ℤ y *ℤ quotZ x y)
+  left-over-fits = rw (left-over x y) (record { sfits = omega (arith, mag-rem x y) })
+
+  -- mod lies between 0 and its divisor
+  pub remainder-fits : isZero y ≡ false → SFits w32 (remainder x y)
+  unfolding isZero
+  remainder-fits e = go y hy e
+    where
+      low : (r : ℤ) (n : ℕ) → pos 0 ≤ℤ r → r <ℤ pos n → mag r < n
+      low (pos k) n l h = ltb→lt k n (h .lt)
+      low (negsuc k) n l h = absurd (l .le)
+
+      high : (r : ℤ) (n : ℕ) → negsuc n <ℤ r → r ≤ℤ pos 0 → mag r ≤ n
+      high (pos k) n l h = let z = leb→le k 0 (h .le) in omega arith
+      high (negsuc k) n l h = let z = ltb→lt k n (l .lt) in omega arith
+
+      go : (y : ℤ) → SFits w32 y → isZero y ≡ false → SFits w32 (remainder x y)
+      go (pos n) k e = let (l, h) = positive-divisor x (pos n) (record { lt = lt→ltb 0 n (let z = eqb-false n 0 e in omega arith) }) in record { sfits = omega (arith, low (remainder x (pos n)) n l h) }
+      go (negsuc n) k e = let (l, h) = negative-divisor x (negsuc n) (record { lt = tt }) in record { sfits = omega (arith, high (remainder x (negsuc n)) n l h) }
 
 -- ---- tests of a zero, which go by the bits
 
@@ -155,12 +189,13 @@ not-zero-wide {z} h n = not-so _ (λ e. n (rw (back h) (go z e)))
     go (pos n) e = eqb-true n 0 e
     go (negsuc n) e = absurd (true-false e refl)
 
-pub divisor : {z : ℤ} → SFits w32 z → (ofZ w32 z ≡ 0 → ⊥) → 0 < ofZ w64 (toZ w32 (ofZ w32 z))
-divisor {z} h n = rw (back h) (go z h n)
+pub divisor : {z : ℤ} → SFits w32 z → isZero z ≡ false → 0 < ofZ w64 (toZ w32 (ofZ w32 z))
+unfolding isZero
+divisor {z} h e = rw (back h) (go z h e)
   where
-    go : (z : ℤ) → SFits w32 z → (ofZ w32 z ≡ 0 → ⊥) → 0 < ofZ w64 z
-    go (pos n) h ne = omega arith
-    go (negsuc n) h ne = omega arith
+    go : (z : ℤ) → SFits w32 z → isZero z ≡ false → 0 < ofZ w64 z
+    go (pos n) h e = let z = eqb-false n 0 e in omega arith
+    go (negsuc n) h e = omega arith
 
 module _ (b z : ℤ) (l : ℕ) where
   pub by-zero : isZero b ≡ true → Refused 6 l ≡ workOf (dividing b z l)

@@ -15,8 +15,9 @@ use Rattle.sheet.proofs.All.{and-true, true-and, false-and, and-false}
 use Rattle.sheet.specs.Table.{lookUp}
 use Rattle.sheet_rules.specs.Forms.{binaryOf}
 use Rattle.sheet_rules.proofs.Forms.{binary-mod}
+use Rattle.machine_division.specs.Division.{quotient, remainder}
 use Rattle.machine.specs.Values.{isZero, sameWord}
-use Rattle.machine.specs.Eval.{boolWord, isOne, intOut, dividing, quotient, remainder}
+use Rattle.machine.specs.Eval.{boolWord, isOne, intOut, dividing}
 use Rattle.engine_ints.specs.declared.Work.the-variants.{Word}
 use Rattle.engine_ints.specs.Work.{workOf, combinedWork, binaryWork}
 

@@ -4,10 +4,11 @@ use lib.IntN.{ℤ, _+ℤ_, _-ℤ_, _*ℤ_}
 use lib.Signed.{ltZ}
 use Rattle.sheet.specs.All.{_and_}
 use Rattle.sheet_rules.specs.Forms.{Binary, both, equal, less, plus, minus, times, div, modulo, binaryOf}
+use Rattle.machine_division.specs.Division.{quotient, remainder}
 use Rattle.machine.specs.declared.Out.{Out}
 use Rattle.machine.specs.declared.Out.the-variants as out
 use Rattle.machine.specs.Values.{isZero, sameWord}
-use Rattle.machine.specs.Eval.{boolWord, intOut, quotient, remainder, dividing, isOne}
+use Rattle.machine.specs.Eval.{boolWord, intOut, dividing, isOne}
 use Rattle.engine_ints.specs.declared.Work.{Work}
 use Rattle.engine_ints.specs.declared.Work.the-variants.{Word, Refused, Stuck}
 

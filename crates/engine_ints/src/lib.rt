@@ -1,11 +1,12 @@
 // Operators on words.
 ghost use mathlib.Core.Path.{_≡_};
-ghost use mathlib.Core.Bool.{not};
+ghost use mathlib.Core.Bool.{not, false};
 ghost use lib.IntN.{_+ℤ_, _-ℤ_, _*ℤ_};
 ghost use lib.Signed.{ltZ};
 ghost use Rattle.sheet.specs.All.{_and_};
-ghost use Rattle.machine.specs.Values.{sameWord};
-ghost use Rattle.machine.specs.Eval.{boolWord, isOne, intOut, dividing, quotient, remainder};
+ghost use Rattle.machine.specs.Values.{isZero, sameWord};
+ghost use Rattle.machine_division.specs.Division.{quotient, remainder};
+ghost use Rattle.machine.specs.Eval.{boolWord, isOne, intOut, dividing};
 ghost use Rattle.engine_ints.specs.Work.{workOf, binaryWork, notWork};
 
 // What an expression gives: a word and the steps left, a refusal with its number, or stuck.
@@ -77,6 +78,19 @@ fn times(a: i32, b: i32, left: u32) -> Work
     fit(a as i64 * b as i64, left)
 }
 
+// "div rounds toward minus infinity". The language rounds toward zero: its quotient is one too high where what is left has the other sign
+// than the divisor. A product below 0 tells that, also that something is left, and no branch is taken on it.
+fn floored(a: i32, b: i32) -> i64
+    requires { ⌜ isZero b ≡ false ⌝ }
+    ensures { λ r. ⌜ r ≡ quotient a b ⌝ }
+{
+    let x = a as i64;
+    let y = b as i64;
+    let q = x / y;
+    let r = x - y * q;
+    q - bool_word(r * y < 0) as i64
+}
+
 // "Divisor 0" is 6; so is the least Int by -1.
 fn div(a: i32, b: i32, left: u32) -> Work
     ensures { λ r. ⌜ r ≡ workOf (dividing b (quotient a b) left) ⌝ }
@@ -84,10 +98,10 @@ fn div(a: i32, b: i32, left: u32) -> Work
     if b == 0 {
         return Work::Refused { number: 6, left };
     }
-    fit(a as i64 / b as i64, left)
+    fit(floored(a, b), left)
 }
 
-// "a mod b = a − b × (a div b), of which only the result must fit."
+// "a mod b = a − b × (a div b), of which only the result must fit", and it does: it lies between 0 and b.
 fn modulo(a: i32, b: i32, left: u32) -> Work
     ensures { λ r. ⌜ r ≡ workOf (dividing b (remainder a b) left) ⌝ }
 {
@@ -96,9 +110,12 @@ fn modulo(a: i32, b: i32, left: u32) -> Work
     if y == 0 {
         return Work::Refused { number: 6, left };
     }
-    let q = x / y;
-    let p = y * q;
-    fit(x - p, left)
+    let p = y * floored(a, b);
+    let r = x - p;
+    Work::Word {
+        word: r as i32,
+        left,
+    }
 }
 
 // 9 and; 10 equal; 11 less; 12 plus; 13 minus; 14 times; 15 div; 16 mod.

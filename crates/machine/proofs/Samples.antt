@@ -8,10 +8,11 @@ use Rattle.sheet.specs.All.{_and_}
 use Rattle.sheet.specs.Table.{lookUp}
 use Rattle.sheet_rules.specs.Forms.{binaryOf}
 use Rattle.sheet_rules.proofs.Samples.{sheetOf, rec3, rec6, body, check, assigning}
+use Rattle.machine_division.specs.Division.{quotient, remainder}
 use Rattle.machine.specs.Values.{fits32, isBelow, recordBy, isZero, inDataType, inType, defaultIn, defaultOf, hasDefault, isBound, bindingOf, chartOf, firstCell}
 use Rattle.machine.specs.State.{cellAt, cellOf, placeAt, stateLength, wordOf, waiting, setWaiting, telegramIn, telegramOf, putWords, withTelegram, appended, withoutTelegram}
 use Rattle.machine.specs.Valid.{dataFit, nameFits, reactionAwaits, zeroWords, runningClock, clockCell, cellFits, variableFits, elementFits, internalFits, externalFits, telegramFits, headFits, cellsFit, waitingFit, unusedZero, contentFits}
-use Rattle.machine.specs.Eval.{val, isVariable, isPlainVariable, andThen, needs, onRecord, intOut, quotient, remainder, dividing, notVal, onInts, combined, binaryVal, written, literalValue, within, ofType, parameterVal, variableAtCell, reached, elementAs, elementVal, readAs, readVal, clockWord, clockVal, evalIn, evalStep, evalF, evalOf}
+use Rattle.machine.specs.Eval.{val, isVariable, isPlainVariable, andThen, needs, onRecord, intOut, dividing, notVal, onInts, combined, binaryVal, written, literalValue, within, ofType, parameterVal, variableAtCell, reached, elementAs, elementVal, readAs, readVal, clockWord, clockVal, evalIn, evalStep, evalF, evalOf}
 use Rattle.machine.specs.Run.{goOn, thenOperand, withRecord, provided, before, nextValue, valuesFrom, thenValues, areOf, wordsIn, localAt, listFrom, localsOf, localsThere, append, armed, clockSet, fewer, assigned, hasVariable, assignOf, elementAssigned, assignElementOf, nameValues, externalSendOf, internalSendOf, armOf, clockActOf, entered, callOf, choiceOf, runIn, runStep, runF, runOf}
 use Rattle.machine.specs.Kinds.{kindOf}
 use Rattle.machine.specs.Play.{Outcome, ended, stuck, answer, limitOf, bodyFrom, bodyWhere, ranBody, elementBody, alone, eventEnd, defaultCell, alike, defaultCells, elementCells, cellsFrom, defaultState, hasHead, elementThere, elementsThere, startNext, startFrom, started, oldestFrom, oldest, taking, sameDeclared, brought, reacting, panicking, withNumber, outside, bodiesThere, received, delivered, deliver, corrupt, inner, thenSlice, fires, ticks, slicedCell, slicedEach, slicedVariable, slicedCells, slicedElement, slicedFrom, changeEnd, slice, restZero, wellFormed, isEvent, happensAs, happens, ifPassed, startCall, eventCall}
@@ -29,11 +30,11 @@ unfoldable pub on-ints : ℕ → ℤ → ℤ → ℕ → Out
 unfolding _and_ fits32 isZero needs intOut quotient remainder dividing binaryOf lookUp onInts combined binaryVal
 on-ints op a b l = binaryVal op (val 1 a) (val 1 b) l
 
-pub seven-div-two : (l : ℕ) → on-ints 15 (negsuc 6) (pos 2) l ≡ int (negsuc 2) l
+pub seven-div-two : (l : ℕ) → on-ints 15 (negsuc 6) (pos 2) l ≡ int (negsuc 3) l
 unfolding on-ints int
 seven-div-two l = refl
 
-pub seven-mod-two : (l : ℕ) → on-ints 16 (negsuc 6) (pos 2) l ≡ int (negsuc 0) l
+pub seven-mod-two : (l : ℕ) → on-ints 16 (negsuc 6) (pos 2) l ≡ int (pos 1) l
 unfolding on-ints int
 seven-mod-two l = refl
 

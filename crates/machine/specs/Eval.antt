@@ -4,7 +4,7 @@ use mathlib.Core.List.{List}
 use mathlib.Core.Bool.{Bool, true, false, not}
 use lib.Dec.{ltb, eqb}
 use lib.IntN.{ℤ, pos, natAbs, _+ℤ_, _-ℤ_, _*ℤ_}
-use lib.Signed.{quotZ, ltZ}
+use lib.Signed.{ltZ}
 use mir.Syntax.{w32}
 use mir.Val.{toZ}
 use Rattle.sheet.specs.declared.Record.{Record}
@@ -22,6 +22,7 @@ use Rattle.sheet_rules.specs.Forms.{Form, literal, read, unary, binary, clock, 
 use Rattle.sheet_rules.specs.Indices.{Index, plain, over, noIndex, indexAt, isPlain}
 use Rattle.sheet_rules.specs.Shape.{variablesAt, constantOf}
 use Rattle.sheet_rules.specs.Types.{variableAt, chartVariableIndex}
+use Rattle.machine_division.specs.Division.{quotient, remainder}
 use Rattle.machine.specs.Values.{fits32, isBelow, isZero, sameWord, inType}
 use Rattle.machine.specs.State.{cellOf, wordOf}
 
@@ -49,16 +50,10 @@ abbrev pub boolWord : Bool → ℤ
 boolWord true = pos 1
 boolWord false = pos 0
 
--- ---- Int: "Int is 32-bit signed; div rounds toward zero, and a mod b = a − b × (a div b), of which only the result must fit."
+-- ---- Int: "Int is 32-bit signed", and of a mod b = a − b × (a div b) "only the result must fit"
 
 unfoldable pub intOut : ℤ → ℕ → Out
 intOut z l = elim (fits32 z) [ true ↦ Val (val Int-type z) l | false ↦ Refused 6 l ]
-
-unfoldable pub quotient : ℤ → ℤ → ℤ
-quotient a b = quotZ a b
-
-unfoldable pub remainder : ℤ → ℤ → ℤ
-remainder a b = a -ℤ b *ℤ quotient a b
 
 -- "Int outside 32 bits, or divisor 0" is 6
 unfoldable pub dividing : ℤ → ℤ → ℕ → Out

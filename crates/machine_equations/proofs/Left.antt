@@ -26,7 +26,8 @@ use Rattle.sheet_rules.specs.Shape.{variablesAt, constantOf}
 use Rattle.sheet_rules.specs.Types.{variableAt, chartVariableIndex, clockOf}
 use Rattle.machine.specs.Values.{fits32, isZero, inType}
 use Rattle.machine.specs.State.{Changed, on, off, lost, appended}
-use Rattle.machine.specs.Eval.{Context, isVariable, isPlainVariable, Reached, inside, outOfRange, unfit, reached, elementAs, elementVal, andThen, needs, onRecord, intOut, quotient, remainder, dividing, notVal, onInts, combined, binaryVal, literalValue, within, ofType, bodyWords, parameterVal, readAs, readVal, clockVal, evalIn, evalStep, evalF, evalOf}
+use Rattle.machine_division.specs.Division.{quotient, remainder}
+use Rattle.machine.specs.Eval.{Context, isVariable, isPlainVariable, Reached, inside, outOfRange, unfit, reached, elementAs, elementVal, andThen, needs, onRecord, intOut, dividing, notVal, onInts, combined, binaryVal, literalValue, within, ofType, bodyWords, parameterVal, readAs, readVal, clockVal, evalIn, evalStep, evalF, evalOf}
 use Rattle.machine.specs.Run.{World, goOn, thenOperand, withRecord, provided, Values, given, refused, stuck, before, nextValue, valuesFrom, thenValues, areOf, wordsIn, localsOf, localsThere, append, armed, clockSet, Runs, fewer, inBody, assigned, hasVariable, assignOf, elementAssigned, assignElementOf, nameValues, externalSendOf, internalSendOf, armOf, clockActOf, entered, callOf, choiceOf, runIn, runStep, runF, runOf, world, openCalls}
 
 -- ---- expressions

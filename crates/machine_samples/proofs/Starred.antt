@@ -11,11 +11,11 @@ use Rattle.machine.specs.Play.{Outcome, eventCall}
 use Rattle.machine.proofs.Samples as machine
 use Rattle.machine.proofs.Samples.{int, on-ints, start, event, answered, words, row, play, timeout, cycler, slices, waits, sent, copies, atTwo, reacts, sends, once, twice}
 
--- "−7 div 2 = −3; −7 mod 2 = −1." Operator 15 div, 16 mod, with l steps left
-seven-div-two : (l : ℕ) → on-ints 15 (negsuc 6) (pos 2) l ≡ int (negsuc 2) l
+-- "−7 div 2 is −4 and −7 mod 2 is 1." Operator 15 div, 16 mod, with l steps left
+seven-div-two : (l : ℕ) → on-ints 15 (negsuc 6) (pos 2) l ≡ int (negsuc 3) l
 seven-div-two = machine.seven-div-two
 
-seven-mod-two : (l : ℕ) → on-ints 16 (negsuc 6) (pos 2) l ≡ int (negsuc 0) l
+seven-mod-two : (l : ℕ) → on-ints 16 (negsuc 6) (pos 2) l ≡ int (pos 1) l
 seven-mod-two = machine.seven-mod-two
 
 -- "−2,147,483,648 div −1: 6; mod −1: 0."

@@ -27,7 +27,8 @@ use Rattle.sheet_rules.proofs.DataTypes.{type-enumerated}
 use Rattle.sheet_rules.specs.Shape.{literalFields, literalShape}
 use Rattle.sheet_rules.specs.Types.{given, isOf, sameType, writtenType, literalType, ofInts, combinedType, binaryType, notType}
 use Rattle.machine.specs.Values.{fits32, isBelow, isZero, sameWord, inDataType, inType}
-use Rattle.machine.specs.Eval.{andThen, needs, val, boolWord, intOut, dividing, isOne, notVal, onInts, combined, binaryVal, written, literalValue, within, quotient, remainder}
+use Rattle.machine_division.specs.Division.{quotient, remainder}
+use Rattle.machine.specs.Eval.{andThen, needs, val, boolWord, intOut, dividing, isOne, notVal, onInts, combined, binaryVal, written, literalValue, within}
 use Rattle.machine_sound.specs.Gives.{Gives}
 
 -- ---- tests that the type asks

@@ -1,8 +1,11 @@
-use mathlib.Core.Path.{_∙_}
-use native.Mathlib.Omega.{arith}
-use borrow.Author.Needs.{needs}
-use Rattle.machine.specs.Eval.{quotient, remainder}
-use Rattle.engine_ints.proofs.Range.{back, back64, widen, wide, quot-fits, part-fits, rest-fits, is-zero-wide, not-zero-wide, by-zero, by-other}
+use mathlib.Core.Path.{_≡_, refl, _∙_}
+use mathlib.Core.Bool.{false}
+use lib.IntN.{ℤ, _-ℤ_, _*ℤ_}
+use mir.Syntax.{w32, w64}
+use mir.Val.{SFits, toZ, ofZ}
+use Rattle.machine_division.specs.Division.{quotient, remainder}
+use Rattle.machine.specs.Values.{isZero}
+use Rattle.engine_ints.proofs.Range.{back, back64, widen, wide, quotient-fits, quotient-whole-fits, remainder-fits, is-zero-wide, not-zero-wide, by-zero, by-other, inside}
 use Rattle.engine_ints.proofs.modulo.Statement.{statement}
 use Rattle.engine_ints.proofs.modulo.Tie as tie
 
@@ -15,21 +18,35 @@ cast-y c = rw (back (c .fits .b)) (widen (c .fits .b))
 returns : tie.Need-returns
 returns c = by-zero _ _ _ (is-zero-wide (c .before .fits .b) (c .if1 .taken))
 
-div-q : tie.Need-div-q
-div-q c = (let n = c .if1 .left in omega arith, rw (wide (c .before .fits .a), wide (c .before .fits .b)) (quot-fits (c .before .fits .a) (c .before .fits .b)))
+floored-requires : tie.Need-floored-requires
+floored-requires c κs = rw (back (c .before .fits .b)) (not-zero-wide (c .before .fits .b) (c .if1 .left))
+
+not-zero : (c : tie.After-floored) → isZero (c .before .before .args .b) ≡ false
+not-zero c = not-zero-wide (c .before .before .fits .b) (c .before .if1 .left)
+
+-- the quotient as it is read back
+read : (c : tie.After-floored) → toZ w64 (ofZ w64 (c .floored .result)) ≡ quotient (c .before .before .args .a) (c .before .before .args .b)
+read c = rw (rw (back (c .before .before .fits .a), back (c .before .before .fits .b)) at (c .floored .ensures)) (back64 (quotient-fits (c .before .before .fits .a) (c .before .before .fits .b)))
+
+-- a − b × (a div b) in 64 bits
+rest : (c : tie.After-floored) → toZ w64 (ofZ w64 (toZ w32 (ofZ w32 (c .before .before .args .a)))) -ℤ toZ w64 (ofZ w64 (toZ w64 (ofZ w64 (toZ w32 (ofZ w32 (c .before .before .args .b)))) *ℤ toZ w64 (ofZ w64 (c .floored .result)))) ≡ remainder (c .before .before .args .a) (c .before .before .args .b)
+unfolding remainder
+rest c = rw (wide (c .before .before .fits .a), wide (c .before .before .fits .b), read c, back64 (quotient-whole-fits (c .before .before .fits .a) (c .before .before .fits .b))) refl
+
+fits : (c : tie.After-floored) → SFits w32 (remainder (c .before .before .args .a) (c .before .before .args .b))
+fits c = remainder-fits (c .before .before .fits .a) (c .before .before .fits .b) (not-zero c)
 
 mul-p : tie.Need-mul-p
-mul-p c = rw (wide (c .before .fits .a), wide (c .before .fits .b), back64 (quot-fits (c .before .fits .a) (c .before .fits .b))) (part-fits (c .before .fits .a) (c .before .fits .b))
+mul-p c = rw (wide (c .before .before .fits .b), read c) (quotient-whole-fits (c .before .before .fits .a) (c .before .before .fits .b))
 
-sub-fit : tie.Need-sub-fit
-sub-fit c = rw (wide (c .before .fits .a), wide (c .before .fits .b), back64 (quot-fits (c .before .fits .a) (c .before .fits .b)), back64 (part-fits (c .before .fits .a) (c .before .fits .b))) (rest-fits (c .before .fits .a) (c .before .fits .b))
+sub-r : tie.Need-sub-r
+sub-r c = rw (rest c) (widen (fits c))
 
-fit-requires : tie.Need-fit-requires
-fit-requires c κs = search needs
+cast-t10 : tie.Need-cast-t10
+cast-t10 c = rw (rest c, back64 (widen (fits c))) (fits c)
 
 returns-2 : tie.Need-returns-2
-unfolding quotient remainder
-returns-2 c = (rw (wide (c .before .before .fits .a), wide (c .before .before .fits .b), back64 (quot-fits (c .before .before .fits .a) (c .before .before .fits .b)), back64 (part-fits (c .before .before .fits .a) (c .before .before .fits .b)), back64 (rest-fits (c .before .before .fits .a) (c .before .before .fits .b))) at (c .fit .ensures)) ∙ by-other _ _ _ (not-zero-wide (c .before .before .fits .b) (c .before .if1 .left))
+returns-2 c = rw (rest c, back64 (widen (fits c)), back (fits c)) (inside _ _ (fits c)) ∙ by-other _ _ _ (not-zero c)
 
 pub modulo-spec : {M : Type 1} → statement M
-modulo-spec = tie.close (tie.spec cast-x cast-y returns div-q mul-p sub-fit fit-requires returns-2)
+modulo-spec = tie.close (tie.spec cast-x cast-y returns floored-requires mul-p sub-r cast-t10 returns-2)
