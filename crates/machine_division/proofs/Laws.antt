@@ -3,7 +3,7 @@ use Prim.Native.Nat.{ℕ, zero, suc, _+_, _-_, _*_, _/_, _%_, _≤_, _<_}
 use mathlib.Core.Path.{_≡_, refl, sym, ap, _∙_}
 use native.Mathlib.Omega.{arith}
 use native.Mathlib.Nat.{mul-suc, mod-lt, mod-add-div, zero-mod, mod-eq-of-lt, div-one, div-le-self, div-lt-self}
-use lib.Dec.{leb→le, le→leb, lt→ltb, ltb→lt}
+use lib.Dec.{le→leb, lt→ltb, ltb→lt}
 use lib.IntN.{ℤ, pos, negsuc, negℤ, subℕ, _+ℤ_, _-ℤ_, _*ℤ_, +ℤ-comm, -ℤ-+ℤ-cancel, +ℤ-negℤ-cancel, -ℤ-one, negℤ-+ℤ, negℤ-negℤ}
 use lib.Signed.{mag, shrZ, mag-shr, _≤ℤ_, _<ℤ_}
 use Rattle.machine_division.specs.Division.{quotient, remainder}

@@ -1,6 +1,6 @@
 -- Samples of div and mod.
 use mathlib.Core.Path.{_≡_, refl}
-use lib.IntN.{ℤ, pos, negsuc}
+use lib.IntN.{pos, negsuc}
 use Rattle.machine_division.specs.Division.{quotient, remainder}
 
 -- "−7 div 2 is −4 and −7 mod 2 is 1"
