@@ -4,32 +4,17 @@ use mathlib.Core.Path.{_≡_, refl, sym, ap, _∙_}
 use mathlib.Core.Bool.{false}
 use native.Mathlib.Omega.{arith}
 use native.Mathlib.Decide.{decLt}
-use native.Mathlib.Nat.{mul-zero, zero-mul, suc-mul, zero-div, zero-mod, mod-lt, div-add-mod, mul-add-div, suc-mod, div-eq-of-lt, mod-eq-of-lt, div-self, mod-self}
-use lib.IntN.{ℤ, pos, negsuc, negℤ, _+ℤ_, _-ℤ_, _*ℤ_, +ℤ-idr, -ℤ-one, negℤ-+ℤ}
+use native.Mathlib.Nat.{zero-mul, suc-mul, zero-div, zero-mod, mod-lt, div-add-mod, mul-add-div, suc-mod, div-eq-of-lt, mod-eq-of-lt, div-self, mod-self}
+use lib.IntN.{ℤ, pos, negsuc, negℤ, _+ℤ_, _-ℤ_, _*ℤ_, +ℤ-idr, -ℤ-one, negℤ-+ℤ, negℤ-negℤ}
 use lib.Signed.{ltZ, quotZ, remZ}
 use borrow.Author.Tests.{le-ltb, eqb-false}
 use Rattle.machine_division.specs.Division.{quotient}
-use Rattle.machine_division.proofs.Laws.{over}
+use Rattle.machine_division.proofs.Laws.{minus-times, times-minus, over}
 use Rattle.machine.specs.Values.{isZero}
 use Rattle.machine.specs.Eval.{boolWord}
 
--- ---- products with a negated number
-
-minus-times : (k n : ℕ) → negℤ (pos k) *ℤ pos n ≡ negℤ (pos (k * n))
-minus-times zero n = ap pos (zero-mul n) ∙ sym (ap (λ (k : ℕ). negℤ (pos k)) (zero-mul n))
-minus-times (suc k) n = refl
-
-minus-times-minus : (k n : ℕ) → negℤ (pos k) *ℤ negsuc n ≡ pos (k * suc n)
-minus-times-minus zero n = ap (λ (k : ℕ). negℤ (pos k)) (zero-mul (suc n)) ∙ sym (ap pos (zero-mul (suc n)))
-minus-times-minus (suc k) n = refl
-
-times-minus : (n k : ℕ) → pos n *ℤ negℤ (pos k) ≡ negℤ (pos (n * k))
-times-minus n zero = ap pos (mul-zero n) ∙ sym (ap (λ (k : ℕ). negℤ (pos k)) (mul-zero n))
-times-minus n (suc k) = refl
-
-both-minus : (n k : ℕ) → negsuc n *ℤ negℤ (pos k) ≡ pos (suc n * k)
-both-minus n zero = ap (λ (k : ℕ). negℤ (pos k)) (mul-zero (suc n)) ∙ sym (ap pos (mul-zero (suc n)))
-both-minus n (suc k) = refl
+both-minus : (m n : ℕ) → negℤ (pos m) *ℤ negℤ (pos n) ≡ pos (m * n)
+both-minus m n = minus-times (pos m) (negℤ (pos n)) ∙ ap negℤ (times-minus (pos m) (pos n)) ∙ negℤ-negℤ (pos (m * n))
 
 -- ---- what is left over
 
@@ -38,8 +23,8 @@ under a b = sym (negℤ-+ℤ (pos a) (negℤ (pos (b * (a / b))))) ∙ ap negℤ
 
 pub left-over : (x y : ℤ) → x -ℤ y *ℤ quotZ x y ≡ remZ x y
 left-over (pos a) (pos b) = over a b
-left-over (pos a) (negsuc b) = ap (λ (z : ℤ). pos a -ℤ z) (both-minus b (a / suc b)) ∙ over a (suc b)
-left-over (negsuc a) (pos b) = ap (λ (z : ℤ). negsuc a -ℤ z) (times-minus b (suc a / b)) ∙ under (suc a) b
+left-over (pos a) (negsuc b) = ap (λ (z : ℤ). pos a -ℤ z) (both-minus (suc b) (a / suc b)) ∙ over a (suc b)
+left-over (negsuc a) (pos b) = ap (λ (z : ℤ). negsuc a -ℤ z) (times-minus (pos b) (pos (suc a / b))) ∙ under (suc a) b
 left-over (negsuc a) (negsuc b) = under (suc a) (suc b)
 
 -- ---- rounding down
@@ -78,5 +63,5 @@ rounded x y e = rw (left-over x y) (go x y e)
     go (pos zero) (negsuc b) e = rw (zero-div (suc b), zero-mod (suc b), zero-mul (suc b)) refl
     go (pos (suc a)) (negsuc b) e = down a b
     go (negsuc a) (pos zero) e = absurd (eqb-false 0 0 e refl)
-    go (negsuc a) (pos (suc b)) e = rw (minus-times (suc a % suc b) (suc b)) (down a b)
-    go (negsuc a) (negsuc b) e = rw (minus-times-minus (suc a % suc b) b, le-ltb (suc a % suc b * suc b) 0 (omega arith)) (+ℤ-idr (pos (suc a / suc b)))
+    go (negsuc a) (pos (suc b)) e = rw (minus-times (pos (suc a % suc b)) (pos (suc b))) (down a b)
+    go (negsuc a) (negsuc b) e = rw (both-minus (suc a % suc b) (suc b), le-ltb (suc a % suc b * suc b) 0 (omega arith)) (+ℤ-idr (pos (suc a / suc b)))

@@ -4,7 +4,7 @@ use mathlib.Core.Path.{_≡_, refl, sym, ap, _∙_}
 use native.Mathlib.Omega.{arith}
 use native.Mathlib.Nat.{mul-suc, mod-lt, mod-add-div, zero-mod, mod-eq-of-lt, div-one, div-le-self, div-lt-self}
 use lib.Dec.{le→leb, lt→ltb, ltb→lt}
-use lib.IntN.{ℤ, pos, negsuc, negℤ, subℕ, _+ℤ_, _-ℤ_, _*ℤ_, +ℤ-comm, -ℤ-+ℤ-cancel, +ℤ-negℤ-cancel, -ℤ-one, negℤ-+ℤ, negℤ-negℤ}
+use lib.IntN.{ℤ, pos, negsuc, negℤ, subℕ, _+ℤ_, _-ℤ_, _*ℤ_, +ℤ-comm, -ℤ-+ℤ-cancel, +ℤ-negℤ-cancel, -ℤ-one, negℤ-+ℤ, negℤ-negℤ, *ℤ-comm, zero-*ℤ}
 use lib.Signed.{mag, shrZ, mag-shr, _≤ℤ_, _<ℤ_}
 use Rattle.machine_division.specs.Division.{quotient, remainder}
 
@@ -12,6 +12,18 @@ use Rattle.machine_division.specs.Division.{quotient, remainder}
 divided : (a b : ℤ) → b *ℤ quotient a b +ℤ remainder a b ≡ a
 unfolding remainder
 divided a b = +ℤ-comm (b *ℤ quotient a b) (remainder a b) ∙ -ℤ-+ℤ-cancel a (b *ℤ quotient a b)
+
+-- ---- products of a negated number
+
+pub minus-times : (x y : ℤ) → negℤ x *ℤ y ≡ negℤ (x *ℤ y)
+minus-times (pos zero) y = zero-*ℤ y ∙ sym (ap negℤ (zero-*ℤ y))
+minus-times (pos (suc n)) (pos k) = refl
+minus-times (pos (suc n)) (negsuc k) = sym (negℤ-negℤ (pos (suc n * suc k)))
+minus-times (negsuc n) (pos k) = sym (negℤ-negℤ (pos (suc n * k)))
+minus-times (negsuc n) (negsuc k) = refl
+
+pub times-minus : (x y : ℤ) → x *ℤ negℤ y ≡ negℤ (x *ℤ y)
+times-minus x y = *ℤ-comm x (negℤ y) ∙ minus-times y x ∙ ap negℤ (*ℤ-comm y x)
 
 -- ---- the remainder's sign is the divisor's
 
@@ -39,11 +51,7 @@ by-positive (negsuc a) {n} h =
 -- by −n it is that of −a by n, with the other sign
 by-negative : (a : ℤ) (n : ℕ) → remainder a (negsuc n) ≡ negℤ (remainder (negℤ a) (pos (suc n)))
 unfolding quotient remainder
-by-negative a n = ap (λ (z : ℤ). a -ℤ z) (turned (shrZ (negℤ a) (suc n))) ∙ sym (negℤ-+ℤ (negℤ a) (negℤ (pos (suc n) *ℤ shrZ (negℤ a) (suc n))) ∙ ap (λ (z : ℤ). z +ℤ negℤ (negℤ (pos (suc n) *ℤ shrZ (negℤ a) (suc n)))) (negℤ-negℤ a))
-  where
-    turned : (q : ℤ) → negsuc n *ℤ q ≡ negℤ (pos (suc n) *ℤ q)
-    turned (pos k) = refl
-    turned (negsuc k) = sym (negℤ-negℤ (pos (suc n * suc k)))
+by-negative a n = ap (λ (z : ℤ). a -ℤ z) (minus-times (pos (suc n)) (shrZ (negℤ a) (suc n))) ∙ sym (negℤ-+ℤ (negℤ a) (negℤ (pos (suc n) *ℤ shrZ (negℤ a) (suc n))) ∙ ap (λ (z : ℤ). z +ℤ negℤ (negℤ (pos (suc n) *ℤ shrZ (negℤ a) (suc n)))) (negℤ-negℤ a))
 
 -- "with a positive divisor mod is never negative", and it is below the divisor
 pub positive-divisor : (a b : ℤ) → pos 0 <ℤ b → (pos 0 ≤ℤ remainder a b) × (remainder a b <ℤ b)

@@ -31,40 +31,41 @@ cell pointer = pos pointer ∷ replicate 7 (pos 0)
 
 -- a telegram waits that the chart has no reaction to, and is delivered
 stepping : ℕ → ℕ → Outcome
-unfolding event words sent waits
+unfolding leftward cell event words sent waits
 stepping length pointer = event (leftward length) (waits 1 (cell pointer) (sent 0 2)) (words 2 0 2)
 
 -- where it then stands
 stands : ℕ → Outcome
+unfolding cell answered waits
 stands pointer = answered 0 8 (waits 0 (cell pointer) [])
 
 -- round a list of four
 from-three : stepping 3 3 ≡ stands 2
-unfolding stepping stands leftward cell event answered words sent waits
+unfolding stepping stands
 from-three = refl
 
 from-two : stepping 3 2 ≡ stands 1
-unfolding stepping stands leftward cell event answered words sent waits
+unfolding stepping stands
 from-two = refl
 
 from-one : stepping 3 1 ≡ stands 0
-unfolding stepping stands leftward cell event answered words sent waits
+unfolding stepping stands
 from-one = refl
 
 from-zero : stepping 3 0 ≡ stands 3
-unfolding stepping stands leftward cell event answered words sent waits
+unfolding stepping stands
 from-zero = refl
 
 -- "at Pointer 0" it is Length: of a list of one, and of the longest
 list-of-one : stepping 0 0 ≡ stands 0
-unfolding stepping stands leftward cell event answered words sent waits
+unfolding stepping stands
 list-of-one = refl
 
 longest-list : stepping 2147483646 0 ≡ stands 2147483646
-unfolding stepping stands leftward cell event answered words sent waits
+unfolding stepping stands
 longest-list = refl
 
 -- one longer, and Length + 1 is no Int
 too-long : stepping 2147483647 0 ≡ answered 6 8 (waits 1 (cell 0) (sent 0 2))
-unfolding stepping leftward cell event answered words sent waits
+unfolding stepping answered
 too-long = refl
