@@ -1,12 +1,15 @@
 // Which sheets pass.
 use sheet_rules::Checked;
 ghost use mathlib.Core.Path.{_≡_};
-ghost use Rattle.sheet.specs.Sheet.{directoryOf};
+ghost use Prim.Native.Nat.{_≤_};
+ghost use lib.ListN.{length};
+ghost use Rattle.sheet.specs.Sheet.{countOf, directoryOf};
 ghost use Rattle.sheet_rules.specs.Check.{shape, checkOf, checkNumber, checkCall};
 
-// Whether the sheet has the shape.
-fn shape_holds(sheet: &[u8], directory: &[usize; 16]) -> bool
+// Whether the sheet has the shape. A mark is lent for each node.
+fn shape_holds(sheet: &[u8], directory: &[usize; 16], marks: &mut [u16]) -> bool
     requires { ⌜ now directory ≡ directoryOf (now sheet) ⌝ }
+    requires { ⌜ countOf (now sheet) 6 ≤ length (now marks) ⌝ }
     ensures { λ b. ⌜ b ≡ shape (now (sheet .entry)) ⌝ }
 {
     if sheet_reader::count_in(directory, 0) != 1 {
@@ -26,10 +29,25 @@ fn shape_holds(sheet: &[u8], directory: &[usize; 16]) -> bool
     if 512 < sheet_elements::cells(sheet, directory) {
         return false;
     }
-    if !checker_uses::used_once(sheet, directory) {
+    let tested = checker_uses::used_once(sheet, directory, marks);
+    if !tested.once {
         return false;
     }
     checker_trees::nodes_fit(sheet, directory)
+}
+
+// The same with marks of its own. An array is cleared when it is made, so a sheet of few nodes gets a short one.
+fn shaped(sheet: &[u8], directory: &[usize; 16]) -> bool
+    requires { ⌜ now directory ≡ directoryOf (now sheet) ⌝ }
+    ensures { λ b. ⌜ b ≡ shape (now (sheet .entry)) ⌝ }
+{
+    let count = sheet_reader::count_in(directory, 6);
+    if count <= 512 {
+        let mut few = [0u16; 512];
+        return shape_holds(sheet, directory, &mut few[..count]);
+    }
+    let mut marks = [0u16; 4096];
+    shape_holds(sheet, directory, &mut marks[..count])
 }
 
 // What check answers for any bytes, and with it the paper's number.
@@ -37,7 +55,7 @@ pub fn check(sheet: &[u8]) -> Checked
     ensures { λ r. ⌜ (r ≡ checkOf (now (sheet .entry))) × (checkNumber r ≡ checkCall (now (sheet .entry))) ⌝ }
 {
     let directory = sheet_reader::directory(sheet);
-    if !shape_holds(sheet, &directory) {
+    if !shaped(sheet, &directory) {
         return Checked::Shape;
     }
     if !checker_statics::rules_hold(sheet, &directory) {

@@ -1,141 +1,185 @@
-// Marks of nodes. A node marked k + 1 waits to be counted with its tree, as one of chart k; 0 is no mark.
+// Marks of nodes: what names a node, a body as its root, a binding as a constant or a node as an operand, adds to its mark.
 use sheet::Found;
+use sheet::Record;
+use sheet_rules::Operands;
 ghost use mathlib.Core.Path.{_≡_};
-ghost use mathlib.Core.List.{List};
-ghost use Prim.Native.Nat.{ℕ, _<_, _≤_};
+ghost use Prim.Native.Nat.{_+_, _<_, _≤_};
 ghost use lib.ListN.{length};
+ghost use lib.Dec.{eqb};
 ghost use Rattle.sheet.specs.Names.{root};
 ghost use Rattle.sheet.specs.Sheet.{countOf, recordOf, directoryOf};
-ghost use Rattle.sheet_rules.specs.Fields.{numberOr0};
-ghost use Rattle.sheet_rules.specs.Uses.{lowerOnly, usesInChart, usesInBinding};
-ghost use Rattle.checker_marks.specs.Marks.{markedBelow, markedBy, Marked};
+ghost use Rattle.sheet_rules.specs.Fields.{oneIf, numberOr0};
+ghost use Rattle.sheet_rules.specs.Forms.{operandsOf};
+ghost use Rattle.sheet_rules.specs.Uses.{overBodies, homeChart, operandUses, rootUses, constantUses};
+ghost use Rattle.sheet_fields.specs.Small.{Small};
+ghost use Rattle.checker_pass.specs.Marks.{named, marked, Marked};
 
-// Marks node m as k; one that is not below `top` is passed over. False where it was marked already.
-fn mark(marks: &mut [u16; 4096], top: usize, m: usize, k: u16) -> bool
-    requires { ⌜ top ≤ 4096 ⌝ }
-    requires { ⌜ 0 < k ⌝ }
-    requires { ⌜ length (now marks) ≡ 4096 ⌝ }
-    ensures { λ x. ⌜ ((s : List ℕ) → Marked s top (now (marks .entry)) (now (marks .exit)) (λ n. lowerOnly top (markedBy s k n) m) x) ⌝ }
+// A mark that is named once more: 0, 1, 2 and no further.
+fn once_more(v: u16) -> u16
+    ensures { λ x. ⌜ x ≡ named v ⌝ }
 {
-    if top <= m {
-        return true;
+    if v % 4 < 2 {
+        return v + 1;
     }
-    if 0 < marks[m] {
-        return false;
-    }
-    marks[m] = k;
-    true
+    v
 }
 
-// Marks the root of a body.
+// The same with home k, which is kept where there is none yet.
+fn with_home(v: u16, k: u16) -> u16
+    requires { ⌜ k < 16384 ⌝ }
+    ensures { λ x. ⌜ x ≡ marked k v ⌝ }
+{
+    let used = once_more(v);
+    if v < 4 {
+        return used + 4 * k;
+    }
+    used
+}
+
+// Node n is named with home k; one that is not below `top` is passed over.
+fn mark(marks: &mut [u16], top: usize, n: usize, k: u16)
+    requires { ⌜ top ≤ length (now marks) ⌝ }
+    requires { ⌜ k < 16384 ⌝ }
+    ensures { λ _. ⌜ Marked top k (now (marks .entry)) (now (marks .exit)) (λ i. oneIf (eqb n i)) ⌝ }
+{
+    if top <= n {
+        return;
+    }
+    marks[n] = with_home(marks[n], k);
+}
+
+// A body names its root. How many records were gone over: one, if it is there.
 fn mark_root(
     sheet: &[u8],
     directory: &[usize; 16],
-    marks: &mut [u16; 4096],
+    marks: &mut [u16],
     count: usize,
     number: usize,
     k: u16,
-) -> bool
+) -> usize
     requires { ⌜ now directory ≡ directoryOf (now sheet) ⌝ }
-    requires { ⌜ count ≡ countOf (now sheet) 6 ⌝ }
-    requires { ⌜ 0 < k ⌝ }
-    requires { ⌜ length (now marks) ≡ 4096 ⌝ }
-    ensures { λ x. ⌜ Marked (now (sheet .entry)) count (now (marks .entry)) (now (marks .exit)) (λ n. numberOr0 (recordOf (now (sheet .entry)) 5 number) (λ b. markedBy (now (sheet .entry)) k n (root b))) x ⌝ }
+    requires { ⌜ count ≤ length (now marks) ⌝ }
+    requires { ⌜ k < 16384 ⌝ }
+    ensures { λ x. ⌜ (x ≡ numberOr0 (recordOf (now (sheet .entry)) 5 number) (λ b. 1)) × (x ≤ 1) × Marked count k (now (marks .entry)) (now (marks .exit)) (λ n. numberOr0 (recordOf (now (sheet .entry)) 5 number) (λ b. oneIf (eqb (root b) n))) ⌝ }
 {
     let Found::Present(b) = sheet_reader::read(sheet, directory, 5, number) else {
-        return true;
+        return 0;
     };
-    mark(marks, count, b.f7 as usize, k)
+    mark(marks, count, b.f7 as usize, k);
+    1
 }
 
-// Marks the roots of the bodies of chart i.
+// The bodies of chart i name their roots. How many bodies were gone over.
 pub fn mark_chart(
     sheet: &[u8],
     directory: &[usize; 16],
-    marks: &mut [u16; 4096],
+    marks: &mut [u16],
     count: usize,
     i: usize,
-) -> bool
+) -> usize
     requires { ⌜ now directory ≡ directoryOf (now sheet) ⌝ }
-    requires { ⌜ count ≡ countOf (now sheet) 6 ⌝ }
-    requires { ⌜ length (now marks) ≡ 4096 ⌝ }
-    ensures { λ x. ⌜ Marked (now (sheet .entry)) count (now (marks .entry)) (now (marks .exit)) (λ n. numberOr0 (recordOf (now (sheet .entry)) 4 i) (usesInChart (now (sheet .entry)) n)) x ⌝ }
+    requires { ⌜ count ≤ length (now marks) ⌝ }
+    ensures { λ x. ⌜ (x ≡ numberOr0 (recordOf (now (sheet .entry)) 4 i) (overBodies (now (sheet .entry)) (λ b. 1))) × (x < 65536) × Marked count (i + 1) (now (marks .entry)) (now (marks .exit)) (λ n. numberOr0 (recordOf (now (sheet .entry)) 4 i) (rootUses (now (sheet .entry)) n)) ⌝ }
 {
     let Found::Present(c) = sheet_reader::read(sheet, directory, 4, i) else {
-        return true;
+        return 0;
     };
     let k = (i + 1) as u16;
     let first = c.f4 as usize;
     let total = c.f5 as usize;
+    let mut gone: usize = 0;
     let mut j: usize = 0;
     while j < total {
-        if !mark_root(sheet, directory, marks, count, first + j, k) {
-            return false;
-        }
+        gone += mark_root(sheet, directory, marks, count, first + j, k);
         j += 1;
     }
-    true
+    gone
 }
 
-// Marks the constants of binding i.
+// Binding i names its constants, which have no operands and so need no home. How many records were gone over.
 pub fn mark_binding(
     sheet: &[u8],
     directory: &[usize; 16],
-    marks: &mut [u16; 4096],
+    marks: &mut [u16],
     count: usize,
     i: usize,
-) -> bool
+) -> usize
     requires { ⌜ now directory ≡ directoryOf (now sheet) ⌝ }
-    requires { ⌜ count ≡ countOf (now sheet) 6 ⌝ }
-    requires { ⌜ length (now marks) ≡ 4096 ⌝ }
-    ensures { λ x. ⌜ Marked (now (sheet .entry)) count (now (marks .entry)) (now (marks .exit)) (λ n. numberOr0 (recordOf (now (sheet .entry)) 7 i) (usesInBinding (now (sheet .entry)) n)) x ⌝ }
+    requires { ⌜ count ≤ length (now marks) ⌝ }
+    ensures { λ x. ⌜ (x ≡ numberOr0 (recordOf (now (sheet .entry)) 7 i) (λ b. 1)) × (x ≤ 1) × Marked count 0 (now (marks .entry)) (now (marks .exit)) (λ n. numberOr0 (recordOf (now (sheet .entry)) 7 i) (constantUses (now (sheet .entry)) n)) ⌝ }
 {
     let Found::Present(r) = sheet_reader::read(sheet, directory, 7, i) else {
-        return true;
+        return 0;
     };
-    let Found::Present(c) = sheet_reader::read(sheet, directory, 4, r.f0 as usize) else {
-        return true;
-    };
-    let k = r.f0 + 1;
-    let total = c.f1 as usize;
+    let total = sheet_fields::field_at(sheet, directory, 4, r.f0 as usize, 1);
     let mut j: usize = 0;
     while j < total {
-        if !mark(marks, count, sheet_fields::field(r, 1 + j), k) {
-            return false;
-        }
+        mark(marks, count, sheet_fields::field(r, 1 + j), 0);
         j += 1;
     }
-    true
+    1
 }
 
-// Marks the operands of node m, which is marked k.
+// The chart of a home, one without bodies for none.
+fn home_chart(sheet: &[u8], directory: &[usize; 16], k: u16) -> Record
+    requires { ⌜ now directory ≡ directoryOf (now sheet) ⌝ }
+    ensures { λ c. ⌜ c ≡ homeChart (now (sheet .entry)) k ⌝ }
+{
+    let none = Record {
+        f0: 0,
+        f1: 0,
+        f2: 0,
+        f3: 0,
+        f4: 0,
+        f5: 0,
+        f6: 0,
+        f7: 0,
+    };
+    if k == 0 {
+        return none;
+    }
+    let Found::Present(c) = sheet_reader::read(sheet, directory, 4, k as usize - 1) else {
+        return none;
+    };
+    c
+}
+
+// Where the operands of a node with home k stand. Only those of a call depend on it.
+fn operands_at(sheet: &[u8], directory: &[usize; 16], k: u16, r: Record) -> Operands
+    requires { ⌜ now directory ≡ directoryOf (now sheet) ⌝ }
+    ensures { λ o. ⌜ (o ≡ operandsOf (now (sheet .entry)) (homeChart (now (sheet .entry)) k) r) × Small o ⌝ }
+{
+    if r.f0 == 40 {
+        let c = home_chart(sheet, directory, k);
+        return sheet_fields::operands(sheet, directory, c, r);
+    }
+    let any = home_chart(sheet, directory, 0);
+    sheet_fields::operands(sheet, directory, any, r)
+}
+
+// Node m with home k names its operands. How many records were gone over.
 pub fn mark_operands(
     sheet: &[u8],
     directory: &[usize; 16],
-    marks: &mut [u16; 4096],
+    marks: &mut [u16],
     m: usize,
     k: u16,
-) -> bool
+) -> usize
     requires { ⌜ now directory ≡ directoryOf (now sheet) ⌝ }
-    requires { ⌜ m ≤ 4096 ⌝ }
-    requires { ⌜ 0 < k ⌝ }
-    requires { ⌜ length (now marks) ≡ 4096 ⌝ }
-    ensures { λ x. ⌜ Marked (now (sheet .entry)) m (now (marks .entry)) (now (marks .exit)) (λ n. markedBelow (now (sheet .entry)) k n m) x ⌝ }
+    requires { ⌜ m ≤ length (now marks) ⌝ }
+    requires { ⌜ k < 16384 ⌝ }
+    ensures { λ x. ⌜ (x ≡ numberOr0 (recordOf (now (sheet .entry)) 6 m) (λ r. 1)) × (x ≤ 1) × Marked m k (now (marks .entry)) (now (marks .exit)) (operandUses (now (sheet .entry)) (homeChart (now (sheet .entry)) k) m) ⌝ }
 {
-    let Found::Present(c) = sheet_reader::read(sheet, directory, 4, k as usize - 1) else {
-        return true;
-    };
     let Found::Present(r) = sheet_reader::read(sheet, directory, 6, m) else {
-        return true;
+        return 0;
     };
-    let o = sheet_fields::operands(sheet, directory, c, r);
+    let gone: usize = 1;
+    let o = operands_at(sheet, directory, k, r);
     let total = o.count + o.tail;
     let mut j: usize = 0;
     while j < total {
-        if !mark(marks, m, sheet_fields::operand(r, o, j), k) {
-            return false;
-        }
+        mark(marks, m, sheet_fields::operand(r, o, j), k);
         j += 1;
     }
-    true
+    gone
 }

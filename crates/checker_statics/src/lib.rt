@@ -52,7 +52,7 @@ fn record_static(
     }
 }
 
-fn section_static(
+fn records_static(
     sheet: &[u8],
     directory: &[usize; 16],
     table: &mut [u16; 4096],
@@ -76,6 +76,25 @@ fn section_static(
         i += 1;
     }
     true
+}
+
+// The rules for nodes go by trees; none is for a node by itself.
+fn section_static(
+    sheet: &[u8],
+    directory: &[usize; 16],
+    table: &mut [u16; 4096],
+    last: &mut [u16; 4096],
+    previous: &mut [u16; 4096],
+    k: usize,
+) -> bool
+    requires { ⌜ now directory ≡ directoryOf (now sheet) ⌝ }
+    requires { ⌜ Ready (now sheet) (now table) (now last) (now previous) ⌝ }
+    ensures { λ x. ⌜ (x ≡ sectionStatic (now (sheet .entry)) k) × Ready (now (sheet .entry)) (now (table .exit)) (now (last .exit)) (now (previous .exit)) ⌝ }
+{
+    if k == 6 {
+        return true;
+    }
+    records_static(sheet, directory, table, last, previous, k)
 }
 
 // Whether every static rule holds.

@@ -1,76 +1,95 @@
-// Each node is used exactly once.
+// Each node is used exactly once: one pass over bodies, bindings and nodes, with a mark for each node.
+use checker_pass::Tested;
 ghost use mathlib.Core.Path.{_≡_};
-ghost use lib.ListN.{length};
+ghost use Prim.Native.Nat.{ℕ, _≤_, _<_};
+ghost use lib.ListN.{length, getD};
+ghost use lib.Dec.{eqb};
+ghost use Rattle.sheet.specs.All.{_and_};
 ghost use Rattle.sheet.specs.Sheet.{countOf, recordOf, directoryOf};
 ghost use Rattle.sheet_rules.specs.Fields.{numberOr0, sumBelow};
-ghost use Rattle.sheet_rules.specs.Uses.{usesInChart, usesInBinding, usedOnce};
-ghost use Rattle.checker_marks.specs.Marks.{Marked};
+ghost use Rattle.sheet_rules.specs.Uses.{overBodies, overCharts, constantUses};
+ghost use Rattle.checker_pass.specs.Marks.{Cleared, Marked, RootsMarked};
+ghost use Rattle.checker_pass.specs.Test.{TestGives};
 
-// Marks the roots of all bodies.
-fn mark_charts(sheet: &[u8], directory: &[usize; 16], marks: &mut [u16; 4096], count: usize) -> bool
+// No node is named yet: the marks of the first `count` nodes are 0.
+fn clear(marks: &mut [u16], count: usize)
+    requires { ⌜ count ≤ length (now marks) ⌝ }
+    ensures { λ _. ⌜ Cleared count (now (marks .entry)) (now (marks .exit)) ⌝ }
+{
+    let mut i: usize = 0;
+    while i < count {
+        marks[i] = 0;
+        i += 1;
+    }
+}
+
+// All bodies name their roots. How many bodies were gone over.
+fn mark_charts(sheet: &[u8], directory: &[usize; 16], marks: &mut [u16], count: usize) -> usize
     requires { ⌜ now directory ≡ directoryOf (now sheet) ⌝ }
-    requires { ⌜ count ≡ countOf (now sheet) 6 ⌝ }
-    requires { ⌜ length (now marks) ≡ 4096 ⌝ }
-    ensures { λ x. ⌜ Marked (now (sheet .entry)) count (now (marks .entry)) (now (marks .exit)) (λ n. sumBelow (countOf (now (sheet .entry)) 4) (λ i. numberOr0 (recordOf (now (sheet .entry)) 4 i) (usesInChart (now (sheet .entry)) n))) x ⌝ }
+    requires { ⌜ count ≤ length (now marks) ⌝ }
+    requires { ⌜ ((n : ℕ) → n < count → getD (now marks) n 0 ≡ 0) ⌝ }
+    ensures { λ x. ⌜ (x ≡ overCharts (now (sheet .entry)) (overBodies (now (sheet .entry)) (λ b. 1))) × (x ≤ 268369920) × RootsMarked (now (sheet .entry)) (countOf (now (sheet .entry)) 4) count (now (marks .entry)) (now (marks .exit)) ⌝ }
 {
     let total = sheet_reader::count_in(directory, 4);
+    let mut gone: usize = 0;
     let mut i: usize = 0;
     while i < total {
-        if !checker_marks::mark_chart(sheet, directory, marks, count, i) {
-            return false;
-        }
+        gone += checker_marks::mark_chart(sheet, directory, marks, count, i);
         i += 1;
     }
-    true
+    gone
 }
 
-// Marks the constants of all bindings.
-fn mark_bindings(
-    sheet: &[u8],
-    directory: &[usize; 16],
-    marks: &mut [u16; 4096],
-    count: usize,
-) -> bool
+// All bindings name their constants. How many bindings were gone over.
+fn mark_bindings(sheet: &[u8], directory: &[usize; 16], marks: &mut [u16], count: usize) -> usize
     requires { ⌜ now directory ≡ directoryOf (now sheet) ⌝ }
-    requires { ⌜ count ≡ countOf (now sheet) 6 ⌝ }
-    requires { ⌜ length (now marks) ≡ 4096 ⌝ }
-    ensures { λ x. ⌜ Marked (now (sheet .entry)) count (now (marks .entry)) (now (marks .exit)) (λ n. sumBelow (countOf (now (sheet .entry)) 7) (λ i. numberOr0 (recordOf (now (sheet .entry)) 7 i) (usesInBinding (now (sheet .entry)) n))) x ⌝ }
+    requires { ⌜ count ≤ length (now marks) ⌝ }
+    ensures { λ x. ⌜ (x ≡ countOf (now (sheet .entry)) 7) × Marked count 0 (now (marks .entry)) (now (marks .exit)) (λ n. sumBelow (countOf (now (sheet .entry)) 7) (λ i. numberOr0 (recordOf (now (sheet .entry)) 7 i) (constantUses (now (sheet .entry)) n))) ⌝ }
 {
     let total = sheet_reader::count_in(directory, 7);
+    let mut gone: usize = 0;
     let mut i: usize = 0;
     while i < total {
-        if !checker_marks::mark_binding(sheet, directory, marks, count, i) {
-            return false;
-        }
+        gone += checker_marks::mark_binding(sheet, directory, marks, count, i);
         i += 1;
     }
-    true
+    gone
 }
 
-// Whether each node is used exactly once: operands are lower, so going down from the last node,
-// whatever uses a node has been seen before it.
-pub fn used_once(sheet: &[u8], directory: &[usize; 16]) -> bool
+// Whether a node that is used so often, by its mark, leaves each used exactly once.
+fn still_once(once: bool, used: u16) -> bool
+    ensures { λ x. ⌜ x ≡ (eqb used 1 and once) ⌝ }
+{
+    if used == 1 {
+        return once;
+    }
+    false
+}
+
+// Whether each node is used exactly once. A mark for each node is lent, whatever it holds, and ends as 0, 1 or 2.
+// Operands are lower, so going down from the last node, whatever uses a node has been gone over before it.
+pub fn used_once(sheet: &[u8], directory: &[usize; 16], marks: &mut [u16]) -> Tested
     requires { ⌜ now directory ≡ directoryOf (now sheet) ⌝ }
-    ensures { λ x. ⌜ x ≡ usedOnce (now (sheet .entry)) ⌝ }
+    requires { ⌜ countOf (now sheet) 6 ≤ length (now marks) ⌝ }
+    ensures { λ t. ⌜ TestGives (now (sheet .entry)) (now (marks .entry)) (now (marks .exit)) t ⌝ }
 {
     let count = sheet_reader::count_in(directory, 6);
-    let mut marks = [0u16; 4096];
-    if !mark_charts(sheet, directory, &mut marks, count) {
-        return false;
-    }
-    if !mark_bindings(sheet, directory, &mut marks, count) {
-        return false;
-    }
+    clear(marks, count);
+    let bodies = mark_charts(sheet, directory, marks, count);
+    let bindings = mark_bindings(sheet, directory, marks, count);
+    let mut gone = bodies + bindings;
+    let mut once = true;
     let mut n = count;
     while 0 < n {
         n -= 1;
-        let k = marks[n];
-        if k == 0 {
-            return false;
-        }
-        if !checker_marks::mark_operands(sheet, directory, &mut marks, n, k) {
-            return false;
-        }
+        let mark = marks[n];
+        let used = mark % 4;
+        marks[n] = used;
+        once = still_once(once, used);
+        gone += checker_marks::mark_operands(sheet, directory, marks, n, mark / 4);
     }
-    true
+    Tested {
+        once: once,
+        records: gone,
+    }
 }

@@ -19,7 +19,7 @@ use Rattle.sheet_rules.specs.declared.Checked.the-variants.{Passed, Shape, Stat
 use Rattle.sheet_rules.specs.Fields.{holds, numberOr0, typeAt, componentsOf, externalsOf, portsOf, elementsOf}
 use Rattle.sheet_rules.specs.Shape.{headShape, enumeratedShape, typeExists, declarationShape, nameShape, chartShape, bodyShape, bindingShape, elementsBound, cellsOf, treesShape, recordShape, sectionShape}
 use Rattle.sheet_rules.specs.Static.{declarationStatic, nameStatic, chartStatic, bindingStatic, recordStatic, sectionStatic, static}
-use Rattle.sheet_rules.specs.Check.{nodesShape, sectionsShape, shape, checkOf, checkNumber}
+use Rattle.sheet_rules.specs.Check.{nodesShape, sectionsShape, shapeWith, shape, checkOf, checkNumber}
 use Rattle.sheet_rules.proofs.Fields.{holds-present, number-present}
 
 -- ---- a record that is there
@@ -56,19 +56,19 @@ module _ (s : List ℕ) (ok : checkOf s ≡ Passed) where
   -- ---- the parts of the shape
 
   pub directory-right : directoryRight s ≡ true
-  unfolding shape
+  unfolding shape shapeWith
   directory-right = and-first _ _ shaped
 
   one-head : countOf s head ≡ 1
-  unfolding shape
+  unfolding shape shapeWith
   one-head = eqb-true _ _ (and-first _ _ (and-second _ _ shaped))
 
   sections : sectionsShape s ≡ true
-  unfolding shape
+  unfolding shape shapeWith
   sections = and-first _ _ (and-second _ _ (and-second _ _ shaped))
 
   pub elements-bound : externalsOf s + countOf s bindings ≡ componentsOf s
-  unfolding shape elementsBound
+  unfolding shape shapeWith elementsBound
   elements-bound = eqb-true _ _ (and-first _ _ (and-second _ _ (and-second _ _ (and-second _ _ (and-second _ _ shaped)))))
 
   pub elements-are : elementsOf s ≡ countOf s bindings
@@ -76,11 +76,11 @@ module _ (s : List ℕ) (ok : checkOf s ≡ Passed) where
   elements-are = omega (arith, elements-bound)
 
   pub cells-limit : cellsOf s ≤ 512
-  unfolding shape
+  unfolding shape shapeWith
   cells-limit = leb-true _ _ (and-first _ _ (and-second _ _ (and-second _ _ (and-second _ _ (and-second _ _ (and-second _ _ shaped))))))
 
   trees : nodesShape s ≡ true
-  unfolding shape
+  unfolding shape shapeWith
   trees = and-second _ _ (and-second _ _ (and-second _ _ (and-second _ _ (and-second _ _ (and-second _ _ (and-second _ _ shaped))))))
 
   -- ---- each record

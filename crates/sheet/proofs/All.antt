@@ -54,6 +54,11 @@ all-at (suc n) p h i l = elim (decLt i n) [
   | no q ↦ (let e : i ≡ n = omega arith in rw e (and-second _ _ h))
 ]
 
+pub all-true : (n : ℕ) (p : ℕ → Bool) → ((i : ℕ) → i < n → p i ≡ true) → allBelow n p ≡ true
+unfolding allBelow
+all-true zero p h = refl
+all-true (suc n) p h = and-true _ _ (all-true n p (λ i l. h i (omega arith))) (h n (omega arith))
+
 pub all-fails : (n : ℕ) (p : ℕ → Bool) (i : ℕ) → i < n → p i ≡ false → allBelow n p ≡ false
 all-fails n p i l e = not-so _ (λ h. true-false (all-at n p h i l) e)
 

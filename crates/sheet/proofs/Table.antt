@@ -4,9 +4,10 @@ use mathlib.Core.Path.{_≡_, refl, ap, _∙_}
 use mathlib.Core.List.{List, [], _∷_}
 use mathlib.Core.Bool.{Bool, true, false, _&&_}
 use native.Mathlib.Omega.{arith}
+use native.Mathlib.Decide.{decLt}
 use lib.ListN.{drop}
 use lib.Dec.{T, ltb, leb, leb→le}
-use borrow.Author.Tests.{lt-ltb, le-ltb}
+use borrow.Author.Tests.{lt-ltb, le-ltb, lt-leb}
 use Rattle.sheet.specs.Table.{Line, lookUp}
 
 -- a number from n on that isn't n
@@ -56,3 +57,19 @@ module _ {A : Type 0} (past : A) where
       go : (T (allMeet p ls) → T (p (lookUp ls past n))) → (t : Bool) → T (p (l .means)) × T (allMeet p ls) → T (p (elim t [ true ↦ l .means | false ↦ lookUp ls past n ]))
       go later true h = h .0
       go later false h = later (h .1)
+
+  -- the same of the lines that numbers below b can be on
+  unfoldable pub allMeetBelow : (A → Bool) → ℕ → List (Line A) → Bool
+  allMeetBelow p b [] = p past
+  allMeetBelow p b (l ∷ ls) = p (l .means) && elim (leb b (l .below)) [ true ↦ true | false ↦ allMeetBelow p b ls ]
+
+  pub all-meet-below : (p : A → Bool) (b : ℕ) (t : List (Line A)) (n : ℕ) → T (allMeetBelow p b t) → n < b → T (p (lookUp t past n))
+  unfolding allMeetBelow lookUp
+  all-meet-below p b [] n q h = q
+  all-meet-below p b (l ∷ ls) n q h = elim (decLt n (l .below)) [
+    | yes k ↦ rw (line-here l ls n k) (parts .0)
+    | no k ↦ rw (line-past l ls n (omega arith)) (all-meet-below p b ls n (rw (lt-leb b (l .below) (omega arith)) at (parts .1)) h)
+  ]
+    where
+      parts : T (p (l .means)) × T (elim (leb b (l .below)) [ true ↦ true | false ↦ allMeetBelow p b ls ])
+      parts = both (p (l .means)) _ q

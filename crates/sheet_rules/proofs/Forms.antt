@@ -2,14 +2,20 @@
 use Prim.Native.Nat.{ℕ, zero, suc, _<_, _≤_}
 use mathlib.Core.Path.{_≡_, refl, sym, ap, subst, _∙_}
 use mathlib.Core.List.{List, _∷_}
-use mathlib.Core.Bool.{Bool, true, false, not}
+use mathlib.Core.Bool.{Bool, true, false, not, true≢false}
 use native.Mathlib.Omega.{arith}
 use native.Mathlib.Decide.{decLt}
 use lib.ListN.{drop}
 use lib.Dec.{T}
+use Rattle.sheet.specs.declared.Record.{Record}
+use Rattle.sheet.specs.Names.{operator}
 use Rattle.sheet.specs.Table.{Line, lookUp}
-use Rattle.sheet.proofs.Table.{beyond, linesBelow, lines-past, line-at, allMeet, all-meet}
-use Rattle.sheet_rules.specs.Forms.{Form, literal, read, unary, binary, clock, readElement, skip, assign, externalSend, internalSend, arm, clockAct, call, choice, loop, sequence, assignElement, unknown, formTable, formOf, literalTable, self, literalOf, Binary, both, equal, less, plus, minus, times, div, modulo, binaryTable, binaryOf}
+use Rattle.sheet.proofs.Table.{beyond, linesBelow, lines-past, line-at, allMeet, all-meet, allMeetBelow, all-meet-below}
+use Rattle.sheet_rules.specs.Forms.{Form, literal, read, unary, binary, clock, readElement, skip, assign, externalSend, internalSend, arm, clockAct, call, choice, loop, sequence, assignElement, unknown, formTable, formOf, literalTable, self, literalOf, Binary, both, equal, less, plus, minus, times, div, modulo, binaryTable, binaryOf, operandsIn, operandsOf}
+
+no-T : (b : Bool) → T (not b) → b ≡ false
+no-T true q = absurd q
+no-T false q = refl
 
 -- an operator from m on, below the bound of the line that follows the first k
 form-at : (k m op : ℕ) (l : Line Form) (ls : List (Line Form)) → drop k formTable ≡ l ∷ ls → T (linesBelow k formTable m) → m ≤ op → op < l .below → formOf op ≡ l .means
@@ -75,10 +81,62 @@ form-expression op n = elim (decLt op 1) [
     | no h ↦ ap isExpressionForm (lines-past unknown 7 formTable 20 op tt (omega arith)) ∙ no-T _ (all-meet unknown (λ f. not (isExpressionForm f)) (drop 7 formTable) op tt)
   ]
 ]
+
+abbrev pub isCallForm : Form → Bool
+isCallForm literal = false
+isCallForm read = false
+isCallForm unary = false
+isCallForm binary = false
+isCallForm clock = false
+isCallForm readElement = false
+isCallForm skip = false
+isCallForm assign = false
+isCallForm externalSend = false
+isCallForm internalSend = false
+isCallForm arm = false
+isCallForm clockAct = false
+isCallForm call = true
+isCallForm choice = false
+isCallForm loop = false
+isCallForm sequence = false
+isCallForm assignElement = false
+isCallForm unknown = false
+
+-- only operator 40 is a call
+form-call : (op : ℕ) → (op ≡ 40 → ⊥) → isCallForm (formOf op) ≡ false
+unfolding formOf allMeet allMeetBelow
+form-call op n = elim (decLt op 40) [
+  | yes l ↦ no-T _ (all-meet-below unknown (λ f. not (isCallForm f)) 40 formTable op tt l)
+  | no h ↦ ap isCallForm (lines-past unknown 15 formTable 41 op tt (beyond (from-40 op h) n)) ∙ no-T _ (all-meet unknown (λ f. not (isCallForm f)) (drop 15 formTable) op tt)
+]
   where
-    no-T : (b : Bool) → T (not b) → b ≡ false
-    no-T true q = absurd q
-    no-T false q = refl
+    from-40 : (op : ℕ) → (op < 40 → ⊥) → 40 ≤ op
+    from-40 op h = omega arith
+
+-- the operands of another node don't depend on its chart
+pub operands-plain : (s : List ℕ) (c c′ r : Record) → (operator r ≡ 40 → ⊥) → operandsOf s c r ≡ operandsOf s c′ r
+unfolding operandsOf operandsIn
+operands-plain s c c′ r n = go (formOf (operator r)) (form-call (operator r) n)
+  where
+    go : (f : Form) → isCallForm f ≡ false → operandsIn s c r f ≡ operandsIn s c′ r f
+    go literal q = refl
+    go read q = refl
+    go unary q = refl
+    go binary q = refl
+    go clock q = refl
+    go readElement q = refl
+    go skip q = refl
+    go assign q = refl
+    go externalSend q = refl
+    go internalSend q = refl
+    go arm q = refl
+    go clockAct q = refl
+    go call q = absurd (true≢false q)
+    go choice q = refl
+    go loop q = refl
+    go sequence q = refl
+    go assignElement q = refl
+    go unknown q = refl
 
 -- what is none of the first five literals is taken for the sixth
 pub literal-self : (op : ℕ) → (op ≡ 1 → ⊥) → (op ≡ 2 → ⊥) → (op ≡ 3 → ⊥) → (op ≡ 4 → ⊥) → (op ≡ 5 → ⊥) → literalOf op ≡ self

@@ -4,3 +4,4 @@ pub mod Fields
 pub mod Types
 pub mod Samples
 pub mod Arrays
+pub mod Uses

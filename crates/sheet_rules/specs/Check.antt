@@ -20,17 +20,24 @@ nodesShape s = allBelow (countOf s charts) (λ k. holds (recordOf s charts k) (t
 unfoldable pub sectionsShape : List ℕ → Bool
 sectionsShape s = allBelow 8 (sectionShape s)
 
--- "the shape above, in which everything that a field numbers exists"
-unfoldable pub shape : List ℕ → Bool
-shape s =
+-- "the shape above, in which everything that a field numbers exists", where it is given whether each node is used once
+unfoldable pub shapeWith : Bool → List ℕ → Bool
+shapeWith once s =
     directoryRight s
     and eqb (countOf s head) 1
     and sectionsShape s
     and bodiesCovered s
     and elementsBound s
     and leb (cellsOf s) 512
-    and usedOnce s
+    and once
     and nodesShape s
+
+unfoldable pub shape : List ℕ → Bool
+shape s = shapeWith (usedOnce s) s
+
+-- "a sheet otherwise in shape", however often its nodes are used
+unfoldable pub otherwiseInShape : List ℕ → Bool
+otherwiseInShape s = shapeWith true s
 
 unfoldable pub checkOf : List ℕ → Checked
 checkOf s = elim (shape s) [ true ↦ elim (static s) [ true ↦ Passed | false ↦ Static ] | false ↦ Shape ]

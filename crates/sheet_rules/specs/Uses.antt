@@ -4,16 +4,20 @@ use mathlib.Core.List.{List}
 use mathlib.Core.Bool.{Bool, true, false}
 use lib.Dec.{ltb, eqb}
 use Rattle.sheet.specs.declared.Record.{Record}
+use Rattle.sheet.specs.declared.Found.{Found}
+use Rattle.sheet.specs.declared.Found.the-variants.{Present, Absent}
 use Rattle.sheet.specs.All.{allBelow}
-use Rattle.sheet.specs.Names.{charts, bodies, nodes, bindings, chartParameters, chartBodies, root, boundChart}
+use Rattle.sheet.specs.Names.{charts, bodies, nodes, bindings, chartParameters, chartBodies, root, boundChart, operator}
 use Rattle.sheet.specs.Sheet.{countOf, recordOf}
-use Rattle.sheet_rules.specs.Fields.{numberOr0, oneIf, sumBelow}
+use Rattle.sheet_rules.specs.Fields.{holds, numberOr0, oneIf, sumBelow, countBelow}
 use Rattle.sheet_rules.specs.Forms.{operandsOf, operandCount, operandAt}
 use Rattle.sheet_rules.specs.Shape.{constantOf}
 
--- an operand that is not lower is not gone into
+-- "Operand nodes have lower numbers": a field that names another node is no operand
 unfoldable pub lowerOnly : ℕ → (ℕ → ℕ) → ℕ → ℕ
 lowerOnly m f o = elim (ltb o m) [ true ↦ f o | false ↦ 0 ]
+
+-- ---- the bodies that a node lies in
 
 -- how often node n stands in the tree of node m, a node of chart c
 module _ (s : List ℕ) (c : Record) (n : ℕ) where
@@ -27,18 +31,81 @@ module _ (s : List ℕ) (c : Record) (n : ℕ) where
   unfoldable pub standsIn : ℕ → ℕ
   standsIn m = standsF (suc m) m
 
--- in the bodies of chart c
-unfoldable pub usesInChart : List ℕ → ℕ → Record → ℕ
-usesInChart s n c = sumBelow (chartBodies c .count) (λ j. numberOr0 (recordOf s bodies (chartBodies c .first + j)) (λ b. standsIn s c n (root b)))
+-- a number for each body of chart c, together
+unfoldable pub overBodies : List ℕ → (Record → ℕ) → Record → ℕ
+overBodies s f c = sumBelow (chartBodies c .count) (λ j. numberOr0 (recordOf s bodies (chartBodies c .first + j)) f)
 
--- in the constants of a binding
-unfoldable pub usesInBinding : List ℕ → ℕ → Record → ℕ
-usesInBinding s n b = numberOr0 (recordOf s charts (boundChart b)) (λ c. sumBelow (chartParameters c .count) (λ j. standsIn s c n (constantOf b j)))
+-- a number for each chart, together
+unfoldable pub overCharts : List ℕ → (Record → ℕ) → ℕ
+overCharts s f = sumBelow (countOf s charts) (λ k. numberOr0 (recordOf s charts k) f)
+
+-- how often node n stands in the bodies of chart c
+unfoldable pub standsInBodies : List ℕ → ℕ → Record → ℕ
+standsInBodies s n c = overBodies s (λ b. standsIn s c n (root b)) c
+
+-- "the chart that its body belongs to": the number of the chart, plus 1, with a body that node n lies in; 0 where it lies in none. Where there are more of them, the last below k
+unfoldable pub homeBelow : List ℕ → ℕ → ℕ → ℕ
+homeBelow s n zero = 0
+homeBelow s n (suc k) = elim (ltb 0 (numberOr0 (recordOf s charts k) (standsInBodies s n))) [ true ↦ suc k | false ↦ homeBelow s n k ]
+
+unfoldable pub homeOf : List ℕ → ℕ → ℕ
+homeOf s n = homeBelow s n (countOf s charts)
+
+-- a chart without bodies: a call has no operands in it
+abbrev pub noChart : Record
+noChart = record { f0 = 0; f1 = 0; f2 = 0; f3 = 0; f4 = 0; f5 = 0; f6 = 0; f7 = 0 }
+
+unfoldable pub chartOr : Record → Found → Record
+chartOr d (Present c) = c
+chartOr d Absent = d
+
+unfoldable pub homeChart : List ℕ → ℕ → Record
+homeChart s zero = noChart
+homeChart s (suc k) = chartOr noChart (recordOf s charts k)
+
+-- ---- how often a node is used: how many fields name it
+
+-- operands of node m, a node of chart c
+unfoldable pub operandUses : List ℕ → Record → ℕ → ℕ → ℕ
+operandUses s c m n = lowerOnly m (λ n. numberOr0 (recordOf s nodes m) (λ r. countBelow (operandCount (operandsOf s c r)) (λ j. eqb (operandAt r (operandsOf s c r) j) n))) n
+
+-- roots of the bodies of chart c
+unfoldable pub rootUses : List ℕ → ℕ → Record → ℕ
+rootUses s n c = overBodies s (λ b. oneIf (eqb (root b) n)) c
+
+-- constants of binding b
+unfoldable pub constantUses : List ℕ → ℕ → Record → ℕ
+constantUses s n b = numberOr0 (recordOf s charts (boundChart b)) (λ c. countBelow (chartParameters c .count) (λ j. eqb (constantOf b j) n))
 
 unfoldable pub usesOf : List ℕ → ℕ → ℕ
 usesOf s n =
-    sumBelow (countOf s charts) (λ k. numberOr0 (recordOf s charts k) (usesInChart s n))
-    + sumBelow (countOf s bindings) (λ i. numberOr0 (recordOf s bindings i) (usesInBinding s n))
+    overCharts s (rootUses s n)
+    + sumBelow (countOf s bindings) (λ i. numberOr0 (recordOf s bindings i) (constantUses s n))
+    + sumBelow (countOf s nodes) (λ m. operandUses s (homeChart s (homeOf s m)) m n)
 
 unfoldable pub usedOnce : List ℕ → Bool
 usedOnce s = allBelow (countOf s nodes) (λ n. eqb (usesOf s n) 1)
+
+-- ---- what a test with a mark for each node tells
+
+-- "0, 1 or 2, for a node used never, once or more often"
+unfoldable pub markOf : ℕ → ℕ
+markOf zero = 0
+markOf (suc zero) = 1
+markOf (suc (suc n)) = 2
+
+-- how many bodies node n lies in
+unfoldable pub bodiesHolding : List ℕ → ℕ → ℕ
+bodiesHolding s n = overCharts s (λ c. overBodies s (λ b. oneIf (ltb 0 (standsIn s c n (root b)))) c)
+
+-- operator 40
+abbrev pub isCall : Record → Bool
+isCall r = eqb (operator r) 40
+
+-- "each call of which lies in exactly one body"
+unfoldable pub callsInOneBody : List ℕ → Bool
+callsInOneBody s = allBelow (countOf s nodes) (λ m. holds (recordOf s nodes m) (λ r. elim (isCall r) [ true ↦ eqb (bodiesHolding s m) 1 | false ↦ true ]))
+
+-- "records gone over": a record counts each time that the test takes it from its section to mark the nodes that its fields name: a body for its root, by the chart that it belongs to; a node for its operands; a binding for its constants. The look-up of a name, a chart or a called body doesn't count
+unfoldable pub goneOver : List ℕ → ℕ
+goneOver s = overCharts s (overBodies s (λ b. 1)) + countOf s nodes + countOf s bindings

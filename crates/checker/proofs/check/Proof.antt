@@ -26,27 +26,27 @@ module _ (s : List ℕ) where
 directory-requires : tie.Need-directory-requires
 directory-requires c κs = search needs
 
-shape-holds-requires : tie.Need-shape-holds-requires
-shape-holds-requires c κs = search needs
+shaped-requires : tie.Need-shaped-requires
+shaped-requires c κs = search needs
 
 returns : tie.Need-returns
-returns c = no-shape _ (sym (c .before .shape-holds .ensures) ∙ not-true _ (c .if1 .taken))
+returns c = no-shape _ (sym (c .before .shaped .ensures) ∙ not-true _ (c .if1 .taken))
 
 rules-hold-requires : tie.Need-rules-hold-requires
 rules-hold-requires c κs = search needs
 
 returns-2 : tie.Need-returns-2
-returns-2 c = no-static _ (sym (c .before .before .before .before .shape-holds .ensures) ∙ not-false _ (c .before .before .before .if1 .left)) (sym (c .before .rules-hold .ensures) ∙ not-true _ (c .if2 .taken))
+returns-2 c = no-static _ (sym (c .before .before .before .before .shaped .ensures) ∙ not-false _ (c .before .before .before .if1 .left)) (sym (c .before .rules-hold .ensures) ∙ not-true _ (c .if2 .taken))
 
 returns-3 : tie.Need-returns-3
-returns-3 c = passes _ (sym (c .before .before .before .before .shape-holds .ensures) ∙ not-false _ (c .before .before .before .if1 .left)) (sym (c .before .rules-hold .ensures) ∙ not-false _ (c .if2 .left))
+returns-3 c = passes _ (sym (c .before .before .before .before .shaped .ensures) ∙ not-false _ (c .before .before .before .if1 .left)) (sym (c .before .rules-hold .ensures) ∙ not-false _ (c .if2 .left))
 
 pub check-spec : {M : Type 1} → statement M
 check-spec =
     tie.close
     (tie.spec
     directory-requires
-    shape-holds-requires
+    shaped-requires
     returns
     rules-hold-requires
     returns-2

@@ -4,13 +4,13 @@ use mathlib.Core.Bool.{true}
 use mathlib.Core.List.{List}
 use Prim.Native.Nat.{ℕ, _+_, _-_}
 use borrow.Author.Tests.{le-leb, lt-leb, eq-eqb, ne-eqb, not-true, not-false}
-use borrow.Author.Needs.{needs}
 use Rattle.sheet.proofs.All.{first-fails, rest-fails, first-holds}
 use Rattle.sheet.specs.Sheet.{countOf, directoryRight}
 use Rattle.sheet.proofs.Sheet.{count-some, count-limit}
 use Rattle.sheet_rules.specs.Fields.{fieldOf, fieldAt, componentsOf, externalsOf}
 use Rattle.sheet_rules.specs.Shape.{elementsBound}
-use Rattle.sheet_rules.specs.Check.{shape}
+use Rattle.sheet_rules.specs.Check.{shapeWith, shape}
+use borrow.Author.Needs.{needs}
 use Rattle.checker.proofs.shape_holds.Statement.{statement}
 use Rattle.checker.proofs.shape_holds.Tie as tie
 
@@ -30,21 +30,21 @@ count-in-requires : tie.Need-count-in-requires
 count-in-requires c κs = search needs
 
 returns : tie.Need-returns
-unfolding shape
-returns c = rest-fails _ _ (first-fails _ _ (ne-eqb _ _ (λ e. c .if1 .taken (c .before .count-in .ensures _ (c .before .before .before .pre) ∙ e))))
+unfolding shape shapeWith
+returns c = rest-fails _ _ (first-fails _ _ (ne-eqb _ _ (λ e. c .if1 .taken (c .before .count-in .ensures _ (c .before .before .before .before .pre .0) ∙ e))))
 
 sections-fit-requires : tie.Need-sections-fit-requires
 sections-fit-requires c κs = search needs
 
 returns-2 : tie.Need-returns-2
-unfolding shape
+unfolding shape shapeWith
 returns-2 c = rest-fails _ _ (rest-fails _ _ (first-fails _ _ (sym (c .before .sections-fit .ensures) ∙ not-true _ (c .if2 .taken))))
 
 bodies-covered-requires : tie.Need-bodies-covered-requires
 bodies-covered-requires c κs = search needs
 
 returns-3 : tie.Need-returns-3
-unfolding shape
+unfolding shape shapeWith
 returns-3 c = rest-fails _ _ (rest-fails _ _ (rest-fails _ _ (first-fails _ _ (sym (c .before .bodies-covered .ensures) ∙ not-true _ (c .if3 .taken)))))
 
 field-at-requires : tie.Need-field-at-requires
@@ -57,32 +57,38 @@ count-in-requires-2 : tie.Need-count-in-requires-2
 count-in-requires-2 c κs = search needs
 
 add-if4 : tie.Need-add-if4
-add-if4 c = omega (arith, c .before .field-at2 .ensures .1, c .count-in2 .ensures _ (c .before .before .before .before .before .before .before .before .before .before .pre), count-limit (c .before .before .before .before .before .before .before .before .before .before .args .sheet .now) 7)
+add-if4 c = omega (arith, c .before .field-at2 .ensures .1, c .count-in2 .ensures _ (c .before .before .before .before .before .before .before .before .before .before .before .pre .0), count-limit (c .before .before .before .before .before .before .before .before .before .before .before .args .sheet .now) 7)
 
 returns-4 : tie.Need-returns-4
-unfolding shape elementsBound
-returns-4 c = rest-fails _ _ (rest-fails _ _ (rest-fails _ _ (rest-fails _ _ (first-fails _ _ (ne-eqb _ _ (λ e. c .if4 .taken (bound-back _ _ _ _ (c .before .before .field-at2 .ensures .0) (c .before .before .before .field-at .ensures .0) (c .before .count-in2 .ensures _ (c .before .before .before .before .before .before .before .before .before .before .before .pre)) e)))))))
+unfolding shape shapeWith elementsBound
+returns-4 c = rest-fails _ _ (rest-fails _ _ (rest-fails _ _ (rest-fails _ _ (first-fails _ _ (ne-eqb _ _ (λ e. c .if4 .taken (bound-back _ _ _ _ (c .before .before .field-at2 .ensures .0) (c .before .before .before .field-at .ensures .0) (c .before .count-in2 .ensures _ (c .before .before .before .before .before .before .before .before .before .before .before .before .pre .0)) e)))))))
 
 cells-requires : tie.Need-cells-requires
 cells-requires c κs = search needs
 
 returns-5 : tie.Need-returns-5
-unfolding shape
+unfolding shape shapeWith
 returns-5 c = rest-fails _ _ (rest-fails _ _ (rest-fails _ _ (rest-fails _ _ (rest-fails _ _ (first-fails _ _ (lt-leb _ _ (rw (c .before .cells .ensures) at (c .if5 .taken))))))))
 
 used-once-requires : tie.Need-used-once-requires
-used-once-requires c κs = search needs
+used-once-requires c κs = (c .before .before .before .before .before .before .before .before .before .before .before .before .before .before .before .pre .0, c .before .before .before .before .before .before .before .before .before .before .before .before .before .before .before .pre .1)
+
+same-length : tie.Need-same-length
+same-length c = c .before .before .before .before .used-once .ensures .long
 
 returns-6 : tie.Need-returns-6
-unfolding shape
-returns-6 c = rest-fails _ _ (rest-fails _ _ (rest-fails _ _ (rest-fails _ _ (rest-fails _ _ (rest-fails _ _ (first-fails _ _ (sym (c .before .used-once .ensures) ∙ not-true _ (c .if6 .taken))))))))
+unfolding shape shapeWith
+returns-6 c = rest-fails _ _ (rest-fails _ _ (rest-fails _ _ (rest-fails _ _ (rest-fails _ _ (rest-fails _ _ (first-fails _ _ (sym (c .before .before .before .before .used-once .ensures .once) ∙ not-true _ (c .if6 .taken))))))))
 
 nodes-fit-requires : tie.Need-nodes-fit-requires
 nodes-fit-requires c κs = search needs
 
+same-length-2 : tie.Need-same-length-2
+same-length-2 c = c .before .before .before .before .before .used-once .ensures .long
+
 returns-7 : tie.Need-returns-7
-unfolding shape elementsBound
-returns-7 c = first-holds _ _ _ (right-with-head _ _ (c .before .before .before .before .before .before .before .before .before .before .before .before .before .before .count-in .ensures _ (c .before .before .before .before .before .before .before .before .before .before .before .before .before .before .before .before .pre)) (c .before .before .before .before .before .before .before .before .before .before .before .before .before .if1 .left)) (first-holds _ _ _ (eq-eqb _ _ (sym (c .before .before .before .before .before .before .before .before .before .before .before .before .before .before .count-in .ensures _ (c .before .before .before .before .before .before .before .before .before .before .before .before .before .before .before .before .pre)) ∙ c .before .before .before .before .before .before .before .before .before .before .before .before .before .if1 .left)) (first-holds _ _ _ (sym (c .before .before .before .before .before .before .before .before .before .before .before .before .sections-fit .ensures) ∙ not-false _ (c .before .before .before .before .before .before .before .before .before .before .before .if2 .left)) (first-holds _ _ _ (sym (c .before .before .before .before .before .before .before .before .before .before .bodies-covered .ensures) ∙ not-false _ (c .before .before .before .before .before .before .before .before .before .if3 .left)) (first-holds _ _ _ (eq-eqb _ _ (bound _ _ _ _ (c .before .before .before .before .before .before .before .field-at2 .ensures .0) (c .before .before .before .before .before .before .before .before .field-at .ensures .0) (c .before .before .before .before .before .before .count-in2 .ensures _ (c .before .before .before .before .before .before .before .before .before .before .before .before .before .before .before .before .pre)) (c .before .before .before .before .before .if4 .left))) (first-holds _ _ _ (le-leb _ _ (rw (c .before .before .before .before .cells .ensures) at (c .before .before .before .if5 .left))) (first-holds _ _ _ (sym (c .before .before .used-once .ensures) ∙ not-false _ (c .before .if6 .left)) (c .nodes-fit .ensures)))))))
+unfolding shape shapeWith elementsBound
+returns-7 c = first-holds _ _ _ (right-with-head _ _ (c .before .before .before .before .before .before .before .before .before .before .before .before .before .before .before .before .before .before .count-in .ensures _ (c .before .before .before .before .before .before .before .before .before .before .before .before .before .before .before .before .before .before .before .before .before .pre .0)) (c .before .before .before .before .before .before .before .before .before .before .before .before .before .before .before .before .before .if1 .left)) (first-holds _ _ _ (eq-eqb _ _ (sym (c .before .before .before .before .before .before .before .before .before .before .before .before .before .before .before .before .before .before .count-in .ensures _ (c .before .before .before .before .before .before .before .before .before .before .before .before .before .before .before .before .before .before .before .before .before .pre .0)) ∙ c .before .before .before .before .before .before .before .before .before .before .before .before .before .before .before .before .before .if1 .left)) (first-holds _ _ _ (sym (c .before .before .before .before .before .before .before .before .before .before .before .before .before .before .before .before .sections-fit .ensures) ∙ not-false _ (c .before .before .before .before .before .before .before .before .before .before .before .before .before .before .before .if2 .left)) (first-holds _ _ _ (sym (c .before .before .before .before .before .before .before .before .before .before .before .before .before .before .bodies-covered .ensures) ∙ not-false _ (c .before .before .before .before .before .before .before .before .before .before .before .before .before .if3 .left)) (first-holds _ _ _ (eq-eqb _ _ (bound _ _ _ _ (c .before .before .before .before .before .before .before .before .before .before .before .field-at2 .ensures .0) (c .before .before .before .before .before .before .before .before .before .before .before .before .field-at .ensures .0) (c .before .before .before .before .before .before .before .before .before .before .count-in2 .ensures _ (c .before .before .before .before .before .before .before .before .before .before .before .before .before .before .before .before .before .before .before .before .before .pre .0)) (c .before .before .before .before .before .before .before .before .before .if4 .left))) (first-holds _ _ _ (le-leb _ _ (rw (c .before .before .before .before .before .before .before .before .cells .ensures) at (c .before .before .before .before .before .before .before .if5 .left))) (first-holds _ _ _ (sym (c .before .before .before .before .before .used-once .ensures .once) ∙ not-false _ (c .before .if6 .left)) (c .nodes-fit .ensures)))))))
 
 pub shape-holds-spec : {M : Type 1} → statement M
 shape-holds-spec =
@@ -102,6 +108,8 @@ shape-holds-spec =
     cells-requires
     returns-5
     used-once-requires
+    same-length
     returns-6
     nodes-fit-requires
+    same-length-2
     returns-7)

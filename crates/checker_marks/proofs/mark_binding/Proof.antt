@@ -1,23 +1,24 @@
-use native.Mathlib.Omega.{arith}
-use Prim.Native.Nat.{_-_, _≤_}
-use mathlib.Core.Path.{sym, _∙_}
-use mathlib.Core.Bool.{true}
-use borrow.Author.Tests.{not-true, not-false}
 use borrow.Author.Needs.{needs}
+use native.Mathlib.Omega.{arith}
+use Prim.Native.Nat.{ℕ, _-_, _≤_}
+use Rattle.sheet.specs.declared.Record.{Record}
+use Rattle.sheet_rules.specs.Uses.{constantUses}
+use mathlib.Core.Path.{sym, _∙_}
+use mathlib.Core.Path.{ap}
 use Rattle.sheet_rules.specs.Fields.{sumBelow}
-use Rattle.sheet_rules.proofs.Fields.{number-absent}
-use Rattle.checker_marks.specs.Marks.{Marked}
-use Rattle.checker_marks.proofs.Marks.{marked-none, same-length, loop-start, loop-more, loop-twice, loop-end, was}
-use Rattle.checker_marks.proofs.Added.{constantTurn, constant-added, binding-absent, binding-added}
-use Rattle.sheet.proofs.Sheet.{count-limit, present-below}
+use Rattle.checker_pass.specs.Marks.{Marked}
+use Rattle.checker_pass.proofs.Marking.{marked-as, loop-start, loop-more, loop-end}
+use lib.Dec.{eqb}
+use Rattle.sheet_rules.specs.Fields.{oneIf}
+use Rattle.checker_pass.proofs.Added.{constantTurn, over-absent, over-present, constants-added}
 use Rattle.checker_marks.proofs.mark_binding.Statement.{statement}
 use Rattle.checker_marks.proofs.mark_binding.Tie as tie
 
 abbrev Inv-loop : tie.InvT-loop
-Inv-loop sheet directory marks₀ count i r k total j₀ marks j = (j ≤ total) × Marked sheet count marks₀ marks (λ n. sumBelow j (constantTurn sheet k r n)) true
+Inv-loop sheet directory marks₀ count i r total j₀ marks j = (j ≤ total) × Marked count 0 marks₀ marks (λ n. sumBelow j (constantTurn r n))
 
 abbrev μ-loop : tie.MeasureT-loop
-μ-loop sheet directory marks₀ count i r k total j₀ marks j = total - j
+μ-loop sheet directory marks₀ count i r total j₀ marks j = total - j
 
 read-requires : tie.Need-read-requires Inv-loop μ-loop
 read-requires c κs = search needs
@@ -29,28 +30,13 @@ enum-told : tie.Need-enum-told Inv-loop μ-loop
 enum-told c = search needs
 
 returns : tie.Need-returns Inv-loop μ-loop
-returns c = marked-none _ _ _ _ (λ n l. number-absent _ _ (sym (c .before .before .read .ensures) ∙ c .enum-told .given .1))
+returns c = over-absent _ _ _ _ (λ (b : Record) (n : ℕ). constantUses (c .before .before .before .before .before .args .sheet .now) n b) (sym (c .before .before .read .ensures) ∙ c .enum-told .given .1)
 
-cast-read : tie.Need-cast-read Inv-loop μ-loop
-cast-read c = search needs
+cast-field-at : tie.Need-cast-field-at Inv-loop μ-loop
+cast-field-at c = search needs
 
-read-requires-2 : tie.Need-read-requires-2 Inv-loop μ-loop
-read-requires-2 c κs = search needs
-
-enum-known-c : tie.Need-enum-known-c Inv-loop μ-loop
-enum-known-c c = search needs
-
-enum-told-2 : tie.Need-enum-told-2 Inv-loop μ-loop
-enum-told-2 c = search needs
-
-returns-2 : tie.Need-returns-2 Inv-loop μ-loop
-returns-2 c = marked-none _ _ _ _ (λ n l. binding-absent (c .before .before .before .before .before .before .before .before .before .args .sheet .now) _ n _ (sym (c .before .before .before .before .before .before .before .read .ensures) ∙ c .before .before .before .before .before .r .given .1) (sym (c .before .before .read2 .ensures) ∙ c .enum-told2 .given .1))
-
-add-k : tie.Need-add-k Inv-loop μ-loop
-add-k c = omega (arith, count-limit (c .before .before .before .before .before .before .before .before .before .before .before .args .sheet .now) 4, present-below (c .before .before .before .before .before .before .before .before .before .before .before .args .sheet .now) 4 _ _ (sym (c .before .before .before .before .read2 .ensures) ∙ c .before .before .c .given .1))
-
-cast-total : tie.Need-cast-total Inv-loop μ-loop
-cast-total c = search needs
+field-at-requires : tie.Need-field-at-requires Inv-loop μ-loop
+field-at-requires c κs = search needs
 
 loop-holds : tie.Need-loop-holds Inv-loop μ-loop
 loop-holds c = (omega arith, loop-start _ _ _ _)
@@ -62,10 +48,7 @@ field-requires : tie.Need-field-requires Inv-loop μ-loop
 field-requires c κs = search needs
 
 mark-requires : tie.Need-mark-requires Inv-loop μ-loop
-mark-requires c κs = (omega (arith, count-limit (c .before .before .before .before .before .before .before .before .before .before .before .before .before .before .before .before .args .sheet .now) 6, c .before .before .before .before .before .before .before .before .before .before .before .before .before .before .before .before .pre .1 .0), (omega arith, same-length _ _ _ _ _ (c .before .before .before .loop .inv .1) ∙ c .before .before .before .before .before .before .before .before .before .before .before .before .before .before .before .before .pre .1 .1))
-
-returns-3 : tie.Need-returns-3 Inv-loop μ-loop
-returns-3 c = binding-added _ _ _ _ _ _ _ _ (sym (c .before .before .before .before .before .before .before .before .before .before .before .before .before .before .before .before .read .ensures) ∙ c .before .before .before .before .before .before .before .before .before .before .before .before .before .before .r .given .1) (sym (c .before .before .before .before .before .before .before .before .before .before .before .read2 .ensures) ∙ c .before .before .before .before .before .before .before .before .before .c .given .1) (loop-twice _ _ _ _ _ (constantTurn (c .before .before .before .before .before .before .before .before .before .before .before .before .before .before .before .before .before .before .args .sheet .now) _ _) (c .before .before .before .before .before .loop .j) _ (c .before .before .before .before .loop-test .taken) (c .before .before .before .before .before .loop .inv .1) (constant-added _ _ _ _ _ _ _ (c .before .before .before .before .before .loop .j) _ (c .before .before .before .before .before .before .before .before .before .before .before .before .before .before .before .before .before .before .pre .1 .0) (c .before .before .field .ensures .0) (was _ _ _ _ _ _ _ (not-true _ (c .if1 .taken)) (c .before .mark .ensures (c .before .before .before .before .before .before .before .before .before .before .before .before .before .before .before .before .before .before .args .sheet .now)))))
+mark-requires c κs = (omega (arith, c .before .before .before .loop .inv .1 .kept .long, c .before .before .before .before .before .before .before .before .before .before .before .before .pre .1), omega arith)
 
 add-j : tie.Need-add-j Inv-loop μ-loop
 add-j c = search needs
@@ -74,10 +57,13 @@ loop-less : tie.Need-loop-less Inv-loop μ-loop
 loop-less c = search needs
 
 loop-again : tie.Need-loop-again Inv-loop μ-loop
-loop-again c = (omega arith, loop-more _ _ _ _ _ (constantTurn (c .before .before .before .before .before .before .before .before .before .before .before .before .before .before .before .before .before .before .args .sheet .now) _ _) (c .before .before .before .before .before .loop .j) true (c .before .before .before .before .before .loop .inv .1) (constant-added _ _ _ _ _ _ _ (c .before .before .before .before .before .loop .j) _ (c .before .before .before .before .before .before .before .before .before .before .before .before .before .before .before .before .before .before .pre .1 .0) (c .before .before .field .ensures .0) (was _ _ _ _ _ _ _ (not-false _ (c .if1 .left)) (c .before .mark .ensures (c .before .before .before .before .before .before .before .before .before .before .before .before .before .before .before .before .before .before .args .sheet .now)))))
+loop-again c = (omega arith, loop-more _ _ _ _ _ (constantTurn _) (c .before .before .before .before .before .before .loop .j) (c .before .before .before .before .before .before .loop .inv .1) (marked-as _ _ _ _ _ _ (λ n l. ap (λ (x : ℕ). oneIf (eqb x n)) (c .before .before .before .field .ensures .0)) (c .before .before .mark .ensures)))
 
-returns-4 : tie.Need-returns-4 Inv-loop μ-loop
-returns-4 c = binding-added _ _ _ _ _ _ _ _ (sym (c .before .before .before .before .before .before .before .before .before .before .before .before .read .ensures) ∙ c .before .before .before .before .before .before .before .before .before .before .r .given .1) (sym (c .before .before .before .before .before .before .before .read2 .ensures) ∙ c .before .before .before .before .before .c .given .1) (loop-end _ _ _ _ (constantTurn (c .before .before .before .before .before .before .before .before .before .before .before .before .before .before .args .sheet .now) _ _) (c .before .loop .j) _ (omega arith) (c .before .loop .inv .1))
+same-length : tie.Need-same-length Inv-loop μ-loop
+same-length c = c .before .loop .inv .1 .kept .long
+
+returns-2 : tie.Need-returns-2 Inv-loop μ-loop
+returns-2 c = over-present _ _ _ _ _ _ (λ (b : Record) (n : ℕ). constantUses (c .before .before .before .before .before .before .before .before .before .before .args .sheet .now) n b) (sym (c .before .before .before .before .before .before .before .read .ensures) ∙ c .before .before .before .before .before .r .given .1) (constants-added _ _ _ _ _ _ _ (c .before .before .field-at .ensures .0) (loop-end _ _ _ _ (constantTurn _) (c .before .loop .j) _ (omega arith) (c .before .loop .inv .1)))
 
 pub mark-binding-spec : {M : Type 1} → statement M
 mark-binding-spec =
@@ -89,19 +75,14 @@ mark-binding-spec =
     enum-known-r
     enum-told
     returns
-    cast-read
-    read-requires-2
-    enum-known-c
-    enum-told-2
-    returns-2
-    add-k
-    cast-total
+    cast-field-at
+    field-at-requires
     loop-holds
     add-field
     field-requires
     mark-requires
-    returns-3
     add-j
     loop-less
     loop-again
-    returns-4)
+    same-length
+    returns-2)

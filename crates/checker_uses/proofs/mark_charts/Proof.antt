@@ -1,33 +1,34 @@
-use native.Mathlib.Omega.{arith}
-use Prim.Native.Nat.{_-_, _≤_}
-use mathlib.Core.Path.{_∙_}
-use mathlib.Core.Bool.{true}
-use borrow.Author.Tests.{not-true, not-false}
 use borrow.Author.Needs.{needs}
+use native.Mathlib.Omega.{arith}
+use Prim.Native.Nat.{_-_, _*_, _≤_}
+use mathlib.Core.Path.{_≡_}
+use Rattle.sheet.proofs.Sheet.{count-limit}
 use Rattle.sheet_rules.specs.Fields.{sumBelow}
-use Rattle.checker_marks.specs.Marks.{Marked}
-use Rattle.checker_marks.proofs.Marks.{same-length, loop-start, loop-more, loop-twice, loop-end, was}
-use Rattle.checker_uses.proofs.Counted.{chartTurn}
+use Rattle.sheet_rules.specs.Uses.{overCharts}
+use Rattle.checker_pass.specs.Marks.{RootsMarked}
+use Rattle.checker_pass.proofs.Marking.{count-start, count-more, count-end}
+use Rattle.checker_pass.proofs.Added.{chartTurn}
+use Rattle.checker_pass.proofs.Seen.{roots-start, roots-more, roots-end}
 use Rattle.checker_uses.proofs.mark_charts.Statement.{statement}
 use Rattle.checker_uses.proofs.mark_charts.Tie as tie
 
 abbrev Inv-loop : tie.InvT-loop
-Inv-loop sheet directory marks₀ count total i₀ marks i = (i ≤ total) × Marked sheet count marks₀ marks (λ n. sumBelow i (chartTurn sheet n)) true
+Inv-loop sheet directory marks₀ count total gone₀ i₀ marks gone i = (i ≤ total) × (gone ≤ 65536 * i) × (gone ≡ sumBelow i (chartTurn sheet)) × RootsMarked sheet i count marks₀ marks
 
 abbrev μ-loop : tie.MeasureT-loop
-μ-loop sheet directory marks₀ count total i₀ marks i = total - i
+μ-loop sheet directory marks₀ count total gone₀ i₀ marks gone i = total - i
 
 count-in-requires : tie.Need-count-in-requires Inv-loop μ-loop
 count-in-requires c κs = search needs
 
 loop-holds : tie.Need-loop-holds Inv-loop μ-loop
-loop-holds c = (omega arith, loop-start _ _ _ _)
+loop-holds c = (omega arith, omega arith, count-start _, roots-start _ _ _ (c .before .before .before .pre .1 .1))
 
 mark-chart-requires : tie.Need-mark-chart-requires Inv-loop μ-loop
-mark-chart-requires c κs = (c .before .before .before .before .before .pre .0, (c .before .before .before .before .before .pre .1 .0, same-length _ _ _ _ _ (c .before .before .loop .inv .1) ∙ c .before .before .before .before .before .pre .1 .1))
+mark-chart-requires c κs = (c .before .before .before .before .before .before .pre .0, omega (arith, c .before .before .loop .inv .3 .kept .long, c .before .before .before .before .before .before .pre .1 .0))
 
-returns : tie.Need-returns Inv-loop μ-loop
-returns c = loop-twice _ _ _ _ _ (chartTurn (c .before .before .before .before .before .before .before .args .sheet .now)) (c .before .before .before .before .loop .i) _ (omega (arith, c .before .before .before .before .before .count-in .ensures (c .before .before .before .before .before .before .before .args .sheet .now) (c .before .before .before .before .before .before .before .pre .0))) (c .before .before .before .before .loop .inv .1) (was _ _ _ _ _ _ _ (not-true _ (c .if1 .taken)) (c .before .mark-chart .ensures))
+add-gone : tie.Need-add-gone Inv-loop μ-loop
+add-gone c = omega (arith, c .before .before .before .before .before .loop .inv .1, c .before .before .mark-chart .ensures .1, count-limit (c .before .before .before .before .before .before .before .before .before .args .sheet .now) 4, c .before .before .before .before .before .before .count-in .ensures (c .before .before .before .before .before .before .before .before .before .args .sheet .now) (c .before .before .before .before .before .before .before .before .before .pre .0))
 
 add-i : tie.Need-add-i Inv-loop μ-loop
 add-i c = search needs
@@ -36,10 +37,14 @@ loop-less : tie.Need-loop-less Inv-loop μ-loop
 loop-less c = search needs
 
 loop-again : tie.Need-loop-again Inv-loop μ-loop
-loop-again c = (omega arith, loop-more _ _ _ _ _ (chartTurn (c .before .before .before .before .before .before .before .args .sheet .now)) (c .before .before .before .before .loop .i) true (c .before .before .before .before .loop .inv .1) (was _ _ _ _ _ _ _ (not-false _ (c .if1 .left)) (c .before .mark-chart .ensures)))
+loop-again c = (omega arith, omega (arith, c .before .before .before .before .before .loop .inv .1, c .before .before .mark-chart .ensures .1), count-more _ (c .before .before .before .before .before .loop .i) _ _ (c .before .before .before .before .before .loop .inv .2) (c .before .before .mark-chart .ensures .0), roots-more _ _ _ _ _ _ (c .before .before .before .before .before .loop .inv .3) (c .before .before .mark-chart .ensures .2))
 
-returns-2 : tie.Need-returns-2 Inv-loop μ-loop
-returns-2 c = loop-end _ _ _ _ (chartTurn (c .before .before .before .before .args .sheet .now)) (c .before .loop .i) _ (omega (arith, c .before .before .count-in .ensures (c .before .before .before .before .args .sheet .now) (c .before .before .before .before .pre .0))) (c .before .loop .inv .1)
+same-length : tie.Need-same-length Inv-loop μ-loop
+same-length c = c .before .loop .inv .3 .kept .long
+
+returns : tie.Need-returns Inv-loop μ-loop
+unfolding overCharts
+returns c = (count-end _ (c .before .loop .i) _ _ (omega (arith, c .before .before .count-in .ensures (c .before .before .before .before .before .args .sheet .now) (c .before .before .before .before .before .pre .0))) (c .before .loop .inv .2), omega (arith, c .before .loop .inv .1, count-limit (c .before .before .before .before .before .args .sheet .now) 4, c .before .before .count-in .ensures (c .before .before .before .before .before .args .sheet .now) (c .before .before .before .before .before .pre .0)), roots-end _ _ _ _ _ _ (omega (arith, c .before .before .count-in .ensures (c .before .before .before .before .before .args .sheet .now) (c .before .before .before .before .before .pre .0))) (c .before .loop .inv .3))
 
 pub mark-charts-spec : {M : Type 1} → statement M
 mark-charts-spec =
@@ -50,8 +55,9 @@ mark-charts-spec =
     count-in-requires
     loop-holds
     mark-chart-requires
-    returns
+    add-gone
     add-i
     loop-less
     loop-again
-    returns-2)
+    same-length
+    returns)

@@ -1,65 +1,78 @@
-use native.Mathlib.Omega.{arith}
-use Prim.Native.Nat.{ℕ}
-use mathlib.Core.Path.{_≡_, _∙_}
-use lib.ListN.{length, length-replicate, getD-replicate}
-use borrow.Author.Tests.{not-true, not-false}
 use borrow.Author.Needs.{needs}
-use Rattle.sheet.proofs.Sheet.{count-limit}
-use Rattle.checker_marks.proofs.Marks.{same-length, was}
-use Rattle.checker_uses.proofs.Counted.{Counted, charts-twice, bindings-twice, counted-start, counted-end, unused, operands-twice, counted-more}
+use native.Mathlib.Omega.{arith}
+use Prim.Native.Nat.{_+_, _-_, _≤_}
+use mathlib.Core.Path.{_≡_, refl, sym, _∙_}
+use Rattle.sheet.specs.Sheet.{countOf}
+use Rattle.sheet.proofs.Sheet.{count-limit, record-present}
+use Rattle.sheet_rules.specs.Uses.{goneOver}
+use Rattle.sheet_rules.proofs.Fields.{number-present}
+use Rattle.checker_pass.specs.Marks.{Kept}
+use Rattle.checker_pass.proofs.Marking.{kept-all, kept-set, kept-then, kept-lower, kept-at, room-set}
+use Rattle.checker_pass.proofs.Seen.{agreed-start}
+use Rattle.checker_pass.proofs.Going.{Going, going-start, going-more, test-gives}
 use Rattle.checker_uses.proofs.used_once.Statement.{statement}
 use Rattle.checker_uses.proofs.used_once.Tie as tie
 
 abbrev Inv-loop : tie.InvT-loop
-Inv-loop sheet directory count marks₀ n₀ marks n = (length marks ≡ 4096) × Counted sheet n marks
+Inv-loop sheet directory marks₀ count bodies bindings gone₀ once₀ n₀ marks gone once n = (gone + n ≡ goneOver sheet) × (gone + n ≤ 268378110) × Kept (countOf sheet 6) marks₀ marks × Going sheet n marks once
 
 abbrev μ-loop : tie.MeasureT-loop
-μ-loop sheet directory count marks₀ n₀ marks n = n
+μ-loop sheet directory marks₀ count bodies bindings gone₀ once₀ n₀ marks gone once n = n
 
 count-in-requires : tie.Need-count-in-requires Inv-loop μ-loop
 count-in-requires c κs = search needs
 
-mark-charts-requires : tie.Need-mark-charts-requires Inv-loop μ-loop
-mark-charts-requires c κs = (c .before .before .before .pre, (c .before .count-in .ensures (c .before .before .before .args .sheet .now) (c .before .before .before .pre), length-replicate {A = ℕ} 4096 0))
+clear-requires : tie.Need-clear-requires Inv-loop μ-loop
+clear-requires c κs = omega (arith, c .before .count-in .ensures (c .before .before .before .before .args .sheet .now) (c .before .before .before .before .pre .0), c .before .before .before .before .pre .1)
 
-returns : tie.Need-returns Inv-loop μ-loop
-returns c = charts-twice _ _ _ _ (c .before .before .before .count-in .ensures (c .before .before .before .before .before .args .sheet .now) (c .before .before .before .before .before .pre)) (λ m l. getD-replicate 4096 m 0 0 (omega (arith, count-limit (c .before .before .before .before .before .args .sheet .now) 6, c .before .before .before .count-in .ensures (c .before .before .before .before .before .args .sheet .now) (c .before .before .before .before .before .pre)))) (was _ _ _ _ _ _ _ (not-true _ (c .if1 .taken)) (c .before .mark-charts .ensures))
+mark-charts-requires : tie.Need-mark-charts-requires Inv-loop μ-loop
+mark-charts-requires c κs = (c .before .before .before .before .before .before .before .before .pre .0, (omega (arith, c .before .before .before .before .before .count-in .ensures (c .before .before .before .before .before .before .before .before .args .sheet .now) (c .before .before .before .before .before .before .before .before .pre .0), c .before .before .before .before .before .before .before .before .pre .1, c .before .before .before .clear .ensures .kept .long), c .before .before .before .clear .ensures .inside))
 
 mark-bindings-requires : tie.Need-mark-bindings-requires Inv-loop μ-loop
-mark-bindings-requires c κs = (c .before .before .before .before .before .before .pre, (c .before .before .before .before .count-in .ensures (c .before .before .before .before .before .before .args .sheet .now) (c .before .before .before .before .before .before .pre), same-length _ _ _ _ _ (was _ _ _ _ _ _ _ (not-false _ (c .before .if1 .left)) (c .before .before .mark-charts .ensures)) ∙ length-replicate {A = ℕ} 4096 0))
+mark-bindings-requires c κs = (c .before .before .before .before .before .before .before .before .before .before .before .before .pre .0, omega (arith, c .before .before .before .before .before .before .before .before .before .count-in .ensures (c .before .before .before .before .before .before .before .before .before .before .before .before .args .sheet .now) (c .before .before .before .before .before .before .before .before .before .before .before .before .pre .0), c .before .before .before .before .before .before .before .before .before .before .before .before .pre .1, c .before .before .before .before .before .before .before .clear .ensures .kept .long, c .before .before .before .mark-charts .ensures .2 .kept .long))
 
-returns-2 : tie.Need-returns-2 Inv-loop μ-loop
-returns-2 c = bindings-twice _ _ _ _ _ (c .before .before .before .before .before .before .count-in .ensures (c .before .before .before .before .before .before .before .before .args .sheet .now) (c .before .before .before .before .before .before .before .before .pre)) (λ m l. getD-replicate 4096 m 0 0 (omega (arith, count-limit (c .before .before .before .before .before .before .before .before .args .sheet .now) 6, c .before .before .before .before .before .before .count-in .ensures (c .before .before .before .before .before .before .before .before .args .sheet .now) (c .before .before .before .before .before .before .before .before .pre)))) (was _ _ _ _ _ _ _ (not-false _ (c .before .before .before .if1 .left)) (c .before .before .before .before .mark-charts .ensures)) (was _ _ _ _ _ _ _ (not-true _ (c .if2 .taken)) (c .before .mark-bindings .ensures))
+add-gone : tie.Need-add-gone Inv-loop μ-loop
+add-gone c = omega (arith, c .before .before .before .before .before .before .mark-charts .ensures .1, c .before .before .mark-bindings .ensures .0, count-limit (c .before .before .before .before .before .before .before .before .before .before .before .before .before .before .before .args .sheet .now) 7)
 
 loop-holds : tie.Need-loop-holds Inv-loop μ-loop
-loop-holds c = (same-length _ _ _ _ _ (was _ _ _ _ _ _ _ (not-false _ (c .if2 .left)) (c .before .mark-bindings .ensures)) ∙ same-length _ _ _ _ _ (was _ _ _ _ _ _ _ (not-false _ (c .before .before .before .if1 .left)) (c .before .before .before .before .mark-charts .ensures)) ∙ length-replicate {A = ℕ} 4096 0, counted-start _ _ _ _ _ (c .before .before .before .before .before .before .count-in .ensures (c .before .before .before .before .before .before .before .before .args .sheet .now) (c .before .before .before .before .before .before .before .before .pre)) (λ m l. getD-replicate 4096 m 0 0 (omega (arith, count-limit (c .before .before .before .before .before .before .before .before .args .sheet .now) 6, c .before .before .before .before .before .before .count-in .ensures (c .before .before .before .before .before .before .before .before .args .sheet .now) (c .before .before .before .before .before .before .before .before .pre)))) (was _ _ _ _ _ _ _ (not-false _ (c .before .before .before .if1 .left)) (c .before .before .before .before .mark-charts .ensures)) (was _ _ _ _ _ _ _ (not-false _ (c .if2 .left)) (c .before .mark-bindings .ensures)))
+unfolding goneOver
+loop-holds c = (omega (arith, c .before .before .before .before .before .before .mark-charts .ensures .0, c .before .before .mark-bindings .ensures .0, c .before .before .before .before .before .before .before .before .before .before .before .before .count-in .ensures (c .before .before .before .before .before .before .before .before .before .before .before .before .before .before .before .args .sheet .now) (c .before .before .before .before .before .before .before .before .before .before .before .before .before .before .before .pre .0)), omega (arith, c .before .before .before .before .before .before .mark-charts .ensures .1, c .before .before .mark-bindings .ensures .0, count-limit (c .before .before .before .before .before .before .before .before .before .before .before .before .before .before .before .args .sheet .now) 7, count-limit (c .before .before .before .before .before .before .before .before .before .before .before .before .before .before .before .args .sheet .now) 6, c .before .before .before .before .before .before .before .before .before .before .before .before .count-in .ensures (c .before .before .before .before .before .before .before .before .before .before .before .before .before .before .before .args .sheet .now) (c .before .before .before .before .before .before .before .before .before .before .before .before .before .before .before .pre .0)), kept-all _ _, going-start _ _ _ (c .before .before .before .before .before .before .before .before .before .before .before .before .count-in .ensures (c .before .before .before .before .before .before .before .before .before .before .before .before .before .before .before .args .sheet .now) (c .before .before .before .before .before .before .before .before .before .before .before .before .before .before .before .pre .0)) (agreed-start _ _ _ _ _ _ (c .before .before .before .before .before .before .before .before .before .before .before .before .count-in .ensures (c .before .before .before .before .before .before .before .before .before .before .before .before .before .before .before .args .sheet .now) (c .before .before .before .before .before .before .before .before .before .before .before .before .before .before .before .pre .0)) refl (c .before .before .before .before .before .before .mark-charts .ensures .2) (c .before .before .mark-bindings .ensures .1)))
 
 sub-n : tie.Need-sub-n Inv-loop μ-loop
 sub-n c = search needs
 
-mul-k : tie.Need-mul-k Inv-loop μ-loop
-mul-k c = omega (arith, count-limit (c .before .before .before .before .before .before .before .before .before .before .args .sheet .now) 6, c .before .loop .inv .1 .inside)
+mul-mark : tie.Need-mul-mark Inv-loop μ-loop
+mul-mark c = omega (arith, c .before .loop .inv .2 .long, c .before .loop .inv .3 .inside, c .before .before .before .before .before .before .before .before .before .before .before .before .before .before .before .before .before .pre .1)
 
-array-read-k : tie.Need-array-read-k Inv-loop μ-loop
-array-read-k c = omega (arith, count-limit (c .before .before .before .before .before .before .before .before .before .before .args .sheet .now) 6, c .before .loop .inv .1 .inside)
+slice-read-mark : tie.Need-slice-read-mark Inv-loop μ-loop
+slice-read-mark c = omega (arith, c .before .before .loop .inv .2 .long, c .before .before .loop .inv .3 .inside, c .before .before .before .before .before .before .before .before .before .before .before .before .before .before .before .before .before .before .pre .1)
 
-returns-3 : tie.Need-returns-3 Inv-loop μ-loop
-returns-3 c = unused _ _ _ _ (omega arith) (c .before .before .loop .inv .1) (c .if3 .taken)
+mul-marks : tie.Need-mul-marks Inv-loop μ-loop
+mul-marks c = omega (arith, c .before .before .loop .inv .2 .long, c .before .before .loop .inv .3 .inside, c .before .before .before .before .before .before .before .before .before .before .before .before .before .before .before .before .before .before .pre .1)
+
+slice-write-marks : tie.Need-slice-write-marks Inv-loop μ-loop
+slice-write-marks c = omega (arith, c .before .before .loop .inv .2 .long, c .before .before .loop .inv .3 .inside, c .before .before .before .before .before .before .before .before .before .before .before .before .before .before .before .before .before .before .pre .1)
+
+still-once-requires : tie.Need-still-once-requires Inv-loop μ-loop
+still-once-requires c κs = search needs
 
 mark-operands-requires : tie.Need-mark-operands-requires Inv-loop μ-loop
-mark-operands-requires c κs = (c .before .before .before .before .before .before .before .before .before .before .before .before .pre, (omega (arith, count-limit (c .before .before .before .before .before .before .before .before .before .before .before .before .args .sheet .now) 6, c .before .before .before .loop .inv .1 .inside), (omega arith, c .before .before .before .loop .inv .0)))
+mark-operands-requires c κs = (c .before .before .before .before .before .before .before .before .before .before .before .before .before .before .before .before .before .before .before .before .pre .0, (room-set (c .before .before .before .before .loop .marks) (c .before .before .before .before .loop .n - 1) _ (omega (arith, c .before .before .before .before .loop .inv .2 .long, c .before .before .before .before .loop .inv .3 .inside, c .before .before .before .before .before .before .before .before .before .before .before .before .before .before .before .before .before .before .before .before .pre .1, c .before .before .before .before .before .before .before .mark-bindings .ensures .1 .kept .long, c .before .before .before .before .before .before .before .before .before .before .before .mark-charts .ensures .2 .kept .long, c .before .before .before .before .before .before .before .before .before .before .before .before .before .before .before .clear .ensures .kept .long)), omega (arith, c .before .before .slice-known5 .given (c .before .before .before .before .loop .n - 1))))
 
-returns-4 : tie.Need-returns-4 Inv-loop μ-loop
-returns-4 c = operands-twice _ _ _ _ (omega arith) (c .before .before .before .before .before .loop .inv .1) _ (c .before .before .before .if3 .left) (was _ _ _ _ _ _ _ (not-true _ (c .if4 .taken)) (c .before .mark-operands .ensures))
+add-gone-2 : tie.Need-add-gone-2 Inv-loop μ-loop
+add-gone-2 c = omega (arith, c .before .before .before .before .before .before .before .loop .inv .1, c .before .before .mark-operands .ensures .1)
 
 loop-less : tie.Need-loop-less Inv-loop μ-loop
 loop-less c = search needs
 
 loop-again : tie.Need-loop-again Inv-loop μ-loop
-loop-again c = (same-length _ _ _ _ _ (was _ _ _ _ _ _ _ (not-false _ (c .if4 .left)) (c .before .mark-operands .ensures)) ∙ c .before .before .before .before .before .loop .inv .0, counted-more _ _ _ _ (omega arith) (c .before .before .before .before .before .loop .inv .1) _ (c .before .before .before .if3 .left) (was _ _ _ _ _ _ _ (not-false _ (c .if4 .left)) (c .before .mark-operands .ensures)))
+loop-again c = (omega (arith, c .before .before .before .before .before .before .before .loop .inv .0, c .before .before .mark-operands .ensures .0 ∙ number-present _ _ _ (record-present (c .before .before .before .before .before .before .before .before .before .before .before .before .before .before .before .before .before .before .before .before .before .before .before .args .sheet .now) 6 _ (omega (arith, c .before .before .before .before .before .before .before .loop .inv .3 .inside)))), omega (arith, c .before .before .before .before .before .before .before .loop .inv .1, c .before .before .mark-operands .ensures .1), kept-then _ _ _ _ (c .before .before .before .before .before .before .before .loop .inv .2) (kept-then _ _ _ _ (kept-set _ _ _ _ (omega (arith, c .before .before .before .before .before .before .before .loop .inv .3 .inside))) (kept-lower _ _ _ _ (omega (arith, c .before .before .before .before .before .before .before .loop .inv .3 .inside)) (c .before .before .mark-operands .ensures .2 .kept))), going-more _ _ _ _ _ (omega arith) (c .before .before .before .before .before .before .before .loop .inv .3) _ _ _ (omega (arith, c .before .before .before .before .before .before .before .loop .inv .2 .long, c .before .before .before .before .before .before .before .loop .inv .3 .inside, c .before .before .before .before .before .before .before .before .before .before .before .before .before .before .before .before .before .before .before .before .before .before .before .pre .1)) refl (c .before .before .before .before .still-once .ensures) (c .before .before .mark-operands .ensures .2))
 
-returns-5 : tie.Need-returns-5 Inv-loop μ-loop
-returns-5 c = counted-end _ _ _ (omega arith) (c .before .loop .inv .1)
+same-length : tie.Need-same-length Inv-loop μ-loop
+same-length c = c .before .loop .inv .2 .long ∙ c .before .before .before .before .mark-bindings .ensures .1 .kept .long ∙ c .before .before .before .before .before .before .before .before .mark-charts .ensures .2 .kept .long ∙ c .before .before .before .before .before .before .before .before .before .before .before .before .clear .ensures .kept .long
+
+returns : tie.Need-returns Inv-loop μ-loop
+returns c = test-gives _ _ _ _ _ _ (omega arith) (kept-then _ _ _ _ (kept-at _ _ _ _ (c .before .before .before .before .before .before .before .before .before .before .before .before .before .before .count-in .ensures (c .before .before .before .before .before .before .before .before .before .before .before .before .before .before .before .before .before .args .sheet .now) (c .before .before .before .before .before .before .before .before .before .before .before .before .before .before .before .before .before .pre .0)) (kept-then _ _ _ _ (c .before .before .before .before .before .before .before .before .before .before .before .before .clear .ensures .kept) (kept-then _ _ _ _ (c .before .before .before .before .before .before .before .before .mark-charts .ensures .2 .kept) (c .before .before .before .before .mark-bindings .ensures .1 .kept)))) (c .before .loop .inv .2)) (c .before .loop .inv .3) (c .before .loop .inv .0)
 
 pub used-once-spec : {M : Type 1} → statement M
 used-once-spec =
@@ -68,17 +81,20 @@ used-once-spec =
     Inv-loop
     μ-loop
     count-in-requires
+    clear-requires
     mark-charts-requires
-    returns
     mark-bindings-requires
-    returns-2
+    add-gone
     loop-holds
     sub-n
-    mul-k
-    array-read-k
-    returns-3
+    mul-mark
+    slice-read-mark
+    mul-marks
+    slice-write-marks
+    still-once-requires
     mark-operands-requires
-    returns-4
+    add-gone-2
     loop-less
     loop-again
-    returns-5)
+    same-length
+    returns)

@@ -1,4 +1,0 @@
-pub mod Sums
-pub mod Trees
-pub mod Marks
-pub mod Added

@@ -1,0 +1,5 @@
+pub mod Times
+pub mod Marking
+pub mod Added
+pub mod Seen
+pub mod Going

@@ -1,0 +1,84 @@
+use native.Mathlib.Omega.{arith}
+use mathlib.Core.Path.{_≡_, refl, sym, _∙_}
+use mathlib.Core.Bool.{Bool, true}
+use mathlib.Core.List.{List}
+use Prim.Native.Nat.{ℕ, _-_, _≤_}
+use borrow.Author.Tests.{not-true, not-false}
+use borrow.Author.Needs.{needs}
+use Rattle.sheet.specs.All.{allBelow}
+use Rattle.sheet.proofs.All.{all-more, loop-fails, loop-ends}
+use Rattle.sheet_rules.proofs.Fields.{holds-present, holds-absent}
+use Rattle.sheet.specs.Sheet.{recordOf}
+use Rattle.sheet_rules.specs.Fields.{holds}
+use Rattle.sheet_rules.specs.Static.{recordStatic, sectionStatic}
+use Rattle.checker_reactions.specs.Entries.{Ready}
+use Rattle.checker_statics.proofs.records_static.Statement.{statement}
+use Rattle.checker_statics.proofs.records_static.Tie as tie
+
+abbrev fits : List ℕ → ℕ → ℕ → Bool
+fits s k i = holds (recordOf s k i) (recordStatic s k)
+
+abbrev Inv-loop : tie.InvT-loop
+Inv-loop sheet directory table₀ last₀ previous₀ k count i₀ table last previous i = (i ≤ count) × (allBelow i (fits sheet k) ≡ true) × Ready sheet table last previous
+
+abbrev μ-loop : tie.MeasureT-loop
+μ-loop sheet directory table₀ last₀ previous₀ k count i₀ table last previous i = count - i
+
+count-in-requires : tie.Need-count-in-requires Inv-loop μ-loop
+count-in-requires c κs = search needs
+
+loop-holds : tie.Need-loop-holds Inv-loop μ-loop
+unfolding allBelow
+loop-holds c = (omega arith, refl, c .before .before .pre .1)
+
+read-requires : tie.Need-read-requires Inv-loop μ-loop
+read-requires c κs = search needs
+
+enum-known-r : tie.Need-enum-known-r Inv-loop μ-loop
+enum-known-r c = search needs
+
+enum-told : tie.Need-enum-told Inv-loop μ-loop
+enum-told c = search needs
+
+returns : tie.Need-returns Inv-loop μ-loop
+unfolding sectionStatic
+returns c = (loop-fails _ _ _ _ (c .before .before .before .before .before .count-in .ensures _ (c .before .before .before .before .before .before .before .pre .0)) (c .before .before .before .loop-test .taken) (holds-absent _ _ (sym (c .before .before .read .ensures) ∙ c .enum-told .given .1)), c .before .before .before .before .loop .inv .2)
+
+record-static-requires : tie.Need-record-static-requires Inv-loop μ-loop
+record-static-requires c κs = (c .before .before .before .before .before .before .before .before .before .before .before .pre .0, c .before .before .before .before .before .before .before .before .loop .inv .2)
+
+returns-2 : tie.Need-returns-2 Inv-loop μ-loop
+unfolding sectionStatic
+returns-2 c = (loop-fails _ _ _ _ (c .before .before .before .before .before .before .before .before .before .before .before .count-in .ensures _ (c .before .before .before .before .before .before .before .before .before .before .before .before .before .pre .0)) (c .before .before .before .before .before .before .before .before .before .loop-test .taken) (holds-present _ _ _ (sym (c .before .before .before .before .before .before .before .before .read .ensures) ∙ c .before .before .before .before .before .before .r .given .1) ∙ sym (c .before .record-static .ensures .0) ∙ not-true _ (c .if1 .taken)), c .before .record-static .ensures .1)
+
+add-i : tie.Need-add-i Inv-loop μ-loop
+add-i c = search needs
+
+loop-less : tie.Need-loop-less Inv-loop μ-loop
+loop-less c = search needs
+
+loop-again : tie.Need-loop-again Inv-loop μ-loop
+loop-again c = (omega arith, all-more (c .before .before .before .before .before .before .before .before .before .before .loop .i) _ (c .before .before .before .before .before .before .before .before .before .before .loop .inv .1) (holds-present _ _ _ (sym (c .before .before .before .before .before .before .before .before .read .ensures) ∙ c .before .before .before .before .before .before .r .given .1) ∙ sym (c .before .record-static .ensures .0) ∙ not-false _ (c .if1 .left)), c .before .record-static .ensures .1)
+
+returns-3 : tie.Need-returns-3 Inv-loop μ-loop
+unfolding sectionStatic
+returns-3 c = (loop-ends _ _ _ _ (c .before .before .count-in .ensures _ (c .before .before .before .before .pre .0)) (c .before .loop .inv .0) (c .loop-test .left) (c .before .loop .inv .1), c .before .loop .inv .2)
+
+pub records-static-spec : {M : Type 1} → statement M
+records-static-spec =
+    tie.close
+    (tie.spec
+    Inv-loop
+    μ-loop
+    count-in-requires
+    loop-holds
+    read-requires
+    enum-known-r
+    enum-told
+    returns
+    record-static-requires
+    returns-2
+    add-i
+    loop-less
+    loop-again
+    returns-3)

@@ -1,0 +1,5 @@
+pub mod Sums
+pub mod Trees
+pub mod Homes
+pub mod Bodies
+pub mod Paths

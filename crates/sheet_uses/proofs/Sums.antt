@@ -1,0 +1,105 @@
+-- Laws of sums.
+use Prim.Native.Nat.{ℕ, zero, suc, _+_, _*_, _≤_, _<_}
+use mathlib.Core.Path.{_≡_, refl, sym, ap, _∙_, fun-ext}
+use native.Mathlib.Omega.{arith}
+use native.Mathlib.Decide.{decLt}
+use native.Mathlib.Nat.{zero-mul, add-mul, one-mul}
+use lib.Dec.{eqb}
+use borrow.Author.Tests.{eq-eqb, ne-eqb}
+use Rattle.sheet_rules.specs.Fields.{oneIf, sumBelow}
+
+pub one-same : (n : ℕ) → oneIf (eqb n n) ≡ 1
+one-same n = rw (eq-eqb n n refl) refl
+
+pub one-other : (m n : ℕ) → (m ≡ n → ⊥) → oneIf (eqb m n) ≡ 0
+one-other m n h = rw (ne-eqb m n h) refl
+
+pub sum-same : (n : ℕ) (f g : ℕ → ℕ) → ((i : ℕ) → i < n → f i ≡ g i) → sumBelow n f ≡ sumBelow n g
+unfolding sumBelow
+sum-same zero f g h = refl
+sum-same (suc n) f g h = omega (arith, sum-same n f g (λ i l. h i (omega arith)), h n (omega arith))
+
+pub sum-zero : (n : ℕ) (f : ℕ → ℕ) → ((i : ℕ) → i < n → f i ≡ 0) → sumBelow n f ≡ 0
+unfolding sumBelow
+sum-zero zero f h = refl
+sum-zero (suc n) f h = omega (arith, sum-zero n f (λ i l. h i (omega arith)), h n (omega arith))
+
+pub sum-most : (n : ℕ) (f g : ℕ → ℕ) → ((i : ℕ) → i < n → f i ≤ g i) → sumBelow n f ≤ sumBelow n g
+unfolding sumBelow
+sum-most zero f g h = omega arith
+sum-most (suc n) f g h = omega (arith, sum-most n f g (λ i l. h i (omega arith)), h n (omega arith))
+
+-- the sum over two functions that differ at one place, where the first is 0
+pub sum-changed : (n : ℕ) (f g : ℕ → ℕ) (m : ℕ) → m < n → f m ≡ 0 → ((i : ℕ) → (i ≡ m → ⊥) → g i ≡ f i) → sumBelow n g ≡ sumBelow n f + g m
+unfolding sumBelow
+sum-changed zero f g m l z h = absurd (omega arith)
+sum-changed (suc n) f g m l z h = elim (decLt m n) [
+  | yes q ↦ omega (arith, sum-changed n f g m q z h, h n (λ e. omega arith))
+  | no q ↦ (let e : n ≡ m = omega arith in omega (arith, sum-same n g f (λ i k. h i (λ d. omega arith)), ap f e, ap g e))
+]
+
+pub sum-at : (n : ℕ) (f : ℕ → ℕ) (m : ℕ) → m < n → f m ≤ sumBelow n f
+unfolding sumBelow
+sum-at zero f m l = absurd (omega arith)
+sum-at (suc n) f m l = elim (decLt m n) [
+  | yes q ↦ omega (arith, sum-at n f m q)
+  | no q ↦ (let e : n ≡ m = omega arith in omega (arith, ap f e))
+]
+
+pub sum-longer : (n m : ℕ) (f : ℕ → ℕ) → n ≤ m → sumBelow n f ≤ sumBelow m f
+unfolding sumBelow
+sum-longer n zero f l = let e : n ≡ 0 = omega arith in omega (arith, ap (λ (x : ℕ). sumBelow x f) e)
+sum-longer n (suc m) f l = elim (decLt m n) [
+  | yes q ↦ (let e : n ≡ suc m = omega arith in omega (arith, ap (λ (x : ℕ). sumBelow x f) e))
+  | no q ↦ omega (arith, sum-longer n m f (omega arith))
+]
+
+pub sum-add : (n : ℕ) (f g : ℕ → ℕ) → sumBelow n (λ i. f i + g i) ≡ sumBelow n f + sumBelow n g
+unfolding sumBelow
+sum-add zero f g = refl
+sum-add (suc n) f g = omega (arith, sum-add n f g)
+
+sum-swap : (a b : ℕ) (f : ℕ → ℕ → ℕ) → sumBelow a (λ i. sumBelow b (f i)) ≡ sumBelow b (λ j. sumBelow a (λ i. f i j))
+unfolding sumBelow
+sum-swap zero b f = sym (sum-zero b _ (λ i l. refl))
+sum-swap (suc a) b f = ap (λ (x : ℕ). x + sumBelow b (f a)) (sum-swap a b f) ∙ sym (sum-add b (λ j. sumBelow a (λ i. f i j)) (f a))
+
+sum-times : (n : ℕ) (f : ℕ → ℕ) (c : ℕ) → sumBelow n (λ i. f i * c) ≡ sumBelow n f * c
+unfolding sumBelow
+sum-times zero f c = sym (zero-mul c)
+sum-times (suc n) f c = ap (λ (x : ℕ). x + f n * c) (sum-times n f c) ∙ sym (add-mul (sumBelow n f) (f n) c)
+
+-- terms that are each a number and a weighted sum, together
+pub sum-both : (a b : ℕ) (v f : ℕ → ℕ) (g : ℕ → ℕ → ℕ) (d : ℕ → ℕ) → ((i : ℕ) → v i ≡ f i + sumBelow b (λ m. g i m * d m)) → sumBelow a v ≡ sumBelow a f + sumBelow b (λ m. sumBelow a (λ i. g i m) * d m)
+sum-both a b v f g d h =
+    ap (sumBelow a) (fun-ext h)
+    ∙ sum-add a f (λ i. sumBelow b (λ m. g i m * d m))
+    ∙ ap (λ (x : ℕ). sumBelow a f + x) (sum-swap a b (λ i m. g i m * d m) ∙ sum-same b _ _ (λ m l. sum-times a (λ i. g i m) (d m)))
+
+-- the one term that a number picks
+pub sum-pick : (n m : ℕ) (g : ℕ → ℕ) → m < n → sumBelow n (λ i. oneIf (eqb m i) * g i) ≡ g m
+sum-pick n m g l =
+    sum-changed n (λ i. 0) (λ i. oneIf (eqb m i) * g i) m l refl (λ i d. ap (λ (x : ℕ). x * g i) (one-other m i (λ e. d (sym e))) ∙ zero-mul (g i))
+    ∙ ap (λ (x : ℕ). x + oneIf (eqb m m) * g m) (sum-zero n (λ i. 0) (λ i k. refl))
+    ∙ zero-and (ap (λ (x : ℕ). x * g m) (one-same m) ∙ one-mul (g m))
+  where
+    zero-and : {x : ℕ} → x ≡ g m → 0 + x ≡ g m
+    zero-and e = omega (arith, e)
+
+-- a sum that isn't 0 has a term that isn't
+pub sum-some : (n : ℕ) (f : ℕ → ℕ) → 1 ≤ sumBelow n f → (i : ℕ) × (i < n) × (1 ≤ f i)
+unfolding sumBelow
+sum-some zero f h = absurd (omega arith)
+sum-some (suc n) f h = elim (decLt 0 (f n)) [
+  | yes q ↦ (n, omega arith, q)
+  | no q ↦ (let r = sum-some n f (omega arith) in (r .0, omega (arith, r .1), r .2))
+]
+
+-- two terms
+pub sum-two : (n : ℕ) (f : ℕ → ℕ) (i j : ℕ) → i < j → j < n → f i + f j ≤ sumBelow n f
+unfolding sumBelow
+sum-two zero f i j l k = absurd (omega arith)
+sum-two (suc n) f i j l k = elim (decLt j n) [
+  | yes q ↦ omega (arith, sum-two n f i j l q)
+  | no q ↦ (let e : n ≡ j = omega arith in omega (arith, sum-at n f i (omega arith), ap f e))
+]
