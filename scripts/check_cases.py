@@ -54,6 +54,43 @@ def balanced(leaves):
     return nodes
 
 
+def two_charts(more=(), changed=(), constants=()):
+    """The call has an operand in the second chart, none in the first. More nodes; nodes and roots that are changed; the
+    constants of Int parameters of the second chart."""
+    nodes = [SKIP, SKIP, [2, 1], [40, 2, 0, 0, 2], SKIP, [43, 4, 3], SKIP, SKIP] + [list(n) for n in more]
+    roots = [0, 1, 5, 6, 7]
+    for kind, number, value in changed:
+        {"node": nodes, "root": roots}[kind][number] = value
+    return sheet([
+        [[3, 2, 2]], [], [[1], [1]], [],
+        [[0, 0, 0, 0, 0, 2], [0, len(constants), 0, 0, 2, 3]],
+        [[0, 0, 0, 0, 0, 0, 0, roots[0]], [1, 0, 0, 0, 0, 0, 0, roots[1]], [0, 0, 0, 0, 0, 0, 0, roots[2]],
+         [1, 0, 0, 0, 0, 0, 0, roots[3]], [4, 0, 0, 0, 1, 0, 0, roots[4]]],
+        nodes, [[1] + list(constants)],
+    ])
+
+
+def uses():
+    """Nodes used once, never and twice, as operand, root and constant."""
+    yield two_charts(), 0
+    yield two_charts([[2, 7], [2, 7]], (), [8, 9]), 0
+    # nodes that hang in a body and below a node that nothing uses, above or below the body's root
+    yield two_charts([[43, 4, 3]]), 1
+    yield two_charts([[43, 4, 3]], [("root", 2, 8), ("node", 5, [43, 4, 3])]), 1
+    # the call is a root of the first chart too, where it has no operand; of that chart only, so that its operand is unused
+    yield two_charts((), [("root", 0, 3), ("node", 0, SKIP)]), 1
+    yield two_charts([[40, 0]], [("root", 0, 3), ("node", 5, [43, 4, 0])]), 1
+    # one constant for two parameters; a constant that is a root, an operand, or used by none
+    yield two_charts([[2, 7]], (), [8, 8]), 1
+    yield two_charts((), (), [7]), 1
+    yield two_charts((), (), [2]), 1
+    yield two_charts([[2, 7], [2, 7]], (), [8]), 1
+    # one root for two bodies; nodes that are operands of themselves and of each other, which nothing else uses
+    yield two_charts((), [("root", 3, 7)]), 1
+    yield two_charts([[8, 8]]), 1
+    yield two_charts([[43, 9, 9], [43, 8, 8]]), 1
+
+
 def cases():
     yield b"", 1
     for size in (1, 31, 32, 48):
@@ -86,6 +123,7 @@ def cases():
         if same:
             reactions[1899] = reactions[0][:7] + [1899]
         yield yard(roots, 1900, (), 0, reactions, [[0, 0, 0]] * 30, 64), 2 if same else 0
+    yield from uses()
 
 
 def main():

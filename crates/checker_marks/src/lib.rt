@@ -7,7 +7,7 @@ ghost use Prim.Native.Nat.{_+_, _<_, _≤_};
 ghost use lib.ListN.{length};
 ghost use lib.Dec.{eqb};
 ghost use Rattle.sheet.specs.Names.{root};
-ghost use Rattle.sheet.specs.Sheet.{countOf, recordOf, directoryOf};
+ghost use Rattle.sheet.specs.Sheet.{recordOf, directoryOf};
 ghost use Rattle.sheet_rules.specs.Fields.{oneIf, numberOr0};
 ghost use Rattle.sheet_rules.specs.Forms.{operandsOf};
 ghost use Rattle.sheet_rules.specs.Uses.{overBodies, homeChart, operandUses, rootUses, constantUses};

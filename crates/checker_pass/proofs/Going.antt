@@ -1,5 +1,5 @@
 -- The course of the test: the nodes from `top` on are gone over, and `once` says whether each of them is used once.
-use Prim.Native.Nat.{ℕ, zero, suc, _+_, _/_, _%_, _≤_, _<_}
+use Prim.Native.Nat.{ℕ, _+_, _/_, _%_, _≤_, _<_}
 use mathlib.Core.Path.{_≡_, refl, sym, ap, _∙_}
 use mathlib.Core.List.{List}
 use mathlib.Core.Bool.{Bool, true, false}
@@ -9,14 +9,13 @@ use lib.ListN.{length, getD, set}
 use lib.Dec.{eqb}
 use lib.Seq.{getD-set-same, getD-set-other}
 use borrow.Author.Tests.{eq-eqb, ne-eqb, eqb-true, eqb-false}
-use Rattle.sheet.specs.All.{_and_, allBelow}
+use Rattle.sheet.specs.All.{_and_}
 use Rattle.sheet.specs.Names.{nodes}
 use Rattle.sheet.specs.Sheet.{countOf}
 use Rattle.sheet.proofs.All.{and-first, and-second, all-true, all-fails, true-false}
 use Rattle.sheet_rules.specs.Uses.{homeChart, operandUses, usesOf, usedOnce, markOf, callsInOneBody, goneOver}
-use Rattle.sheet_uses.proofs.Homes.{inBodies, Agree, agree-once, calls-agree, stands-at-most}
+use Rattle.sheet_uses.proofs.Homes.{inBodies, agree-once, calls-agree, stands-at-most}
 use Rattle.sheet_uses.proofs.Bodies.{gone-over}
-use Rattle.checker_pass.specs.declared.Tested.{Tested}
 use Rattle.checker_pass.specs.Test.{TestGives}
 use Rattle.checker_pass.specs.Marks.{markedTimes, Kept, Marked}
 use Rattle.checker_pass.proofs.Times.{times-rest, mark-two, mark-one, as-mark}

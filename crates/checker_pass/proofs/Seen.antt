@@ -5,17 +5,17 @@ use mathlib.Core.List.{List}
 use native.Mathlib.Omega.{arith}
 use native.Mathlib.Decide.{decLt}
 use native.Mathlib.Nat.{zero-mul, mul-zero, one-mul, one-le-mul}
-use lib.ListN.{getD, set}
+use lib.ListN.{getD}
 use lib.Dec.{ltb}
 use borrow.Author.Tests.{lt-ltb, le-ltb}
-use Rattle.sheet.specs.Names.{charts, nodes, bindings}
+use Rattle.sheet.specs.Names.{charts, nodes}
 use Rattle.sheet.specs.Sheet.{countOf, recordOf}
 use Rattle.sheet_rules.specs.Fields.{oneIf, numberOr0, sumBelow}
-use Rattle.sheet_rules.specs.Uses.{overCharts, homeOf, homeChart, operandUses, rootUses, constantUses, usesOf, markOf}
+use Rattle.sheet_rules.specs.Uses.{overCharts, overBindings, homeChart, operandUses, rootUses, constantUses, usesOf, markOf}
 use Rattle.sheet_rules.proofs.Fields.{sum-more}
 use Rattle.sheet_uses.proofs.Sums.{sum-zero, sum-at}
 use Rattle.sheet_uses.proofs.Trees.{higher-uses}
-use Rattle.sheet_uses.proofs.Homes.{inChart, inBodies, homeUses, Agree, chart-above, bodies-above, no-home, in-bodies}
+use Rattle.sheet_uses.proofs.Homes.{inChart, inBodies, homeUses, Agree, chart-above, bodies-above, no-home}
 use Rattle.checker_pass.specs.Marks.{markedTimes, Marked, Rooted, RootsMarked}
 use Rattle.checker_pass.proofs.Times.{times-rest, times-kept, times-first}
 use Rattle.checker_pass.proofs.Marking.{kept-all, kept-then}
@@ -162,10 +162,7 @@ module _ (s : List ℕ) where
   pub roots-end : (i j top : ℕ) (a b : List ℕ) → i ≡ j → RootsMarked s i top a b → RootsMarked s j top a b
   roots-end i j top a b e h = rw (← e) h
 
-  abbrev constants : ℕ → ℕ
-  constants n = sumBelow (countOf s bindings) (λ i. numberOr0 (recordOf s bindings i) (constantUses s n))
-
-  pub agreed-start : (top i : ℕ) (a b d : List ℕ) → top ≡ countOf s nodes → i ≡ countOf s charts → RootsMarked s i top a b → Marked top 0 b d (λ n. sumBelow (countOf s bindings) (λ i. numberOr0 (recordOf s bindings i) (constantUses s n))) → Agreed top d
+  pub agreed-start : (top i : ℕ) (a b d : List ℕ) → top ≡ countOf s nodes → i ≡ countOf s charts → RootsMarked s i top a b → Marked top 0 b d (λ n. overBindings s (constantUses s n)) → Agreed top d
   unfolding usesOf overCharts markedTimes
   agreed-start top i a b d e o h marks = record {
     below = λ n l. rw (marks .inside n l) (first n (getD b n 0) (rw (← o) (h .inside n l)));
@@ -178,11 +175,11 @@ module _ (s : List ℕ) where
       kept (suc c) v zero e = times-first 0 c v e ∙ sym e
       kept (suc c) v (suc h) e = times-kept 0 (suc c) v h e ∙ sym e
 
-      first : (n v : ℕ) → Rooted s n (overCharts s (rootUses s n)) v → Seen top n (markedTimes 0 (sumBelow (countOf s bindings) (λ i. numberOr0 (recordOf s bindings i) (constantUses s n))) v)
+      first : (n v : ℕ) → Rooted s n (overCharts s (rootUses s n)) v → Seen top n (markedTimes 0 (overBindings s (constantUses s n)) v)
       first n v x = record {
-        used = constants n + overCharts s (rootUses s n);
+        used = overBindings s (constantUses s n) + overCharts s (rootUses s n);
         all = rw e (omega arith);
-        rest = times-rest 0 (constants n) v (overCharts s (rootUses s n)) (x .rest);
-        home = λ k q. x .home k (sym (kept (constants n) v (v / 4) refl) ∙ q);
-        none = λ q. omega (arith, x .none (sym (kept (constants n) v (v / 4) refl) ∙ q), ap (λ (y : ℕ). sumBelow y (heldUses n)) e);
+        rest = times-rest 0 (overBindings s (constantUses s n)) v (overCharts s (rootUses s n)) (x .rest);
+        home = λ k q. x .home k (sym (kept (overBindings s (constantUses s n)) v (v / 4) refl) ∙ q);
+        none = λ q. omega (arith, x .none (sym (kept (overBindings s (constantUses s n)) v (v / 4) refl) ∙ q), ap (λ (y : ℕ). sumBelow y (heldUses n)) e);
       }

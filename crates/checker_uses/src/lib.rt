@@ -5,9 +5,8 @@ ghost use Prim.Native.Nat.{ℕ, _≤_, _<_};
 ghost use lib.ListN.{length, getD};
 ghost use lib.Dec.{eqb};
 ghost use Rattle.sheet.specs.All.{_and_};
-ghost use Rattle.sheet.specs.Sheet.{countOf, recordOf, directoryOf};
-ghost use Rattle.sheet_rules.specs.Fields.{numberOr0, sumBelow};
-ghost use Rattle.sheet_rules.specs.Uses.{overBodies, overCharts, constantUses};
+ghost use Rattle.sheet.specs.Sheet.{countOf, directoryOf};
+ghost use Rattle.sheet_rules.specs.Uses.{overBodies, overCharts, overBindings, constantUses};
 ghost use Rattle.checker_pass.specs.Marks.{Cleared, Marked, RootsMarked};
 ghost use Rattle.checker_pass.specs.Test.{TestGives};
 
@@ -44,7 +43,7 @@ fn mark_charts(sheet: &[u8], directory: &[usize; 16], marks: &mut [u16], count: 
 fn mark_bindings(sheet: &[u8], directory: &[usize; 16], marks: &mut [u16], count: usize) -> usize
     requires { ⌜ now directory ≡ directoryOf (now sheet) ⌝ }
     requires { ⌜ count ≤ length (now marks) ⌝ }
-    ensures { λ x. ⌜ (x ≡ countOf (now (sheet .entry)) 7) × Marked count 0 (now (marks .entry)) (now (marks .exit)) (λ n. sumBelow (countOf (now (sheet .entry)) 7) (λ i. numberOr0 (recordOf (now (sheet .entry)) 7 i) (constantUses (now (sheet .entry)) n))) ⌝ }
+    ensures { λ x. ⌜ (x ≡ countOf (now (sheet .entry)) 7) × Marked count 0 (now (marks .entry)) (now (marks .exit)) (λ n. overBindings (now (sheet .entry)) (constantUses (now (sheet .entry)) n)) ⌝ }
 {
     let total = sheet_reader::count_in(directory, 7);
     let mut gone: usize = 0;

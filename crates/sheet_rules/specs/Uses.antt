@@ -35,9 +35,12 @@ module _ (s : List ℕ) (c : Record) (n : ℕ) where
 unfoldable pub overBodies : List ℕ → (Record → ℕ) → Record → ℕ
 overBodies s f c = sumBelow (chartBodies c .count) (λ j. numberOr0 (recordOf s bodies (chartBodies c .first + j)) f)
 
--- a number for each chart, together
+-- for each chart, for each binding
 unfoldable pub overCharts : List ℕ → (Record → ℕ) → ℕ
 overCharts s f = sumBelow (countOf s charts) (λ k. numberOr0 (recordOf s charts k) f)
+
+abbrev pub overBindings : List ℕ → (Record → ℕ) → ℕ
+overBindings s f = sumBelow (countOf s bindings) (λ i. numberOr0 (recordOf s bindings i) f)
 
 -- how often node n stands in the bodies of chart c
 unfoldable pub standsInBodies : List ℕ → ℕ → Record → ℕ
@@ -80,7 +83,7 @@ constantUses s n b = numberOr0 (recordOf s charts (boundChart b)) (λ c. countBe
 unfoldable pub usesOf : List ℕ → ℕ → ℕ
 usesOf s n =
     overCharts s (rootUses s n)
-    + sumBelow (countOf s bindings) (λ i. numberOr0 (recordOf s bindings i) (constantUses s n))
+    + overBindings s (constantUses s n)
     + sumBelow (countOf s nodes) (λ m. operandUses s (homeChart s (homeOf s m)) m n)
 
 unfoldable pub usedOnce : List ℕ → Bool

@@ -6,8 +6,7 @@ use mathlib.Core.Bool.{true}
 use native.Mathlib.Omega.{arith}
 use borrow.Author.Tests.{eqb-true}
 use Rattle.sheet.specs.declared.Record.{Record}
-use Rattle.sheet.specs.declared.Found.{Found}
-use Rattle.sheet.specs.declared.Found.the-variants.{Present, Absent}
+use Rattle.sheet.specs.declared.Found.the-variants.{Present}
 use Rattle.sheet.specs.Table.{lookUp}
 use Rattle.sheet.specs.Names.{charts, bodies, nodes, bindings, chartBodies}
 use Rattle.sheet.specs.Sheet.{countOf, recordOf}

@@ -7,15 +7,15 @@ use native.Mathlib.Omega.{arith}
 use native.Mathlib.Decide.{decLt}
 use native.Mathlib.Nat.{zero-mul, mul-zero, one-mul}
 use lib.Dec.{ltb, eqb}
-use borrow.Author.Tests.{lt-ltb, le-ltb, ltb-true, eqb-true}
+use borrow.Author.Tests.{lt-ltb, le-ltb, eqb-true}
 use Rattle.sheet.specs.declared.Record.{Record}
 use Rattle.sheet.specs.declared.Found.{Found}
 use Rattle.sheet.specs.declared.Found.the-variants.{Present, Absent}
-use Rattle.sheet.specs.Names.{charts, bodies, nodes, operator, chartBodies, root}
+use Rattle.sheet.specs.Names.{charts, bodies, nodes, chartBodies, root}
 use Rattle.sheet.specs.Sheet.{countOf, recordOf}
 use Rattle.sheet.proofs.All.{all-at}
 use Rattle.sheet.proofs.Sheet.{record-absent, record-present}
-use Rattle.sheet_rules.specs.Fields.{oneIf, holds, numberOr0, sumBelow}
+use Rattle.sheet_rules.specs.Fields.{oneIf, numberOr0, sumBelow}
 use Rattle.sheet_rules.specs.Uses.{standsIn, overBodies, overCharts, standsInBodies, homeBelow, homeOf, chartOr, homeChart, operandUses, rootUses, usesOf, bodiesHolding, isCall, callsInOneBody}
 use Rattle.sheet_rules.proofs.Fields.{holds-present, number-present, number-absent}
 use Rattle.sheet_uses.proofs.Sums.{sum-same, sum-zero, sum-most, sum-at, sum-both, sum-some}
@@ -117,10 +117,6 @@ module _ (s : List ℕ) where
     | yes l ↦ l
     | no l ↦ absurd (omega (arith, number-absent _ (standsInBodies s m) (record-absent s charts k (omega arith))))
   ]
-
-  pub in-bodies : (k m : ℕ) → 1 ≤ inChart k m → 1 ≤ inBodies m
-  unfolding overCharts
-  in-bodies k m h = omega (arith, sum-at (countOf s charts) (λ k. inChart k m) k (in-there k m h))
 
   agree-only : (m : ℕ) (f : ℕ → ℕ) → ((k : ℕ) → 1 ≤ inChart k m → 1 ≤ f k) → sumBelow (countOf s charts) f ≤ 1 → Agree m
   unfolding Agree homeOf

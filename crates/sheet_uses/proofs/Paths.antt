@@ -6,24 +6,24 @@ use mathlib.Core.Bool.{Bool, true, false}
 use native.Mathlib.Omega.{arith}
 use native.Mathlib.Decide.{decLt}
 use native.Mathlib.Nat.{mul-zero, one-mul}
-use lib.Dec.{eqb, leb}
+use lib.Dec.{eqb}
 use borrow.Author.Tests.{eqb-true, eq-eqb, leb-true}
 use Rattle.sheet.specs.declared.Record.{Record}
 use Rattle.sheet.specs.declared.Found.{Found}
 use Rattle.sheet.specs.declared.Found.the-variants.{Present, Absent}
-use Rattle.sheet.specs.All.{_and_, allBelow}
+use Rattle.sheet.specs.All.{_and_}
 use Rattle.sheet.specs.Names.{charts, nodes, bindings, chartParameters, boundChart, operator, isLiteral}
 use Rattle.sheet.specs.Sheet.{countOf, recordOf}
 use Rattle.sheet.proofs.All.{and-first, and-second, true-and, false-and, and-false, all-at, all-true, true-false}
 use Rattle.sheet_rules.specs.Fields.{oneIf, holds, numberOr0, sumBelow, countBelow}
-use Rattle.sheet_rules.specs.Forms.{literal, formOf, operands, operandsIn, operandsOf}
+use Rattle.sheet_rules.specs.Forms.{operands, operandsIn, operandsOf}
 use Rattle.sheet_rules.specs.Shape.{literalShape, constantOf, constantShape, constantsShape, bindingShape}
-use Rattle.sheet_rules.specs.Uses.{standsIn, overCharts, standsInBodies, homeOf, homeChart, operandUses, rootUses, constantUses, usesOf, usedOnce}
+use Rattle.sheet_rules.specs.Uses.{standsIn, overBindings, constantUses, usesOf, usedOnce}
 use Rattle.sheet_rules.specs.Check.{shapeWith, shape, otherwiseInShape}
-use Rattle.sheet_rules.proofs.Fields.{number-present, holds-present}
+use Rattle.sheet_rules.proofs.Fields.{holds-present}
 use Rattle.sheet_rules.proofs.Forms.{form-literal}
 use Rattle.sheet_uses.specs.Paths.{standsInBinding, pathsTo, onePath}
-use Rattle.sheet_uses.proofs.Sums.{sum-same, sum-zero, sum-some}
+use Rattle.sheet_uses.proofs.Sums.{sum-same, sum-some}
 use Rattle.sheet_uses.proofs.Trees.{leaf-uses, leaf-stands, higher-uses}
 use Rattle.sheet_uses.proofs.Homes.{inBodies, homeUses, agree-once, bodies-above}
 use Rattle.sheet_uses.proofs.Bodies.{binding-shaped}
@@ -70,10 +70,7 @@ module _ (s : List ℕ) (ok : otherwiseInShape s ≡ true) where
       go (Present c) p l = let j = sum-some (chartParameters c .count) (λ j. oneIf (eqb (constantOf b j) m)) l in rw (← named (constantOf b (j .0)) _ refl (j .2)) (constant-shaped b c shaped p (j .0) (j .1))
       go Absent p l = absurd (omega arith)
 
-  abbrev constants : ℕ → ℕ
-  constants n = sumBelow (countOf s bindings) (λ i. numberOr0 (recordOf s bindings i) (constantUses s n))
-
-  constants-same : (n : ℕ) → sumBelow (countOf s bindings) (λ i. numberOr0 (recordOf s bindings i) (standsInBinding s n)) ≡ constants n
+  constants-same : (n : ℕ) → overBindings s (standsInBinding s n) ≡ overBindings s (constantUses s n)
   unfolding numberOr0
   constants-same n = sum-same _ _ _ (λ i l. go i (recordOf s bindings i) refl)
     where
@@ -81,7 +78,7 @@ module _ (s : List ℕ) (ok : otherwiseInShape s ≡ true) where
       go i (Present b) p = same-constants n b (binding-shaped s ok i b p)
       go i Absent p = refl
 
-  no-uses : (m n : ℕ) → 1 ≤ constants m → homeUses s m n ≡ 0
+  no-uses : (m n : ℕ) → 1 ≤ overBindings s (constantUses s m) → homeUses s m n ≡ 0
   unfolding numberOr0
   no-uses m n h = let i = sum-some (countOf s bindings) (λ i. numberOr0 (recordOf s bindings i) (constantUses s m)) h in let r = constant-leaf m (go (i .0) (recordOf s bindings (i .0)) refl (i .2)) in leaf-uses s _ m n (r .0) (r .1) (leaf _ (r .0) (r .2))
     where
@@ -95,7 +92,7 @@ module _ (s : List ℕ) (ok : otherwiseInShape s ≡ true) where
   unfolding pathsTo usesOf
   paths-are n h = omega (arith, bodies-above s n (λ m l q. agree-once s m (omega (arith, h m l q))), constants-same n, sum-same (countOf s nodes) (λ m. inBodies s m * homeUses s m n) (λ m. homeUses s m n) term)
     where
-      weight : (m x : ℕ) → inBodies s m ≡ x → x + constants m ≡ 1 → x * homeUses s m n ≡ homeUses s m n
+      weight : (m x : ℕ) → inBodies s m ≡ x → x + overBindings s (constantUses s m) ≡ 1 → x * homeUses s m n ≡ homeUses s m n
       weight m zero e q = let z : homeUses s m n ≡ 0 = no-uses m n (omega arith) in ap (λ (y : ℕ). zero * y) z ∙ mul-zero zero ∙ sym z
       weight m (suc zero) e q = one-mul _
       weight m (suc (suc x)) e q = absurd (omega arith)

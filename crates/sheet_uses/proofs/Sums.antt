@@ -46,14 +46,6 @@ sum-at (suc n) f m l = elim (decLt m n) [
   | no q ↦ (let e : n ≡ m = omega arith in omega (arith, ap f e))
 ]
 
-pub sum-longer : (n m : ℕ) (f : ℕ → ℕ) → n ≤ m → sumBelow n f ≤ sumBelow m f
-unfolding sumBelow
-sum-longer n zero f l = let e : n ≡ 0 = omega arith in omega (arith, ap (λ (x : ℕ). sumBelow x f) e)
-sum-longer n (suc m) f l = elim (decLt m n) [
-  | yes q ↦ (let e : n ≡ suc m = omega arith in omega (arith, ap (λ (x : ℕ). sumBelow x f) e))
-  | no q ↦ omega (arith, sum-longer n m f (omega arith))
-]
-
 pub sum-add : (n : ℕ) (f g : ℕ → ℕ) → sumBelow n (λ i. f i + g i) ≡ sumBelow n f + sumBelow n g
 unfolding sumBelow
 sum-add zero f g = refl
@@ -93,13 +85,4 @@ sum-some zero f h = absurd (omega arith)
 sum-some (suc n) f h = elim (decLt 0 (f n)) [
   | yes q ↦ (n, omega arith, q)
   | no q ↦ (let r = sum-some n f (omega arith) in (r .0, omega (arith, r .1), r .2))
-]
-
--- two terms
-pub sum-two : (n : ℕ) (f : ℕ → ℕ) (i j : ℕ) → i < j → j < n → f i + f j ≤ sumBelow n f
-unfolding sumBelow
-sum-two zero f i j l k = absurd (omega arith)
-sum-two (suc n) f i j l k = elim (decLt j n) [
-  | yes q ↦ omega (arith, sum-two n f i j l q)
-  | no q ↦ (let e : n ≡ j = omega arith in omega (arith, sum-at n f i (omega arith), ap f e))
 ]

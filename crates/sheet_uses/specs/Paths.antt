@@ -5,18 +5,18 @@ use mathlib.Core.Bool.{Bool}
 use lib.Dec.{eqb}
 use Rattle.sheet.specs.declared.Record.{Record}
 use Rattle.sheet.specs.All.{allBelow}
-use Rattle.sheet.specs.Names.{charts, nodes, bindings, chartParameters, boundChart}
+use Rattle.sheet.specs.Names.{charts, nodes, chartParameters, boundChart}
 use Rattle.sheet.specs.Sheet.{countOf, recordOf}
 use Rattle.sheet_rules.specs.Fields.{numberOr0, sumBelow}
 use Rattle.sheet_rules.specs.Shape.{constantOf}
-use Rattle.sheet_rules.specs.Uses.{standsIn, overCharts, standsInBodies}
+use Rattle.sheet_rules.specs.Uses.{standsIn, overCharts, overBindings, standsInBodies}
 
 -- how often node n stands in the trees of the constants of binding b
 unfoldable pub standsInBinding : List ℕ → ℕ → Record → ℕ
 standsInBinding s n b = numberOr0 (recordOf s charts (boundChart b)) (λ c. sumBelow (chartParameters c .count) (λ j. standsIn s c n (constantOf b j)))
 
 unfoldable pub pathsTo : List ℕ → ℕ → ℕ
-pathsTo s n = overCharts s (standsInBodies s n) + sumBelow (countOf s bindings) (λ i. numberOr0 (recordOf s bindings i) (standsInBinding s n))
+pathsTo s n = overCharts s (standsInBodies s n) + overBindings s (standsInBinding s n)
 
 unfoldable pub onePath : List ℕ → Bool
 onePath s = allBelow (countOf s nodes) (λ n. eqb (pathsTo s n) 1)

@@ -1,4 +1,3 @@
-use native.Mathlib.Omega.{arith}
 use mathlib.Core.Path.{sym, _∙_}
 use Rattle.checker_pass.proofs.Added.{home-none, home-absent, home-there}
 use borrow.Author.Needs.{needs}

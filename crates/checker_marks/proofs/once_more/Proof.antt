@@ -9,10 +9,10 @@ add-result : tie.Need-add-result
 add-result c = search needs
 
 returns : tie.Need-returns
-returns c = sym (named-more _ (c .if1 .taken))
+returns c = sym (named-more _ (omega arith))
 
 returns-2 : tie.Need-returns-2
-returns-2 c = sym (named-same _ (c .if1 .left))
+returns-2 c = sym (named-same _ (omega arith))
 
 pub once-more-spec : {M : Type 1} → statement M
 once-more-spec = tie.close (tie.spec add-result returns returns-2)

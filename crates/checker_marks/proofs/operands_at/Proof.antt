@@ -1,4 +1,3 @@
-use native.Mathlib.Omega.{arith}
 use mathlib.Core.Path.{ap, _∙_}
 use Rattle.sheet_rules.specs.Forms.{operandsOf}
 use Rattle.sheet_rules.proofs.Forms.{operands-plain}

@@ -14,10 +14,10 @@ add-result : tie.Need-add-result
 add-result c = omega (arith, c .before .once-more .ensures, named-quotient (c .before .before .args .v), c .if1 .taken)
 
 returns : tie.Need-returns
-returns c = omega (arith, c .before .once-more .ensures, marked-low (c .before .before .args .k) (c .before .before .args .v) (c .if1 .taken))
+returns c = omega (arith, c .before .once-more .ensures, marked-low (c .before .before .args .k) (c .before .before .args .v) (omega arith))
 
 returns-2 : tie.Need-returns-2
-returns-2 c = omega (arith, c .before .once-more .ensures, marked-high (c .before .before .args .k) (c .before .before .args .v) (c .if1 .left))
+returns-2 c = omega (arith, c .before .once-more .ensures, marked-high (c .before .before .args .k) (c .before .before .args .v) (omega arith))
 
 pub with-home-spec : {M : Type 1} → statement M
 with-home-spec = tie.close (tie.spec once-more-requires mul-result add-result returns returns-2)

@@ -1,7 +1,7 @@
 use borrow.Author.Needs.{needs}
 use native.Mathlib.Omega.{arith}
 use Prim.Native.Nat.{_+_, _-_, _≤_}
-use mathlib.Core.Path.{_≡_, refl, sym, _∙_}
+use mathlib.Core.Path.{_≡_, refl, _∙_}
 use Rattle.sheet.specs.Sheet.{countOf}
 use Rattle.sheet.proofs.Sheet.{count-limit, record-present}
 use Rattle.sheet_rules.specs.Uses.{goneOver}
