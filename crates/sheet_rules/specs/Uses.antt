@@ -13,7 +13,7 @@ use Rattle.sheet_rules.specs.Fields.{holds, numberOr0, oneIf, sumBelow, 
 use Rattle.sheet_rules.specs.Forms.{operandsOf, operandCount, operandAt}
 use Rattle.sheet_rules.specs.Shape.{constantOf}
 
--- "Operand nodes have lower numbers": a field that names another node is no operand
+-- "Operand nodes have lower numbers": a field that names another node names no operand
 unfoldable pub lowerOnly : ℕ → (ℕ → ℕ) → ℕ → ℕ
 lowerOnly m f o = elim (ltb o m) [ true ↦ f o | false ↦ 0 ]
 
@@ -68,9 +68,12 @@ homeChart s (suc k) = chartOr noChart (recordOf s charts k)
 
 -- ---- how often a node is used: how many fields name it
 
--- operands of node m, a node of chart c
+-- fields for operands of node m, a node of chart c
+unfoldable pub operandFields : List ℕ → Record → ℕ → ℕ → ℕ
+operandFields s c m n = numberOr0 (recordOf s nodes m) (λ r. countBelow (operandCount (operandsOf s c r)) (λ j. eqb (operandAt r (operandsOf s c r) j) n))
+
 unfoldable pub operandUses : List ℕ → Record → ℕ → ℕ → ℕ
-operandUses s c m n = lowerOnly m (λ n. numberOr0 (recordOf s nodes m) (λ r. countBelow (operandCount (operandsOf s c r)) (λ j. eqb (operandAt r (operandsOf s c r) j) n))) n
+operandUses s c m n = lowerOnly m (operandFields s c m) n
 
 -- roots of the bodies of chart c
 unfoldable pub rootUses : List ℕ → ℕ → Record → ℕ

@@ -18,7 +18,7 @@ use Rattle.sheet.proofs.Sheet.{record-absent}
 use Rattle.sheet_rules.specs.declared.Operands.{Operands}
 use Rattle.sheet_rules.specs.Fields.{oneIf, numberOr0, sumBelow, countBelow}
 use Rattle.sheet_rules.specs.Forms.{operands, operandsOf, operandCount, operandAt}
-use Rattle.sheet_rules.specs.Uses.{lowerOnly, standsStep, standsF, standsIn, operandUses, isCall}
+use Rattle.sheet_rules.specs.Uses.{lowerOnly, standsStep, standsF, standsIn, operandFields, operandUses, isCall}
 use Rattle.sheet_rules.proofs.Fields.{number-present, number-absent}
 use Rattle.sheet_rules.proofs.Forms.{operands-plain}
 use Rattle.sheet_uses.proofs.Sums.{one-other, sum-same, sum-zero, sum-add, sum-both, sum-pick}
@@ -57,7 +57,7 @@ module _ (s : List ℕ) (c : Record) where
   -- ---- the operands of one node
 
   pub no-operands : (m n : ℕ) → recordOf s nodes m ≡ Absent → operandUses s c m n ≡ 0
-  unfolding operandUses
+  unfolding operandFields operandUses
   no-operands m n p = elim (decLt n m) [
     | yes l ↦ lower-is m n _ l ∙ number-absent _ _ p
     | no l ↦ not-lower m n _ (omega arith)
@@ -67,8 +67,16 @@ module _ (s : List ℕ) (c : Record) where
   unfolding operandUses
   higher-uses m n l = not-lower m n _ l
 
-  pub uses-are : (m n : ℕ) (r : Record) → recordOf s nodes m ≡ Present r → n < m → operandUses s c m n ≡ countBelow (operandCount (operandsOf s c r)) (λ j. eqb (operandAt r (operandsOf s c r) j) n)
+  -- where operand nodes have lower numbers, every field for an operand that names a node is a use of it
+  pub all-fields : (m n : ℕ) → (m ≤ n → operandFields s c m n ≡ 0) → operandUses s c m n ≡ operandFields s c m n
   unfolding operandUses
+  all-fields m n h = elim (decLt n m) [
+    | yes l ↦ lower-is m n _ l
+    | no l ↦ not-lower m n _ (omega arith) ∙ sym (h (omega arith))
+  ]
+
+  pub uses-are : (m n : ℕ) (r : Record) → recordOf s nodes m ≡ Present r → n < m → operandUses s c m n ≡ countBelow (operandCount (operandsOf s c r)) (λ j. eqb (operandAt r (operandsOf s c r) j) n)
+  unfolding operandFields operandUses
   uses-are m n r p l = lower-is m n _ l ∙ number-present _ r _ p
 
   -- operand fields that name node n and are lower
