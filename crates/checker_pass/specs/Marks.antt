@@ -1,4 +1,4 @@
--- What a mark holds in the course of the test. Its rest by 4 says how often the node was named so far, 2 for more than once. Its quotient by 4 is the home of what named it, 0 as long as nothing with a home did: 1 + the number of the chart that a body belongs to, and a node with the body.
+-- What a mark holds in the course of the test. Its rest by 4 says how often the node was named so far, 2 for more than once. Its quotient by 4 is the home of what named it, a node or a body, 0 as long as nothing with a home did.
 use Prim.Native.Nat.{ℕ, zero, suc, _+_, _*_, _/_, _%_, _≤_, _<_}
 use mathlib.Core.Path.{_≡_}
 use mathlib.Core.List.{List}
@@ -14,7 +14,7 @@ use Rattle.sheet_rules.specs.Uses.{standsInBodies, rootUses, markOf}
 unfoldable pub named : ℕ → ℕ
 named v = elim (ltb (v % 4) 2) [ true ↦ v + 1 | false ↦ v ]
 
--- named once more by a body or node with home k. A home that it has is kept; one of a node that nothing uses is none
+-- named once more by a body or node with home k. A home that the mark has stays; a node that lies in no body has home 0 and gives none
 unfoldable pub marked : ℕ → ℕ → ℕ
 marked k v = elim (ltb v 4) [ true ↦ named v + 4 * k | false ↦ named v ]
 

@@ -46,7 +46,7 @@ overBindings s f = sumBelow (countOf s bindings) (λ i. numberOr0 (recordOf s bi
 unfoldable pub standsInBodies : List ℕ → ℕ → Record → ℕ
 standsInBodies s n c = overBodies s (λ b. standsIn s c n (root b)) c
 
--- "the chart that its body belongs to": the number of the chart, plus 1, with a body that node n lies in; 0 where it lies in none. Where there are more of them, the last below k
+-- A node's home is "the chart that its body belongs to", as 1 + the number of the chart with a body that node n lies in; 0 where it lies in none. Where there are more of them, the last below k
 unfoldable pub homeBelow : List ℕ → ℕ → ℕ → ℕ
 homeBelow s n zero = 0
 homeBelow s n (suc k) = elim (ltb 0 (numberOr0 (recordOf s charts k) (standsInBodies s n))) [ true ↦ suc k | false ↦ homeBelow s n k ]
