@@ -17,9 +17,10 @@ pub use Rattle.sheet.proofs.Sheet.{present-below}
 use Rattle.sheet_rules.specs.declared.Checked.{Checked}
 use Rattle.sheet_rules.specs.declared.Checked.the-variants.{Passed, Shape, Static}
 use Rattle.sheet_rules.specs.Fields.{holds, numberOr0, typeAt, componentsOf, externalsOf, portsOf, elementsOf}
-use Rattle.sheet_rules.specs.Shape.{headShape, enumeratedShape, typeExists, declarationShape, nameShape, chartShape, bodyShape, bindingShape, elementsBound, cellsOf, treesShape, recordShape, sectionShape}
+use Rattle.sheet_rules.specs.Shape.{headShape, enumeratedShape, typeExists, declarationShape, nameShape, chartShape, bodyShape, bindingShape, elementsBound, cellsOf, treesShape, recordShape}
 use Rattle.sheet_rules.specs.Static.{declarationStatic, nameStatic, chartStatic, bindingStatic, recordStatic, sectionStatic, static}
 use Rattle.sheet_rules.specs.Check.{nodesShape, sectionsShape, shapeWith, shape, checkOf, checkNumber}
+use Rattle.sheet_rules.proofs.Shape.{record-shaped}
 use Rattle.sheet_rules.proofs.Fields.{holds-present, number-present}
 
 -- ---- a record that is there
@@ -87,8 +88,7 @@ module _ (s : List ℕ) (ok : checkOf s ≡ Passed) where
 
   module _ (k n : ℕ) (r : Record) (below : k < 8) (e : recordOf s k n ≡ Present r) where
     record-shape : recordShape s k n r ≡ true
-    unfolding sectionsShape sectionShape
-    record-shape = sym (holds-present (recordOf s k n) r (recordShape s k n) e) ∙ all-at (countOf s k) _ (all-at 8 (sectionShape s) sections k below) n (present-below s k n r e)
+    record-shape = record-shaped s sections k n r below e
 
     record-static : recordStatic s k r ≡ true
     unfolding static sectionStatic

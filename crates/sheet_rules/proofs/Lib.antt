@@ -5,3 +5,4 @@ pub mod Types
 pub mod Samples
 pub mod Arrays
 pub mod Uses
+pub mod Shape

@@ -1,5 +1,5 @@
 -- A sheet otherwise in shape: its charts have each body once, and its constants are literals.
-use Prim.Native.Nat.{ℕ, zero, suc, _+_, _≤_, _<_}
+use Prim.Native.Nat.{ℕ, zero, suc, _+_, _≤_}
 use mathlib.Core.Path.{_≡_, refl, sym, ap, _∙_}
 use mathlib.Core.List.{List}
 use mathlib.Core.Bool.{true}
@@ -10,13 +10,14 @@ use Rattle.sheet.specs.declared.Found.the-variants.{Present}
 use Rattle.sheet.specs.Table.{lookUp}
 use Rattle.sheet.specs.Names.{charts, bodies, nodes, bindings, chartBodies}
 use Rattle.sheet.specs.Sheet.{countOf, recordOf}
-use Rattle.sheet.proofs.All.{and-first, and-second, all-at}
-use Rattle.sheet.proofs.Sheet.{record-present, present-below}
+use Rattle.sheet.proofs.All.{and-first, and-second}
+use Rattle.sheet.proofs.Sheet.{record-present}
 use Rattle.sheet_rules.specs.Fields.{numberOr0, sumBelow}
-use Rattle.sheet_rules.specs.Shape.{bodiesUpTo, chartShape, bodiesCovered, bindingShape, recordShape, sectionShape}
+use Rattle.sheet_rules.specs.Shape.{bodiesUpTo, chartShape, bodiesCovered, bindingShape, recordShape}
 use Rattle.sheet_rules.specs.Uses.{overBodies, overCharts, goneOver}
 use Rattle.sheet_rules.specs.Check.{sectionsShape, shapeWith, otherwiseInShape}
-use Rattle.sheet_rules.proofs.Fields.{holds-present, number-present}
+use Rattle.sheet_rules.proofs.Shape.{record-shaped}
+use Rattle.sheet_rules.proofs.Fields.{number-present}
 
 -- a sum in two parts
 sum-split : (a b : ℕ) (f : ℕ → ℕ) → sumBelow (a + b) f ≡ sumBelow a f + sumBelow b (λ j. f (a + j))
@@ -33,17 +34,13 @@ module _ (s : List ℕ) (ok : otherwiseInShape s ≡ true) where
   unfolding otherwiseInShape shapeWith bodiesCovered
   covered = eqb-true _ _ (and-first _ _ (and-second _ _ (and-second _ _ (and-second _ _ ok))))
 
-  record-shaped : (k n : ℕ) (r : Record) → k < 8 → recordOf s k n ≡ Present r → recordShape s k n r ≡ true
-  unfolding sectionsShape sectionShape
-  record-shaped k n r below e = sym (holds-present (recordOf s k n) r (recordShape s k n) e) ∙ all-at (countOf s k) _ (all-at 8 (sectionShape s) sections k below) n (present-below s k n r e)
-
   chart-shaped : (n : ℕ) (r : Record) → recordOf s charts n ≡ Present r → chartShape s n r ≡ true
   unfolding recordShape lookUp
-  chart-shaped n r e = record-shaped 4 n r (omega arith) e
+  chart-shaped n r e = record-shaped s sections 4 n r (omega arith) e
 
   pub binding-shaped : (n : ℕ) (r : Record) → recordOf s bindings n ≡ Present r → bindingShape s r ≡ true
   unfolding recordShape lookUp
-  binding-shaped n r e = record-shaped 7 n r (omega arith) e
+  binding-shaped n r e = record-shaped s sections 7 n r (omega arith) e
 
   -- "Body ranges follow each other"
   follows : (k : ℕ) (c : Record) → recordOf s charts k ≡ Present c → chartBodies c .first ≡ bodiesUpTo s k
