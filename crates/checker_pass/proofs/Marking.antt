@@ -9,7 +9,7 @@ use lib.Dec.{eqb}
 use lib.Seq.{getD-set-same, getD-set-other}
 use Rattle.sheet_rules.specs.Fields.{oneIf, sumBelow}
 use Rattle.sheet_rules.proofs.Fields.{sum-more}
-use Rattle.sheet_uses.proofs.Sums.{one-same, one-other}
+use Rattle.sheet_rules.proofs.Sums.{one-same, one-other}
 use Rattle.checker_pass.specs.Marks.{marked, markedTimes, Kept, Cleared, Marked}
 use Rattle.checker_pass.proofs.Times.{times-add}
 

@@ -13,7 +13,7 @@ use Rattle.sheet.specs.Sheet.{countOf, recordOf}
 use Rattle.sheet_rules.specs.Fields.{oneIf, numberOr0, sumBelow}
 use Rattle.sheet_rules.specs.Uses.{overCharts, overBindings, homeChart, operandUses, rootUses, constantUses, usesOf, markOf}
 use Rattle.sheet_rules.proofs.Fields.{sum-more}
-use Rattle.sheet_uses.proofs.Sums.{sum-zero, sum-at}
+use Rattle.sheet_rules.proofs.Sums.{sum-zero, sum-at}
 use Rattle.sheet_uses.proofs.Trees.{higher-uses}
 use Rattle.sheet_uses.proofs.Homes.{inChart, inBodies, homeUses, Agree, chart-above, bodies-above, no-home}
 use Rattle.checker_pass.specs.Marks.{markedTimes, Marked, Rooted, RootsMarked}

@@ -71,7 +71,7 @@ pub fn answered(number: u8, steps: u32) -> Answer
     }
 }
 
-// An event's answer: "6 to 10", and 11, leave a copy of the old state.
+// An event's answer: "6 to 10", 11 and 12 leave a copy of the old state.
 fn answer(old: &[i32], st: &mut [i32], number: u8, steps: u32) -> Answer
     requires { ⌜ length (now old) ≡ length (now st) ⌝ }
     ensures { λ a. ⌜ (a ≡ answerOf number steps Nothing) × (number ≡ 0 → now (st .exit) ≡ now (st .entry)) × ((number ≡ 0 → ⊥) → now (st .exit) ≡ now (old .entry)) ⌝ }

@@ -23,7 +23,8 @@ use Rattle.sheet_rules.proofs.Fields.{holds-present, holds-absent, sum-more}
 use Rattle.machine.specs.Values.{isBound, bindingOf, chartOf, firstCell}
 use Rattle.machine_passed.proofs.Records.{elements-are, elements-bound, components-limit, two-externals, chart-shape, present-below, one-record}
 use Rattle.machine_passed.proofs.Charts.{number-bound, bound-element, element-chart, chart-element}
-use Rattle.machine_states.proofs.Elements.{sum-rises, cells-none, cells-next, element-count}
+use Rattle.sheet_rules.proofs.Sums.{sum-rises}
+use Rattle.machine_states.proofs.Elements.{cells-none, cells-next, element-count}
 use Rattle.engine_cells.specs.Bound.{chartBound}
 use Rattle.engine_cells.specs.Cells.{CellTable, Row}
 

@@ -82,11 +82,12 @@ module _ (s : List ℕ) where
     fired-onward : (ws : List ℤ) → length ws ≤ 8 → Onward s (at + 8) st (thenSlice (appended s st t) (λ st′. on (putWords st′ at ws)))
     unfolding thenSlice placeAt isBelow
     fired-onward ws n = appending s st t head (λ r. Onward s (at + 8) st (thenSlice r (λ st′. on (putWords st′ at ws))))
-        (λ room.
+        (λ room few.
         let long : length (withTelegram s st t) ≡ stateLength s = with-length s st t whole room ∙ whole in
         let first : isBelow (wordOf (withTelegram s st t) 0) 129 ≡ true = ap (λ (w : ℤ). isBelow w 129) (with-head s st t whole room) ∙ lt-ltb (waiting st + 1) 129 (omega arith) in
         let sent : After s (at + 8) st (withTelegram s st t) = record { whole = long; head = first; later = λ k l m. with-before s st t whole room k (omega arith) (omega arith) } in
         after-more (at + 8) (at + 8) st (withTelegram s st t) (putWords (withTelegram s st t) at ws) (omega arith) sent (put-onward (withTelegram s st t) at long first behind inside ws n))
+        tt
         tt
 
     fires-onward : (ws : List ℤ) → length ws ≤ 8 → Onward s (at + 8) st (fires s e at ws st)

@@ -25,7 +25,7 @@ pub record Held (s : List ℕ) (events : List ℤ) (a : Answer) (st answers : Li
   pub words : answers ≡ answersWords given
   -- the machine, "fed with the sheet and the events alone", gives start's answer and these, whole, and has this state, word for word
   pub machine : playOf s (eventsIn events) ≡ played (a ∷ given) st
-  -- each is 0 or 4 to 11 and has at most the limit's steps
+  -- each is 0 or 4 to 12 and has at most the limit's steps
   pub answered : AllAnswered given
   pub within : AllWithin (limitOf s) given
   -- "the state is then of the sheet"
@@ -34,7 +34,7 @@ pub record Held (s : List ℕ) (events : List ℤ) (a : Answer) (st answers : Li
   pub reactions : OneReaction s st
 
 pub record Demand (s : List ℕ) (events room : List ℤ) (a : Answer) (st answers : List ℤ) : Type 0 where
-  -- start gives 0 or 6 to 11, with at most a limit's steps for each bound element
+  -- start gives 0 or 6 to 12, with at most a limit's steps for each bound element
   pub start : OneOf 6 (a .number)
   pub startWithin : a .steps ≤ elementsOf s * limitOf s
   pub list : a .number ≡ 0 → Held s events a st answers

@@ -37,7 +37,7 @@ fn initial(
     engine_bodies::run_body(sheet, directory, cells, st, e, c.f4 as usize + j, &none)
 }
 
-// "after 6 to 10 its state is all zeros", and after 11
+// "after 6 to 10 its state is all zeros", and after 11 and 12
 fn refused(st: &mut [i32], number: u8, steps: u32) -> Answer
     ensures { λ a. ⌜ (a ≡ answer number steps Nothing) × (now (st .exit) ≡ replicate (length (now (st .entry))) (pos 0)) ⌝ }
 {

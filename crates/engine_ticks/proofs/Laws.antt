@@ -100,9 +100,10 @@ module _ (s : List ℕ) (e at : ℕ) (st : List ℤ) where
   pub fired-word : length st ≡ stateLength s → Running st at → (st′ : List ℤ) → fired ≡ on st′ → (wordOf st′ at ≡ pos 1) × (length st′ ≡ length st)
   unfolding stateLength placeAt
   fired-word whole r st′ = appending s st (clockTelegram e st at) (r .head) (λ x. x ≡ on st′ → (wordOf st′ at ≡ pos 1) × (length st′ ≡ length st))
-      (λ room f.
+      (λ room few f.
       rw (sym (on-words _ _ f)) (with-before s st (clockTelegram e st at) whole room at (let l = r .behind in omega arith) (let l = r .inside in omega arith) ∙ r .runs, with-length s st (clockTelegram e st at) whole room))
       (λ f. absurd (on-off st′ 8 f))
+      (λ f. absurd (on-off st′ 12 f))
 
 -- the two words of a Cycler that fires; the first is 1 already
 pub put-two : (st : List ℤ) (at : ℕ) (z : ℤ) → at + 2 ≤ length st → wordOf st at ≡ pos 1 → putWords st at (pos 1 ∷ z ∷ []) ≡ set st (at + 1) z

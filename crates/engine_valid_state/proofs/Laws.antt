@@ -12,7 +12,7 @@ use Rattle.sheet.specs.declared.Found.the-variants.{Present, Absent}
 use Rattle.sheet.specs.All.{allBelow}
 use Rattle.sheet.specs.Names.{declarations, declaredType, declaredIndex, chartVariables}
 use Rattle.sheet.specs.Sheet.{recordOf}
-use Rattle.sheet.proofs.All.{and-first}
+use Rattle.sheet.proofs.All.{and-first, and-second, all-at}
 use Rattle.sheet_rules.specs.Fields.{declaredSo, sumBelow, componentsOf, externalsOf, elementsOf}
 use Rattle.sheet_rules.specs.Indices.{indexOf, cellsBy, cellsTaken, cellsBefore}
 use Rattle.sheet_rules.specs.Shape.{cellsBound}
@@ -20,11 +20,13 @@ use Rattle.sheet_rules.proofs.Fields.{holds-present, holds-absent, sum-more}
 use Rattle.sheet_indices.proofs.Laws.{index-present}
 use Rattle.machine.specs.Values.{chartOf, firstCell}
 use Rattle.machine.specs.State.{cellAt, cellOf, placeAt, stateLength, wordOf, waiting, telegramIn, telegramOf}
-use Rattle.machine.specs.Valid.{zeroWords, cellFits, variableFits, elementFits, telegramFits, headFits, cellsFit, waitingFit, unusedZero}
+use Rattle.machine.specs.Valid.{zeroWords, cellFits, variableFits, elementFits, internalFits, telegramFits, headFits, cellsFit, waitingFit, unusedZero}
 use Rattle.machine_states.proofs.Frame.{all-same}
-use Rattle.machine_states.proofs.Parts.{below-abs}
+use Rattle.machine_states.proofs.Parts.{below-abs, below-more, same-word}
+use Rattle.machine_states.proofs.Telegrams.{internal-part}
 use Rattle.machine_states.proofs.Elements.{element-count, element-cells, variable-cells}
 use Rattle.engine_valid_words.proofs.Laws.{below-from}
+use Rattle.engine_valid_classes.specs.Classes.{EndsFit}
 
 -- ---- the cells of an element
 
@@ -109,6 +111,13 @@ module _ (s : List ℕ) (st : List ℤ) (l : length st ≡ stateLength s) where
     pub waiting-is : allBelow n (λ j. telegramFits s (telegramIn st (length st - 1024 + 8 * j))) ≡ waitingFit s st
     unfolding waitingFit waiting telegramOf
     waiting-is = all-same n _ _ (λ j m. ap (λ (at : ℕ). telegramFits s (telegramIn st at)) (place-is j)) ∙ ap (λ (m : ℕ). allBelow m (λ j. telegramFits s (telegramOf s st j))) p
+
+    -- "components (up to 64)"
+    pub ends-fit : componentsOf s ≤ 64 → waitingFit s st ≡ true → (j : ℕ) → j < n → EndsFit (telegramIn st (length st - 1024 + 8 * j))
+    unfolding telegramFits internalFits
+    ends-fit few fits j m =
+        let h : telegramFits s (telegramIn st (length st - 1024 + 8 * j)) ≡ true = all-at n _ (waiting-is ∙ fits) j m in
+        record { sender = below-more _ _ 64 few (and-first _ _ h); receiver = below-more _ _ 64 few (and-first _ _ (and-second _ _ h)); itself = λ i. same-word _ _ (and-first _ _ (internal-part s (telegramIn st (length st - 1024 + 8 * j)) h i)) }
 
     pub unused-is : allBelow (128 - n) (λ k. zeroWords st (length st - 1024 + 8 * (n + k)) 0) ≡ unusedZero s st
     unfolding unusedZero waiting

@@ -11,6 +11,7 @@ ghost use Rattle.sheet.specs.declared.Found.the-variants.{Present};
 ghost use Rattle.sheet.specs.All.{allBelow};
 ghost use Rattle.sheet.specs.Names.{chartVariables};
 ghost use Rattle.sheet.specs.Sheet.{directoryOf};
+ghost use Rattle.sheet_rules.specs.Fields.{componentsOf};
 ghost use Rattle.sheet_rules.specs.Indices.{cellsBefore};
 ghost use Rattle.sheet_rules.specs.Shape.{cellsOf};
 ghost use Rattle.machine.specs.Values.{chartOf, firstCell};
@@ -160,7 +161,7 @@ fn unused_zero(st: &[i32], n: usize) -> bool
 
 // Whether all that the paper says of a state's content holds.
 pub fn content_fits(sheet: &[u8], directory: &[usize; 16], st: &[i32]) -> bool
-    requires { ⌜ (now directory ≡ directoryOf (now sheet)) × (length (now st) ≡ stateLength (now sheet)) ⌝ }
+    requires { ⌜ (now directory ≡ directoryOf (now sheet)) × (length (now st) ≡ stateLength (now sheet)) × (componentsOf (now sheet) ≤ 64) ⌝ }
     ensures { λ b. ⌜ b ≡ contentFits (now (sheet .entry)) (now (st .entry)) ⌝ }
 {
     if !head_fits(st) {
@@ -173,5 +174,8 @@ pub fn content_fits(sheet: &[u8], directory: &[usize; 16], st: &[i32]) -> bool
     if !waiting_fit(sheet, directory, st, n) {
         return false;
     }
-    unused_zero(st, n)
+    if !unused_zero(st, n) {
+        return false;
+    }
+    engine_valid_classes::classes_fit(st, n)
 }

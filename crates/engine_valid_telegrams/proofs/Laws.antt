@@ -11,8 +11,8 @@ use Rattle.sheet.proofs.All.{true-false, and-true, and-first, and-second}
 use Rattle.sheet_rules.specs.Fields.{componentsOf}
 use Rattle.machine.specs.declared.Telegram.{Telegram}
 use Rattle.machine.specs.Values.{isBelow}
-use Rattle.machine.specs.State.{wordOf, telegramIn}
-use Rattle.machine.specs.Valid.{nameFits, datumOf, internalFits, externalFits, isInternal, telegramFits}
+use Rattle.machine.specs.State.{wordOf, telegramIn, isInternal}
+use Rattle.machine.specs.Valid.{nameFits, datumOf, internalFits, externalFits, telegramFits}
 use Rattle.machine_states.proofs.Frame.{name-same}
 use Rattle.sheet_types.proofs.Laws.{no, so}
 use Rattle.engine_valid_words.proofs.Laws.{below-from}

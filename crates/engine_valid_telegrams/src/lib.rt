@@ -6,10 +6,10 @@ ghost use lib.ListN.{length};
 ghost use lib.IntN.{pos};
 ghost use lib.Signed.{leZ};
 ghost use Rattle.sheet.specs.Sheet.{directoryOf};
-ghost use Rattle.machine.specs.State.{wordOf, telegramIn};
-ghost use Rattle.machine.specs.Valid.{internalFits, externalFits, isInternal, telegramFits};
+ghost use Rattle.machine.specs.State.{wordOf, telegramIn, isInternal};
+ghost use Rattle.machine.specs.Valid.{internalFits, externalFits, telegramFits};
 
-fn is_internal(st: &[i32], at: usize) -> bool
+pub fn is_internal(st: &[i32], at: usize) -> bool
     requires { ⌜ at + 8 ≤ length (now st) ⌝ }
     ensures { λ b. ⌜ b ≡ isInternal (telegramIn (now (st .entry)) at) ⌝ }
 {

@@ -10,8 +10,8 @@ use Rattle.sheet_rules.specs.Forms.{binaryOf}
 use Rattle.sheet_rules.proofs.Samples.{sheetOf, rec3, rec6, body, check, assigning}
 use Rattle.machine_division.specs.Division.{quotient, remainder}
 use Rattle.machine.specs.Values.{fits32, isBelow, recordBy, isZero, inDataType, inType, defaultIn, defaultOf, hasDefault, isBound, bindingOf, chartOf, firstCell}
-use Rattle.machine.specs.State.{cellAt, cellOf, placeAt, stateLength, wordOf, waiting, setWaiting, telegramIn, telegramOf, putWords, withTelegram, appended, withoutTelegram}
-use Rattle.machine.specs.Valid.{dataFit, nameFits, reactionAwaits, zeroWords, runningClock, clockCell, cellFits, variableFits, elementFits, internalFits, externalFits, telegramFits, headFits, cellsFit, waitingFit, unusedZero, contentFits}
+use Rattle.machine.specs.State.{cellAt, cellOf, placeAt, stateLength, wordOf, waiting, setWaiting, telegramIn, telegramOf, putWords, withTelegram, classOf, sameClass, waitingLike, appended, withoutTelegram}
+use Rattle.machine.specs.Valid.{dataFit, nameFits, reactionAwaits, zeroWords, runningClock, clockCell, cellFits, variableFits, elementFits, internalFits, externalFits, telegramFits, headFits, cellsFit, waitingFit, unusedZero, classesFit, contentFits}
 use Rattle.machine.specs.Eval.{val, isVariable, isPlainVariable, andThen, needs, onRecord, intOut, dividing, notVal, onInts, combined, binaryVal, written, literalValue, within, ofType, parameterVal, variableAtCell, reached, elementAs, elementVal, readAs, readVal, clockWord, clockVal, evalIn, evalStep, evalF, evalOf}
 use Rattle.machine.specs.Run.{goOn, thenOperand, withRecord, provided, before, nextValue, valuesFrom, thenValues, areOf, wordsIn, localAt, listFrom, localsOf, localsThere, append, armed, clockSet, fewer, assigned, hasVariable, assignOf, elementAssigned, assignElementOf, nameValues, externalSendOf, internalSendOf, armOf, clockActOf, entered, callOf, choiceOf, runIn, runStep, runF, runOf}
 use Rattle.machine.specs.Kinds.{kindOf}
@@ -53,7 +53,7 @@ mod-zero l = refl
 -- ---- start and events, with every definition open
 
 unfoldable pub start : List (List ℕ) → Outcome
-unfolding check fits32 isBelow recordBy isZero inDataType inType defaultIn defaultOf hasDefault isBound bindingOf chartOf firstCell cellAt cellOf placeAt stateLength wordOf waiting setWaiting telegramIn telegramOf putWords withTelegram appended withoutTelegram dataFit nameFits reactionAwaits zeroWords runningClock clockCell cellFits variableFits elementFits internalFits externalFits telegramFits headFits cellsFit waitingFit unusedZero contentFits andThen needs onRecord intOut quotient remainder dividing notVal onInts combined binaryVal written literalValue within ofType parameterVal variableAtCell reached elementAs elementVal readAs readVal clockWord clockVal evalIn evalStep evalF evalOf goOn thenOperand withRecord provided before nextValue valuesFrom thenValues areOf wordsIn localAt listFrom localsOf localsThere append armed clockSet fewer assigned hasVariable assignOf elementAssigned assignElementOf nameValues externalSendOf internalSendOf isVariable isPlainVariable armOf clockActOf entered callOf choiceOf runIn runStep runF runOf limitOf bodyFrom bodyWhere ranBody elementBody alone eventEnd defaultCell alike defaultCells elementCells cellsFrom defaultState hasHead elementThere elementsThere startNext startFrom started oldestFrom oldest taking sameDeclared brought reacting panicking withNumber outside bodiesThere received delivered deliver corrupt inner thenSlice fires ticks slicedCell slicedEach slicedVariable slicedCells slicedElement slicedFrom changeEnd slice restZero wellFormed kindOf isEvent happensAs happens ifPassed startCall eventCall
+unfolding check fits32 isBelow recordBy isZero inDataType inType defaultIn defaultOf hasDefault isBound bindingOf chartOf firstCell cellAt cellOf placeAt stateLength wordOf waiting setWaiting telegramIn telegramOf putWords withTelegram classOf sameClass waitingLike appended withoutTelegram dataFit nameFits reactionAwaits zeroWords runningClock clockCell cellFits variableFits elementFits internalFits externalFits telegramFits headFits cellsFit waitingFit unusedZero classesFit contentFits andThen needs onRecord intOut quotient remainder dividing notVal onInts combined binaryVal written literalValue within ofType parameterVal variableAtCell reached elementAs elementVal readAs readVal clockWord clockVal evalIn evalStep evalF evalOf goOn thenOperand withRecord provided before nextValue valuesFrom thenValues areOf wordsIn localAt listFrom localsOf localsThere append armed clockSet fewer assigned hasVariable assignOf elementAssigned assignElementOf nameValues externalSendOf internalSendOf isVariable isPlainVariable armOf clockActOf entered callOf choiceOf runIn runStep runF runOf limitOf bodyFrom bodyWhere ranBody elementBody alone eventEnd defaultCell alike defaultCells elementCells cellsFrom defaultState hasHead elementThere elementsThere startNext startFrom started oldestFrom oldest taking sameDeclared brought reacting panicking withNumber outside bodiesThere received delivered deliver corrupt inner thenSlice fires ticks slicedCell slicedEach slicedVariable slicedCells slicedElement slicedFrom changeEnd slice restZero wellFormed kindOf isEvent happensAs happens ifPassed startCall eventCall
 start ss = startCall (sheetOf ss) (replicate (stateLength (sheetOf ss)) (pos 0))
 
 -- the machine alone, without the tests of sheet, state and event that a call makes before
@@ -151,14 +151,10 @@ waits n cells telegrams = pos n ∷ replicate 7 (pos 0) ++ cells ++ telegrams ++
 unfoldable pub sent : ℕ → ℕ → List ℤ
 sent sender receiver = pos sender ∷ pos receiver ∷ replicate 6 (pos 0)
 
--- so many of them wait at element 2
-unfoldable pub atTwo : ℕ → List ℤ
-atTwo n = waits n [] (copies n (sent 0 2))
-
--- one bound element that reacts to external name 0 on port 0; nodes from 2 on are given, with the reaction's root
-unfoldable pub reacts : List ℕ → ℕ → List (List ℕ)
-reacts nodes root =
-    rec3 3 2 2
+-- n external components, and one bound element that reacts to external name 0 on port 0; nodes from 2 on are given, with the reaction's root
+unfoldable pub reacts : ℕ → List ℕ → ℕ → List (List ℕ)
+reacts n nodes root =
+    rec3 (n + 1) n 2
     ∷ []
     ∷ []
     ∷ rec3 0 0 0
@@ -172,45 +168,110 @@ reacts nodes root =
 unfoldable pub sends : ℕ → List ℕ
 sends n = rec3 4 0 0 ++ rec3 5 0 0 ++ rec3 34 n (n + 1)
 
-unfoldable pub once : List (List ℕ)
-once = reacts (sends 2) 4
+unfoldable pub once : ℕ → List (List ℕ)
+once n = reacts n (sends 2) 4
 
-unfoldable pub twice : List (List ℕ)
-twice = reacts (sends 2 ++ sends 5 ++ rec3 43 4 7) 8
+unfoldable pub twice : ℕ → List (List ℕ)
+twice n = reacts n (sends 2 ++ sends 5 ++ rec3 43 4 7) 8
+
+-- 16 from each of n components, from number a on, to element r
+unfoldable pub sixteens : ℕ → ℕ → ℕ → List ℤ
+sixteens zero a r = []
+sixteens (suc n) a r = copies 16 (sent a r) ++ sixteens n (suc a) r
+
+-- with eight external components 128 wait in classes of at most 16: 16 from each of 1 to 7 to element 8, n from Log, and more
+unfoldable pub atEight : ℕ → List ℤ → List ℤ
+atEight n more = sixteens 7 1 8 ++ copies n (sent 0 8) ++ more
+
+-- one of them goes from element 8 to Log
+unfoldable pub full : List ℤ
+full = waits 128 [] (atEight 15 (sent 8 0))
 
 -- "127 waiting, Outside: 0; 128: 8."
-outside-127 : event once (atTwo 127) (words 1 0 2) ≡ answered 0 0 (atTwo 128)
-unfolding event answered words once reacts sends copies waits sent atTwo
+outside-127 : event (once 8) (waits 127 [] (atEight 15 [])) (words 1 0 8) ≡ answered 0 0 (waits 128 [] (atEight 16 []))
+unfolding event answered words once reacts sends copies waits sent sixteens atEight
 outside-127 = refl
 
-pub outside-128 : event once (atTwo 128) (words 1 0 2) ≡ answered 8 0 (atTwo 128)
-unfolding event answered words once reacts sends copies waits sent atTwo
+pub outside-128 : event (once 8) full (words 1 0 8) ≡ answered 8 0 full
+unfolding event answered words once reacts sends copies waits sent sixteens atEight full
 outside-128 = refl
 
 -- "128 waiting, Deliver to a reaction sending once: 0; twice: 8."
-pub deliver-once : event once (atTwo 128) (words 2 0 2) ≡ answered 0 3 (waits 128 [] (copies 127 (sent 0 2) ++ sent 2 0))
-unfolding event answered words once reacts sends copies waits sent atTwo
+pub deliver-once : event (once 8) full (words 2 0 8) ≡ answered 0 3 (waits 128 [] (atEight 14 (sent 8 0 ++ sent 8 0)))
+unfolding event answered words once reacts sends copies waits sent sixteens atEight full
 deliver-once = refl
 
 -- nothing of the refused body's work is kept
-deliver-twice : event twice (atTwo 128) (words 2 0 2) ≡ answered 8 7 (atTwo 128)
-unfolding event answered words twice reacts sends copies waits sent atTwo
+deliver-twice : event (twice 8) full (words 2 0 8) ≡ answered 8 7 full
+unfolding event answered words twice reacts sends copies waits sent sixteens atEight full
 deliver-twice = refl
 
--- the same of a clock that fires
-fired : List ℤ
-fired = pos 2 ∷ pos 2 ∷ negsuc 0 ∷ replicate 5 (pos 0)
+-- ---- a full class
 
-aboutToFire : List ℤ
+-- so many wait from Log at element 2
+unfoldable pub atTwo : ℕ → List ℤ
+atTwo n = waits n [] (copies n (sent 0 2))
+
+-- 16 of a class and one more: 12; 15: 0
+class-of-15 : event (once 2) (atTwo 15) (words 1 0 2) ≡ answered 0 0 (atTwo 16)
+unfolding event answered words once reacts sends copies waits sent atTwo
+class-of-15 = refl
+
+class-of-16 : event (once 2) (atTwo 16) (words 1 0 2) ≡ answered 12 0 (atTwo 16)
+unfolding event answered words once reacts sends copies waits sent atTwo
+class-of-16 = refl
+
+-- 128 wait and the class is full: 8
+class-and-list-full : event (once 8) full (words 1 1 8) ≡ answered 8 0 full
+unfolding event answered words once reacts sends copies waits sent sixteens atEight full
+class-and-list-full = refl
+
+-- another sender has a class of its own
+other-sender : event (once 2) (atTwo 16) (words 1 1 2) ≡ answered 0 0 (waits 17 [] (copies 16 (sent 0 2) ++ sent 1 2))
+unfolding event answered words once reacts sends copies waits sent atTwo
+other-sender = refl
+
+-- and another receiver: 16 from element 2 to Inf, and the reaction sends to Log
+other-receiver : event (once 2) (waits 17 [] (copies 16 (sent 2 1) ++ sent 0 2)) (words 2 0 2) ≡ answered 0 3 (waits 17 [] (copies 16 (sent 2 1) ++ sent 2 0))
+unfolding event answered words once reacts sends copies waits sent
+other-receiver = refl
+
+-- one bound element that reacts to external name 0 on port 0 by sending it to itself on that port, and to internal name 1 by sending that
+echoes : List (List ℕ)
+echoes =
+    rec3 3 2 2
+    ∷ []
+    ∷ []
+    ∷ (rec3 0 0 0 ++ rec3 0 0 1)
+    ∷ rec6 0 0 0 0 0 4
+    ∷ (body 0 0 0 ++ body 1 0 1 ++ body 2 0 4 ++ body 3 1 5)
+    ∷ (rec3 32 0 0 ++ rec3 32 0 0 ++ rec3 6 0 0 ++ rec3 5 0 0 ++ rec3 34 2 3 ++ rec6 35 0 0 1 0 0)
+    ∷ rec3 0 0 0
+    ∷ []
+
+-- internal name 1
+inside : List ℤ
+inside = pos 2 ∷ pos 2 ∷ negsuc 0 ∷ pos 1 ∷ replicate 4 (pos 0)
+
+-- 16 of a class, and a Deliver that sends one of it after removing one: 0. As many internal ones between the same ends are a class of their own
+class-delivered : event echoes (waits 32 [] (copies 16 inside ++ copies 16 (sent 2 2))) (words 2 2 2) ≡ answered 0 3 (waits 32 [] (copies 16 inside ++ copies 16 (sent 2 2)))
+unfolding event answered words echoes inside copies waits sent
+class-delivered = refl
+
+-- the same of a clock that fires
+unfoldable pub fired : ℕ → List ℤ
+fired e = pos e ∷ pos e ∷ negsuc 0 ∷ replicate 5 (pos 0)
+
+unfoldable pub aboutToFire : List ℤ
 aboutToFire = pos 1 ∷ pos 1 ∷ pos 1 ∷ replicate 5 (pos 0)
 
-slice-127 : event (timeout 1) (waits 127 aboutToFire (copies 127 fired)) (words 5 0 0) ≡ answered 0 0 (waits 128 (replicate 8 (pos 0)) (copies 128 fired))
+slice-15 : event (timeout 1) (waits 15 aboutToFire (copies 15 (fired 2))) (words 5 0 0) ≡ answered 0 0 (waits 16 (replicate 8 (pos 0)) (copies 16 (fired 2)))
 unfolding event answered words timeout arming copies waits fired aboutToFire
-slice-127 = refl
+slice-15 = refl
 
-slice-128 : event (timeout 1) (waits 128 aboutToFire (copies 128 fired)) (words 5 0 0) ≡ answered 8 0 (waits 128 aboutToFire (copies 128 fired))
+slice-16 : event (timeout 1) (waits 16 aboutToFire (copies 16 (fired 2))) (words 5 0 0) ≡ answered 12 0 (waits 16 aboutToFire (copies 16 (fired 2)))
 unfolding event answered words timeout arming copies waits fired aboutToFire
-slice-128 = refl
+slice-16 = refl
 
 -- ---- to oneself: an internal telegram has its reaction, never the panic body; one sent by operator 34 is external
 

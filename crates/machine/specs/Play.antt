@@ -23,8 +23,8 @@ use Rattle.sheet_rules.specs.Fields.{holds, numberOr0, declaredSo, typeAt, comp
 use Rattle.sheet_rules.specs.Indices.{cellsTaken}
 use Rattle.sheet_rules.specs.Types.{reactsTo}
 use Rattle.machine.specs.Values.{isBelow, recordBy, isZero, sameWord, defaultOf, hasDefault, bindingOf, chartOf, firstCell}
-use Rattle.machine.specs.State.{places, cellAt, stateLength, wordOf, waiting, telegramOf, putWords, Changed, on, off, lost, counted, appended, withoutTelegram}
-use Rattle.machine.specs.Valid.{dataFit, nameFits, datumOf, isInternal, contentFits}
+use Rattle.machine.specs.State.{places, cellAt, stateLength, wordOf, waiting, telegramOf, putWords, Changed, on, off, lost, counted, appended, withoutTelegram, isInternal}
+use Rattle.machine.specs.Valid.{dataFit, nameFits, datumOf, contentFits}
 use Rattle.machine.specs.Run.{World, withRecord, provided, localsOf, localsThere, telegram, runOf}
 use Rattle.machine.specs.Kinds as kind
 use Rattle.machine.specs.Kinds.{Kind, kindOf}
@@ -79,7 +79,7 @@ unfoldable pub alone : Found → Found
 alone (Present b) = elim (eqb (bodyParameters b .count) 0) [ true ↦ Present b | false ↦ Absent ]
 alone Absent = Absent
 
--- an event's body: "6 to 10", and 11 "with the same remains", leave a copy of the old state
+-- an event's body: "6 to 10", and 11 and 12 "with the same remains", leave a copy of the old state
 unfoldable pub eventEnd : List ℕ → List ℤ → Ran → List ℤ → Outcome
 eventEnd s old (Done l) st = ended (answer 0 (limitOf s - l) Nothing) st
 eventEnd s old (Refused n l) st = ended (answer n (limitOf s - l) Nothing) old

@@ -3,13 +3,16 @@ use Prim.Native.Nat.{ℕ, _+_, _*_, _-_}
 use mathlib.Core.List.{List, [], _∷_, _++_}
 use mathlib.Core.Bool.{Bool, true, false}
 use lib.ListN.{length, getD, take, drop, set, replicate}
-use lib.Dec.{ltb}
-use lib.IntN.{ℤ, pos, natAbs}
+use lib.Dec.{ltb, eqb}
+use lib.IntN.{ℤ, pos, negsuc, natAbs}
 use Rattle.sheet.specs.declared.Record.{Record}
+use Rattle.sheet.specs.All.{_and_}
+use Rattle.sheet.specs.Names.{external, internal}
 use Rattle.machine.specs.declared.Telegram.{Telegram}
+use Rattle.sheet_rules.specs.Fields.{countBelow}
 use Rattle.sheet_rules.specs.Indices.{cellsBefore}
 use Rattle.sheet_rules.specs.Shape.{cellsOf}
-use Rattle.machine.specs.Values.{isBelow, firstCell}
+use Rattle.machine.specs.Values.{isBelow, sameWord, firstCell}
 
 -- ---- where things lie: "8 head words ..; 8 words per variable ..; 128 telegram places of 8 words"
 
@@ -49,6 +52,9 @@ telegramIn st at = record { sender = wordOf st at; receiver = wordOf st (at + 1)
 unfoldable pub telegramOf : List ℕ → List ℤ → ℕ → Telegram
 telegramOf s st j = telegramIn st (placeAt s j)
 
+abbrev pub isInternal : Telegram → Bool
+isInternal t = sameWord (t .port) (negsuc 0)
+
 abbrev pub wordsOf : Telegram → List ℤ
 wordsOf t = t .sender ∷ t .receiver ∷ t .port ∷ t .name ∷ t .d0 ∷ t .d1 ∷ t .d2 ∷ t .d3 ∷ []
 
@@ -62,7 +68,7 @@ withTelegram s st t = setWaiting (putWords st (placeAt s (waiting st)) (wordsOf 
 
 -- the last number of the table of answers: a run is refused with one from 6 to this
 abbrev pub lastRefusal : ℕ
-lastRefusal = 11
+lastRefusal = 12
 
 -- what a change of the state comes to: the new state, or the number of its refusal; or the machine is stuck
 pub data Changed : Type 0 where
@@ -74,9 +80,28 @@ pub data Changed : Type 0 where
 abbrev pub counted : List ℤ → Bool
 counted st = isBelow (wordOf st 0) (places + 1)
 
--- "128 telegrams wait and one more is appended": 8. Sends, Outside and slices all append by this
+-- "one sender, receiver and class, the class being internal or external"; the class has the number that it has in a telegram name
+unfoldable pub classOf : Telegram → ℕ
+classOf t = elim (isInternal t) [ true ↦ internal | false ↦ external ]
+
+unfoldable pub sameClass : Telegram → Telegram → Bool
+sameClass t u = sameWord (t .sender) (u .sender) and sameWord (t .receiver) (u .receiver) and eqb (classOf t) (classOf u)
+
+-- how many wait that have t's sender, receiver and class
+unfoldable pub waitingLike : List ℕ → List ℤ → Telegram → ℕ
+waitingLike s st t = countBelow (waiting st) (λ j. sameClass t (telegramOf s st j))
+
+-- "At most 16 telegrams may wait for one sender, receiver and class"
+abbrev pub classLimit : ℕ
+classLimit = 16
+
+-- "128 telegrams wait and one more is appended": 8; "a seventeenth of its class, tested after 8": 12. Sends, Outside and slices all append by this
 unfoldable pub appended : List ℕ → List ℤ → Telegram → Changed
-appended s st t = elim (counted st) [ true ↦ elim (ltb (waiting st) places) [ true ↦ on (withTelegram s st t) | false ↦ off 8 ] | false ↦ lost ]
+appended s st t =
+    elim (counted st) [
+      | true ↦ elim (ltb (waiting st) places) [ true ↦ elim (ltb (waitingLike s st t) classLimit) [ true ↦ on (withTelegram s st t) | false ↦ off 12 ] | false ↦ off 8 ]
+      | false ↦ lost
+    ]
 
 -- telegram j "is removed, later ones close up"; "unused ones zero"
 unfoldable pub withoutTelegram : List ℕ → List ℤ → ℕ → List ℤ

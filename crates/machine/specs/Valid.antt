@@ -4,8 +4,8 @@ use mathlib.Core.List.{List, [], _∷_}
 use mathlib.Core.Path.{_≡_}
 use mathlib.Core.Bool.{Bool, true, false, not}
 use lib.ListN.{length, getD}
-use lib.Dec.{ltb, eqb}
-use lib.IntN.{ℤ, pos, negsuc, natAbs}
+use lib.Dec.{ltb, leb, eqb}
+use lib.IntN.{ℤ, pos, natAbs}
 use lib.Signed.{leZ, ltZ}
 use Rattle.sheet.specs.declared.Record.{Record}
 use Rattle.sheet.specs.declared.Range.{Range}
@@ -17,7 +17,7 @@ use Rattle.sheet_rules.specs.Fields.{holds, declaredSo, componentsOf, externals
 use Rattle.sheet_rules.specs.Indices.{cellsTaken}
 use Rattle.sheet_rules.specs.Types.{hasClass, hasReaction, nameRange}
 use Rattle.machine.specs.Values.{fits32, isBelow, isZero, sameWord, inType, isBound, chartOf}
-use Rattle.machine.specs.State.{places, cellOf, placeAt, stateLength, wordOf, waiting, counted, telegramOf}
+use Rattle.machine.specs.State.{places, cellOf, placeAt, stateLength, wordOf, waiting, counted, telegramOf, isInternal, waitingLike, classLimit}
 
 -- ---- data: "Surplus data are zero." "Data, also a clock's, fit their name's types"
 
@@ -79,9 +79,6 @@ internalFits s t = sameWord (t .sender) (t .receiver) and isBound s (natAbs (t .
 unfoldable pub externalFits : List ℕ → Telegram → Bool
 externalFits s t = not (isBelow (t .sender) (externalsOf s) and isBelow (t .receiver) (externalsOf s)) and isBelow (t .port) (portsOf s) and nameFits s external (t .name) (datumOf t)
 
-abbrev pub isInternal : Telegram → Bool
-isInternal t = sameWord (t .port) (negsuc 0)
-
 unfoldable pub telegramFits : List ℕ → Telegram → Bool
 telegramFits s t = isBelow (t .sender) (componentsOf s) and isBelow (t .receiver) (componentsOf s) and elim (isInternal t) [ true ↦ internalFits s t | false ↦ externalFits s t ]
 
@@ -100,8 +97,12 @@ waitingFit s st = allBelow (waiting st) (λ j. telegramFits s (telegramOf s st j
 unfoldable pub unusedZero : List ℕ → List ℤ → Bool
 unusedZero s st = allBelow (places - waiting st) (λ k. zeroWords st (placeAt s (waiting st + k)) 0)
 
+-- at most 16 of a class: of the class of each telegram that waits
+unfoldable pub classesFit : List ℕ → List ℤ → Bool
+classesFit s st = allBelow (waiting st) (λ j. leb (waitingLike s st (telegramOf s st j)) classLimit)
+
 unfoldable pub contentFits : List ℕ → List ℤ → Bool
-contentFits s st = headFits st and cellsFit s st and waitingFit s st and unusedZero s st
+contentFits s st = headFits st and cellsFit s st and waitingFit s st and unusedZero s st and classesFit s st
 
 pub record OfSheet (s : List ℕ) (st : List ℤ) : Type 0 where
   pub whole : length st ≡ stateLength s
@@ -109,3 +110,4 @@ pub record OfSheet (s : List ℕ) (st : List ℤ) : Type 0 where
   pub cells : cellsFit s st ≡ true
   pub telegrams : waitingFit s st ≡ true
   pub unused : unusedZero s st ≡ true
+  pub classes : classesFit s st ≡ true

@@ -72,9 +72,9 @@ pub record Claim (e : Engine) (s : List ℕ) (lent : List ℤ) (calls : List Cal
   pub run : runOfEngine e s lent calls ≡ played (first ∷ answers) last
   -- "The machine is fed with the sheet and the events alone and keeps its own state. Compared are each answer, whole, and after the list the two states, word for word": it isn't stuck and comes to the very same
   pub machine : playOf s (eventsCalled calls) ≡ played (first ∷ answers) last
-  -- start gives 0 or 6 to 11
+  -- start gives 0 or 6 to 12
   pub start : OneOf 6 (first .number)
-  -- each event gives 0 or 4 to 11, and after a start of 0 each has its answer
+  -- each event gives 0 or 4 to 12, and after a start of 0 each has its answer
   pub answered : AllAnswered answers
   pub each : first .number ≡ 0 → length answers ≡ length calls
   -- after another start no event was played, and "its state is all zeros"

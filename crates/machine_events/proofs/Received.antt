@@ -17,14 +17,16 @@ use Rattle.machine.specs.declared.Telegram.{Telegram}
 use Rattle.sheet_rules.specs.Fields.{holds, externalsOf}
 use Rattle.sheet_rules.specs.Types.{nameRange, reactsTo, hasReaction}
 use Rattle.machine.specs.Values.{isBelow, isBound, chartOf}
-use Rattle.machine.specs.Valid.{dataFit, nameFits, reactionAwaits, datumOf, isInternal, internalFits, externalFits, telegramFits}
+use Rattle.machine.specs.State.{isInternal}
+use Rattle.machine.specs.Valid.{dataFit, nameFits, reactionAwaits, datumOf, internalFits, externalFits, telegramFits}
 use Rattle.machine.specs.Play.{Outcome, hasPanic, reactsOn, elementBody, bodyEvent, reacting, panicking, delivered}
 use Rattle.sheet_rules.specs.Check.{checkOf}
 use Rattle.sheet_rules.proofs.Fields.{holds-present}
 use Rattle.machine_passed.specs.Places.{StandsAt}
 use Rattle.machine_passed.proofs.Charts.{chart-element}
 use Rattle.machine_states.proofs.Parts.{below-pos}
-use Rattle.machine_promise.proofs.Events.{bound-word, receiver-below, external-part, internal-part}
+use Rattle.machine_states.proofs.Telegrams.{internal-part}
+use Rattle.machine_promise.proofs.Events.{bound-word, receiver-below, external-part}
 use Rattle.machine_events.specs.Called.{Called}
 use Rattle.machine_events.proofs.Called.{fourZeros, dataIn, panic-called, panic-runs, on-called, on-delivered, panic-delivered, inner-called, inner-runs}
 
@@ -90,7 +92,7 @@ module _ (s : List ℕ) (ok : checkOf s ≡ Passed) where
 
     module _ (inner : isInternal t ≡ true) where
       inside : internalFits s t ≡ true
-      inside = internal-part s ok t fits inner
+      inside = internal-part s t fits inner
 
       named : nameFits s 1 (t .name) (datumOf t) ≡ true
       unfolding internalFits

@@ -21,14 +21,15 @@ use Rattle.machine.specs.declared.Handed.the-variants.{Nothing}
 use Rattle.sheet_rules.specs.Fields.{componentsOf, externalsOf}
 use Rattle.sheet_rules.specs.Types.{reactsTo}
 use Rattle.machine.specs.Values.{isBelow, isBound}
-use Rattle.machine.specs.State.{wordOf, waiting, counted, telegramOf, withoutTelegram}
-use Rattle.machine.specs.Valid.{nameFits, isInternal, internalFits, telegramFits, OfSheet}
+use Rattle.machine.specs.State.{wordOf, waiting, counted, telegramOf, withoutTelegram, isInternal}
+use Rattle.machine.specs.Valid.{nameFits, internalFits, telegramFits, OfSheet}
 use Rattle.machine.specs.Kinds.{kindOf}
 use Rattle.machine.specs.Play.{Outcome, ended, answer, elementBody, goesFrom, innerOf, oldest, taking, reacting, panicking, withNumber, outside, delivered, deliver, corrupt, inner, slice, restZero, boundWord, wellFormed, isEvent, telegramOfEvent, happens}
 use Rattle.machine_equations.proofs.EventKinds.{kind-word}
-use Rattle.machine_states.proofs.Parts.{is-counted, telegram-of}
+use Rattle.machine_states.proofs.Parts.{same-word, is-counted, telegram-of}
+use Rattle.machine_states.proofs.Telegrams.{internal-part}
 use Rattle.machine_states.proofs.Kept.{removed-kept}
-use Rattle.machine_promise.proofs.Events.{same-word, bound-word, oldest-meets, number-is, receiver-below, internal-part}
+use Rattle.machine_promise.proofs.Events.{bound-word, oldest-meets, number-is, receiver-below}
 use Rattle.machine_events.specs.Playing.{Playing}
 use Rattle.machine_events.specs.Sought.{soughtAs, soughtAt, undoesAs, mayUndo}
 use Rattle.machine_events.proofs.Laws.{taking-none, taking-one, handed-outside, happens-outside, happens-deliver, happens-corrupt, happens-inner, happens-slice}
@@ -218,7 +219,7 @@ module _ {s d : List ℕ} {st ev : List ℤ} {n j : ℕ} {t : Telegram} {st′ :
 
   name-word : isInternal t ≡ true → isBelow (t .name) (countOf s names) ≡ true
   unfolding internalFits nameFits
-  name-word i = and-first _ _ (and-first _ _ (and-second _ _ (and-second _ _ (internal-part s (k .playing .passed) t taken-fits i))))
+  name-word i = and-first _ _ (and-first _ _ (and-second _ _ (and-second _ _ (internal-part s t taken-fits i))))
 
   took : (p : Telegram → Bool) (K : Telegram → List ℤ → Outcome) → j ≡ oldest s st p → taking s st p K ≡ K t st′
   took p K q = taking-one s st p K (is-counted s st (k .playing .state)) (let l = k .waits in omega arith) ∙ ap (λ j. K (telegramOf s st j) (withoutTelegram s st j)) (sym q) ∙ ap (λ t. K t (withoutTelegram s st j)) (sym (k .telegram)) ∙ ap (K t) (sym (k .state))

@@ -1,5 +1,5 @@
 -- Every event on a state of the sheet keeps it so, and is not stuck.
-use Prim.Native.Nat.{ℕ, zero, suc, _+_, _-_, _<_}
+use Prim.Native.Nat.{ℕ, zero, suc, _+_, _<_}
 use mathlib.Core.Path.{_≡_, refl, sym, ap, subst, _∙_}
 use mathlib.Core.List.{List}
 use mathlib.Core.Logic.{inl, inr}
@@ -8,7 +8,7 @@ use native.Mathlib.Omega.{arith}
 use lib.ListN.{length}
 use lib.Dec.{ltb, eqb}
 use lib.IntN.{ℤ, pos, negsuc, natAbs}
-use borrow.Author.Tests.{ltb-true, ltb-false, leb-true, eqb-true, lt-ltb, le-leb, eq-eqb, not-true}
+use borrow.Author.Tests.{ltb-true, ltb-false, eqb-true, le-leb, eq-eqb, not-true}
 use Rattle.sheet.specs.declared.Found.{Found}
 use Rattle.sheet.specs.declared.Found.the-variants.{Present, Absent}
 use Rattle.sheet.specs.All.{_and_}
@@ -21,9 +21,9 @@ use Rattle.machine.specs.declared.Handed.the-variants.{Nothing, Outside}
 use Rattle.sheet_rules.specs.Fields.{holds, componentsOf, externalsOf, portsOf, elementsOf}
 use Rattle.sheet_rules.specs.Shape.{isReaction}
 use Rattle.sheet_rules.specs.Types.{nameRange, hasClass, hasReaction}
-use Rattle.machine.specs.Values.{isBelow, isBound, chartOf, sameWord}
-use Rattle.machine.specs.State.{stateLength, wordOf, waiting, telegramOf, withoutTelegram, Changed, on, off, lost}
-use Rattle.machine.specs.Valid.{dataFit, nameFits, reactionAwaits, datumOf, isInternal, internalFits, externalFits, telegramFits, contentFits, OfSheet}
+use Rattle.machine.specs.Values.{isBelow, isBound, chartOf}
+use Rattle.machine.specs.State.{stateLength, wordOf, waiting, telegramOf, withoutTelegram, Changed, on, off, lost, isInternal}
+use Rattle.machine.specs.Valid.{dataFit, nameFits, reactionAwaits, datumOf, internalFits, externalFits, telegramFits, contentFits, OfSheet}
 use Rattle.machine.specs.Kinds as kind
 use Rattle.machine.specs.Kinds.{Kind, kindOf}
 use Rattle.machine.specs.Play.{Outcome, ended, stuck, withNumber, bodiesThere, received, answer, reactsOn, elementBody, oldestFrom, oldest, goesFrom, innerOf, taking, reacting, panicking, outside, delivered, deliver, corrupt, inner, slicedFrom, slice, boundWord, wellFormed, isEvent, telegramOfEvent, happensAs, happens, turnedDown, ifPassed, eventCall, changeEnd}
@@ -33,20 +33,14 @@ use Rattle.machine_passed.proofs.Records.{externals-components}
 use Rattle.machine_passed.proofs.Charts.{bound-element, element-chart, where-found, reaction-there}
 use Rattle.machine_passed.proofs.Declared.{bodies-there, has-head}
 use Rattle.machine_states.proofs.Frame.{name-same}
-use Rattle.machine_states.proofs.Parts.{is-counted, of-content, telegram-of}
+use Rattle.machine_states.proofs.Parts.{below-more, same-word, is-counted, of-content, telegram-of}
 use Rattle.machine_states.proofs.Kept.{removed-kept, ChangeKept, appended-kept}
-use Rattle.machine_states.proofs.Telegrams.{external-fits}
+use Rattle.machine_states.proofs.Telegrams.{external-fits, internal-part}
 use Rattle.machine_states.proofs.Ticks.{slice-kept}
 use Rattle.machine_promise.specs.Promise.{EventKept}
 use Rattle.machine_promise.proofs.Bodies.{body-of, reacting-kept, panicking-kept}
 
 -- ---- words
-
-pub same-word : (a b : ℤ) → sameWord a b ≡ true → a ≡ b
-same-word (pos a) (pos b) e = ap pos (let h = leb-true a b (and-first _ _ e) in let k = leb-true b a (and-second _ _ e) in omega arith)
-same-word (pos a) (negsuc b) e = absurd (true-false (and-first _ _ e) refl)
-same-word (negsuc a) (pos b) e = absurd (true-false (and-second _ _ e) refl)
-same-word (negsuc a) (negsuc b) e = ap negsuc (let h = leb-true b a (and-first _ _ e) in let k = leb-true a b (and-second _ _ e) in omega arith)
 
 -- a component that is not external is bound
 pub bound-word : (s : List ℕ) (z : ℤ) → isBelow z (componentsOf s) ≡ true → isBelow z (externalsOf s) ≡ false → isBound s (natAbs z) ≡ true
@@ -98,10 +92,6 @@ module _ (s : List ℕ) (ok : checkOf s ≡ Passed) where
   pub external-part : (t : Telegram) → telegramFits s t ≡ true → isInternal t ≡ false → externalFits s t ≡ true
   unfolding telegramFits
   external-part t h n = rw n at (and-second _ _ (and-second _ _ h))
-
-  pub internal-part : (t : Telegram) → telegramFits s t ≡ true → isInternal t ≡ true → internalFits s t ≡ true
-  unfolding telegramFits
-  internal-part t h i = rw i at (and-second _ _ (and-second _ _ h))
 
   -- ---- events that run no body
 
@@ -165,7 +155,7 @@ module _ (s : List ℕ) (ok : checkOf s ≡ Passed) where
   unfolding inner internalFits nameFits reactionAwaits isReaction
   inner-kept st o r = taking-kept s st o (innerOf r) _ (λ t st′ h p o′.
       let same : t .receiver ≡ r = same-word _ _ (and-second _ _ p) in
-      let i = internal-part t h (and-first _ _ p) in
+      let i = internal-part s t h (and-first _ _ p) in
       let bound : isBound s (natAbs r) ≡ true = subst (λ z. isBound s (natAbs z) ≡ true) same (and-first _ _ (and-second _ _ i)) in
       let named = and-second _ _ (and-second _ _ i) in
       let fits : dataFit s (nameRange s (natAbs (t .name))) (datumOf t) ≡ true = and-second _ _ (and-second _ _ (and-first _ _ named)) in
@@ -187,17 +177,12 @@ module _ (s : List ℕ) (ok : checkOf s ≡ Passed) where
 
   -- ---- a well formed event
 
-  wider : (z : ℤ) → isBelow z (externalsOf s) ≡ true → isBelow z (componentsOf s) ≡ true
-  unfolding isBelow
-  wider (pos k) h = let l : k < externalsOf s = ltb-true k (externalsOf s) h in lt-ltb k (componentsOf s) (omega (arith, externals-components s ok))
-  wider (negsuc k) h = h
-
   module _ (st ev : List ℤ) (o : OfSheet s st) where
     sent-outside : isBelow (wordOf ev 1) (externalsOf s) and boundWord s (wordOf ev 2) and isBelow (wordOf ev 3) (portsOf s) and nameFits s external (wordOf ev 4) (λ j. wordOf ev (5 + j)) ≡ true → telegramFits s (telegramOfEvent ev) ≡ true
     sent-outside h =
         let sender = and-first _ _ h in
         let receiver = and-first _ _ (and-second _ _ h) in
-        external-fits s (telegramOfEvent ev) (wider _ sender) (and-first _ _ receiver) (and-false _ _ (not-true _ (and-second _ _ receiver)))
+        external-fits s (telegramOfEvent ev) (below-more _ _ _ (externals-components s ok) sender) (and-first _ _ receiver) (and-false _ _ (not-true _ (and-second _ _ receiver)))
         (and-first _ _ (and-second _ _ (and-second _ _ h)))
         (name-same s external _ _ (datumOf (telegramOfEvent ev)) (λ j. wordOf ev (5 + j)) refl same ∙ and-second _ _ (and-second _ _ (and-second _ _ h)))
       where

@@ -1,5 +1,5 @@
 -- On a passed sheet an internal name that waits or is armed has one reaction.
-use Prim.Native.Nat.{ℕ, zero, suc, _-_, _<_}
+use Prim.Native.Nat.{ℕ, zero, suc, _<_}
 use mathlib.Core.Path.{_≡_, refl, sym, ap, subst, _∙_}
 use mathlib.Core.List.{List}
 use mathlib.Core.Bool.{Bool, true, false}
@@ -27,9 +27,9 @@ use Rattle.machine_passed.proofs.Records.{held, body-shape}
 use Rattle.machine_passed.proofs.Charts.{One, body-there, chart-element, some-reacts}
 use Rattle.machine_passed.proofs.Indices.{has-cell, clock-plain}
 use Rattle.machine_states.proofs.Parts.{cell-of, telegram-of}
+use Rattle.machine_states.proofs.Telegrams.{internal-part}
 use Rattle.machine_states.proofs.Clocks.{running, clock-awaits}
 use Rattle.machine_promise.specs.Promise.{reactionsTo, OneReaction}
-use Rattle.machine_promise.proofs.Events.{internal-part}
 
 -- ---- counting what is there once
 
@@ -95,6 +95,6 @@ module _ (s : List ℕ) (ok : checkOf s ≡ Passed) where
   pub one-reaction : (st : List ℤ) → OfSheet s st → OneReaction s st
   unfolding internalFits reactionAwaits
   one-reaction st o = record {
-    waits = λ j l i. one-of _ _ (and-second _ _ (and-second _ _ (and-second _ _ (internal-part s ok _ (telegram-of s st o j l) i))));
+    waits = λ j l i. one-of _ _ (and-second _ _ (and-second _ _ (and-second _ _ (internal-part s _ (telegram-of s st o j l) i))));
     armed = λ e c j a. one-of e _ (clock-awaits s e _ st _ (running s e _ st _ (cell-of s st o e c (a .chart) j (a .variable) 0 (has-cell s _ (clock-plain s ok _ (a .clock)))) (a .clock) (a .runs)) (a .noTimer));
   }

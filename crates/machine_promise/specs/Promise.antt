@@ -16,19 +16,19 @@ use Rattle.sheet_rules.specs.declared.Checked.the-variants.{Passed}
 use Rattle.sheet_rules.specs.Fields.{holds, numberOr0, countBelow, typeAt}
 use Rattle.sheet_rules.specs.Types.{reactsTo}
 use Rattle.machine.specs.Values.{isZero, chartOf}
-use Rattle.machine.specs.State.{cellOf, lastRefusal, stateLength, wordOf, waiting, telegramOf}
-use Rattle.machine.specs.Valid.{isInternal, OfSheet}
+use Rattle.machine.specs.State.{cellOf, lastRefusal, stateLength, wordOf, waiting, telegramOf, isInternal}
+use Rattle.machine.specs.Valid.{OfSheet}
 use Rattle.machine.specs.Play.{Outcome, ended, stuck, startCall, eventCall}
 use Rattle.sheet_rules.specs.Check.{checkOf}
 use Rattle.machine.specs.Lists.{Played, played, nowhere, eventsOf}
 
 -- ---- answers
 
--- 0, or a number from a to 11
+-- 0, or a number from a to 12
 abbrev pub OneOf : ℕ → ℕ → Type 0
 OneOf a n = (n ≡ 0) ⊎ ((a ≤ n) × (n ≤ lastRefusal))
 
--- every answer of a list is 0 or from 4 to 11
+-- every answer of a list is 0 or from 4 to 12
 abbrev pub AllAnswered : List Answer → Type 0
 AllAnswered [] = Unit {0}
 AllAnswered (a ∷ rest) = OneOf 4 (a .number) × AllAnswered rest
@@ -61,17 +61,17 @@ pub record OneReaction (s : List ℕ) (st : List ℤ) : Type 0 where
 
 -- ---- start, an event, a list
 
--- start isn't stuck; it is 0 or 6 to 11; after 0 its state is of the sheet
+-- start isn't stuck; it is 0 or 6 to 12; after 0 its state is of the sheet
 abbrev pub StartKept : List ℕ → Outcome → Type 0
 StartKept s (ended a st) = OneOf 6 (a .number) × (a .number ≡ 0 → OfSheet s st)
 StartKept s stuck = ⊥
 
--- an event isn't stuck; it is 0 or 4 to 11; after 0 the new state is of the sheet, after another answer the state is the old one
+-- an event isn't stuck; it is 0 or 4 to 12; after 0 the new state is of the sheet, after another answer the state is the old one
 abbrev pub EventKept : List ℕ → List ℤ → Outcome → Type 0
 EventKept s old (ended a st) = OneOf 4 (a .number) × (a .number ≡ 0 → OfSheet s st) × ((a .number ≡ 0 → ⊥) → st ≡ old)
 EventKept s old stuck = ⊥
 
--- a list isn't stuck; every answer is 0 or 4 to 11; the last state is of the sheet, and every internal name that waits or is armed has one reaction
+-- a list isn't stuck; every answer is 0 or 4 to 12; the last state is of the sheet, and every internal name that waits or is armed has one reaction
 abbrev pub ListKept : List ℕ → Played → Type 0
 ListKept s (played answers st) = AllAnswered answers × OfSheet s st × OneReaction s st
 ListKept s nowhere = ⊥

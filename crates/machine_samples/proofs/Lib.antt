@@ -1,3 +1,4 @@
 pub mod Starred
 pub mod Leftward
 pub mod NotPassed
+pub mod Classes

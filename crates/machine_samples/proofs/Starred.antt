@@ -9,7 +9,7 @@ use Rattle.sheet_rules.proofs.Samples.{sheetOf, check, assigning, sending}
 use Rattle.machine.specs.declared.Out.the-variants.{Refused}
 use Rattle.machine.specs.Play.{Outcome, eventCall}
 use Rattle.machine.proofs.Samples as machine
-use Rattle.machine.proofs.Samples.{int, on-ints, start, event, answered, words, row, play, timeout, cycler, slices, waits, sent, copies, atTwo, reacts, sends, once, twice}
+use Rattle.machine.proofs.Samples.{int, on-ints, start, event, answered, words, row, play, timeout, cycler, slices, waits, sent, copies, reacts, sends, once, twice, sixteens, atEight, full}
 
 -- "−7 div 2 is −4 and −7 mod 2 is 1." Operator 15 div, 16 mod, with l steps left
 seven-div-two : (l : ℕ) → on-ints 15 (negsuc 6) (pos 2) l ≡ int (negsuc 3) l
@@ -53,19 +53,19 @@ unfolding start
 call ss st ev = eventCall (sheetOf ss) st (replicate (length st) (pos 0)) ev
 
 -- "127 waiting, Outside: 0; 128: 8."
-outside-127 : call once (atTwo 127) (words 1 0 2) ≡ answered 0 0 (atTwo 128)
-unfolding call answered words once reacts sends copies waits sent atTwo
+outside-127 : call (once 8) (waits 127 [] (atEight 15 [])) (words 1 0 8) ≡ answered 0 0 (waits 128 [] (atEight 16 []))
+unfolding call answered words once reacts sends copies waits sent sixteens atEight
 outside-127 = refl
 
-outside-128 : event once (atTwo 128) (words 1 0 2) ≡ answered 8 0 (atTwo 128)
+outside-128 : event (once 8) full (words 1 0 8) ≡ answered 8 0 full
 outside-128 = machine.outside-128
 
 -- "128 waiting, Deliver to a reaction sending once: 0; twice: 8." Nothing of the refused body's work is kept
-deliver-once : event once (atTwo 128) (words 2 0 2) ≡ answered 0 3 (waits 128 [] (copies 127 (sent 0 2) ++ sent 2 0))
+deliver-once : event (once 8) full (words 2 0 8) ≡ answered 0 3 (waits 128 [] (atEight 14 (sent 8 0 ++ sent 8 0)))
 deliver-once = machine.deliver-once
 
-deliver-twice : call twice (atTwo 128) (words 2 0 2) ≡ answered 8 7 (atTwo 128)
-unfolding call answered words twice reacts sends copies waits sent atTwo
+deliver-twice : call (twice 8) full (words 2 0 8) ≡ answered 8 7 full
+unfolding call answered words twice reacts sends copies waits sent sixteens atEight full
 deliver-twice = refl
 
 -- "Int assigned to Bool: 2", and Bool 0. "Internal send without a reaction: 2", and with one 0

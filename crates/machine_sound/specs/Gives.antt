@@ -18,7 +18,7 @@ use Rattle.machine.specs.Eval.{Context}
 use Rattle.machine.specs.Run.{Values, given, refused, stuck, areOf, wordsIn, datum}
 use Rattle.machine_passed.specs.Places.{Locals}
 
--- "6 to 10, the first met", and 11
+-- "6 to 10, the first met", 11 and 12
 abbrev pub Refusal : ℕ → Type 0
 Refusal k = (6 ≤ k) × (k ≤ lastRefusal)
 

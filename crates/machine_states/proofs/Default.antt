@@ -22,6 +22,7 @@ use Rattle.machine.specs.Values.{isBelow, isZero, defaultIn, defaultOf, chartOf
 use Rattle.machine.specs.State.{places, cellAt, cellOf, placeAt, stateLength, wordOf, waiting}
 use Rattle.machine.specs.Valid.{zeroWords, clockCell, cellFits, headFits, OfSheet}
 use Rattle.machine.specs.Play.{defaultCell, alike, defaultCells, elementCells, cellsFrom, defaultState}
+use Rattle.sheet_rules.proofs.Sums.{sum-rises}
 use Rattle.sheet_rules.proofs.DataTypes.{type-no-data}
 use Rattle.sheet_rules.proofs.Fields.{holds-present, holds-absent, sum-more}
 use Rattle.machine_passed.proofs.Records.{declared-exists}
@@ -29,7 +30,8 @@ use Rattle.machine_passed.proofs.Charts.{element-chart, number-bound, bound-ele
 use Rattle.machine_passed.proofs.Declared.{default-in, element-declared}
 use Rattle.machine_states.proofs.Frame.{Same, cell-same}
 use Rattle.machine_states.proofs.Words.{word-front, word-rest}
-use Rattle.machine_states.proofs.Elements.{element-number, element-count, element-from, cell-below, variable-cells, sum-rises}
+use Rattle.machine_states.proofs.Classes.{classes-fit, none-like}
+use Rattle.machine_states.proofs.Elements.{element-number, element-count, element-from, cell-below, variable-cells}
 use Rattle.machine_states.proofs.Parts.{zeros, cells-fit, telegrams-fit, rest-unused}
 
 -- ---- a cell
@@ -252,4 +254,5 @@ module _ (s : List ℕ) (ok : checkOf s ≡ Passed) where
     cells = cells-fit s (defaultState s) bound-chart (element-declared s ok) default-fits;
     telegrams = telegrams-fit s (defaultState s) 0 nothing-waits (λ j l. absurd (omega arith));
     unused = rest-unused s (defaultState s) 0 nothing-waits (λ n a l. place-zero n l);
+    classes = classes-fit s (defaultState s) (none-like s (defaultState s) nothing-waits);
   }

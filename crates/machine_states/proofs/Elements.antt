@@ -1,5 +1,5 @@
 -- Where the cells of an element lie: in the state, and apart from the cells of others.
-use Prim.Native.Nat.{ℕ, zero, suc, _+_, _-_, _<_, _≤_}
+use Prim.Native.Nat.{ℕ, suc, _+_, _-_, _<_, _≤_}
 use mathlib.Core.Path.{_≡_, refl, sym, ap, _∙_}
 use mathlib.Core.List.{List}
 use mathlib.Core.Bool.{true}
@@ -16,13 +16,9 @@ use Rattle.sheet_rules.specs.Indices.{cellsTaken, cellsBefore}
 use Rattle.sheet_rules.specs.Shape.{cellsBound, cellsOf}
 use Rattle.machine.specs.Values.{isBound, chartOf, firstCell}
 use Rattle.sheet_rules.proofs.Fields.{number-present}
+use Rattle.sheet_rules.proofs.Sums.{sum-rises}
 use Rattle.machine_passed.proofs.Records.{one-record}
 use Rattle.machine_passed.proofs.Charts.{chart-element}
-
-pub sum-rises : (f : ℕ → ℕ) (n m : ℕ) → n < m → sumBelow n f + f n ≤ sumBelow m f
-unfolding sumBelow
-sum-rises f n zero l = absurd (omega arith)
-sum-rises f n (suc m) l = elim (decLt n m) [ yes q ↦ omega (arith, sum-rises f n m q) | no q ↦ (let e : n ≡ m = omega arith in rw e (omega arith)) ]
 
 pub cells-none : (s : List ℕ) (c : Record) → cellsBefore s c 0 ≡ 0
 unfolding cellsBefore sumBelow

@@ -17,10 +17,11 @@ use Rattle.machine.specs.declared.Telegram.{Telegram}
 use Rattle.sheet_rules.specs.Fields.{typeAt}
 use Rattle.sheet_rules.specs.Indices.{cellsTaken, cellsBefore}
 use Rattle.machine.specs.Values.{isBelow, inType, chartOf, firstCell}
-use Rattle.machine.specs.State.{places, cellAt, cellOf, placeAt, stateLength, wordOf, waiting, telegramOf, putWords, withTelegram, withoutTelegram, lastRefusal, Changed, on, off, lost, appended}
+use Rattle.machine.specs.State.{places, cellAt, cellOf, placeAt, stateLength, wordOf, waiting, telegramOf, waitingLike, classLimit, putWords, withTelegram, withoutTelegram, lastRefusal, Changed, on, off, lost, appended}
 use Rattle.machine.specs.Valid.{cellFits, telegramFits, headFits, cellsFit, OfSheet}
 use Rattle.machine_states.proofs.Frame.{Same, zero-from, zero-same, telegram-same, cell-same}
 use Rattle.machine_states.proofs.Words.{length-put, word-put-in, word-put-before, word-put-behind, word-set, word-set-other, with-length, with-head, with-waiting, with-before, with-behind, with-last, with-earlier, without-length, without-head, without-waiting, without-before, without-last, without-closed, without-earlier, without-later}
+use Rattle.machine_states.proofs.Classes.{at-most, classes-fit, like-kept, with-most, without-most}
 use Rattle.machine_states.proofs.Elements.{cell-below, cells-apart}
 use Rattle.machine_states.proofs.Parts.{zeros, is-counted, waiting-limit, head-zero, has-chart, has-declared, cell-of, telegram-of, unused-of, cells-fit, telegrams-fit, rest-unused}
 
@@ -80,6 +81,7 @@ module _ (s : List ℕ) (st : List ℤ) (o : OfSheet s st) (e : ℕ) (c : Record
       cells = cells-fit s st′ (has-chart s st o) (has-declared s st o) each;
       telegrams = telegrams-fit s st′ (waiting st) waiting-kept (λ n m. ap (telegramFits s) (telegram-same st′ (placeAt s n) st (placeAt s n) (place-kept n)) ∙ telegram-of s st o n m);
       unused = rest-unused s st′ (waiting st) waiting-kept (λ n m q. zero-same st′ (placeAt s n) st (placeAt s n) (place-kept n) 0 ∙ unused-of s st o n m q);
+      classes = classes-fit s st′ (like-kept s st st′ waiting-kept (λ n. telegram-same st′ (placeAt s n) st (placeAt s n) (place-kept n)) (at-most s st (o .classes)));
     }
       where
         each : (e′ : ℕ) (c′ : Record) → chartOf s e′ ≡ Present c′ → (j′ : ℕ) → j′ < chartVariables c′ .count → (v′ : ℕ) → v′ < cellsTaken s (chartVariables c′ .first + j′) → cellFits s e′ (typeAt s (chartVariables c′ .first + j′)) st′ (cellOf s e′ c′ j′ v′) ≡ true
@@ -113,9 +115,9 @@ head-of s st o st′ n e l h = and-true _ _ (ap (λ (z : ℤ). isBelow z 129) e 
 cells-of : (s : List ℕ) (st : List ℤ) → OfSheet s st → (st′ : List ℤ) → ((i : ℕ) → 0 < i → i < placeAt s 0 → wordOf st′ i ≡ wordOf st i) → cellsFit s st′ ≡ true
 cells-of s st o st′ h = cells-fit s st′ (has-chart s st o) (has-declared s st o) (λ e c p j l v m. cell-same st′ (cellOf s e c j v) st (cellOf s e c j v) (λ k b. h (cellOf s e c j v + k) (omega (arith, cell-late s st o e c p j l v m)) (omega (arith, cell-inside s st o e c p j l v m))) s e _ ∙ cell-of s st o e c p j l v m)
 
-pub telegram-kept : (s : List ℕ) (st : List ℤ) → OfSheet s st → (t : Telegram) → waiting st < places → telegramFits s t ≡ true → OfSheet s (withTelegram s st t)
+pub telegram-kept : (s : List ℕ) (st : List ℤ) → OfSheet s st → (t : Telegram) → waiting st < places → waitingLike s st t < classLimit → telegramFits s t ≡ true → OfSheet s (withTelegram s st t)
 unfolding placeAt
-telegram-kept s st o t room fits = record {
+telegram-kept s st o t room few fits = record {
   whole = with-length s st t (o .whole) room ∙ o .whole;
   head = head-of s st o (withTelegram s st t) (waiting st + 1) (with-head s st t (o .whole) room) (omega arith) (λ i p l. with-before s st t (o .whole) room i p (omega arith));
   cells = cells-of s st o (withTelegram s st t) (λ i p l. with-before s st t (o .whole) room i p (omega arith));
@@ -124,10 +126,11 @@ telegram-kept s st o t room fits = record {
     | no q ↦ (let e : j ≡ waiting st = omega arith in rw e (ap (telegramFits s) (with-last s st t (o .whole) room) ∙ fits))
   ]);
   unused = rest-unused s (withTelegram s st t) (waiting st + 1) (with-waiting s st t (o .whole) room) (λ j m l. zero-same (withTelegram s st t) (placeAt s j) st (placeAt s j) (λ k n. with-behind s st t (o .whole) room (placeAt s j + k) (omega arith)) 0 ∙ unused-of s st o j (omega arith) l);
+  classes = classes-fit s (withTelegram s st t) (with-most s st t (o .whole) room (at-most s st (o .classes)) few);
 }
 
 pub appended-kept : (s : List ℕ) (st : List ℤ) → OfSheet s st → (t : Telegram) → telegramFits s t ≡ true → ChangeKept s (appended s st t)
-appended-kept s st o t fits = appending s st t (is-counted s st o) (ChangeKept s) (λ room. telegram-kept s st o t room fits) (omega arith, omega arith)
+appended-kept s st o t fits = appending s st t (is-counted s st o) (ChangeKept s) (λ room few. telegram-kept s st o t room few fits) (omega arith, omega arith) (omega arith, omega arith)
 
 pub removed-kept : (s : List ℕ) (st : List ℤ) → OfSheet s st → (j : ℕ) → j < waiting st → OfSheet s (withoutTelegram s st j)
 unfolding placeAt
@@ -143,6 +146,7 @@ removed-kept s st o j here = record {
     | yes q ↦ zero-same (withoutTelegram s st j) (placeAt s k) st (placeAt s (k + 1)) (without-closed s st j (o .whole) here limit k (omega arith) q) 0 ∙ unused-of s st o (k + 1) (omega arith) q
     | no q ↦ (let e : k ≡ 127 = omega arith in rw e (zeros (withoutTelegram s st j) (placeAt s 127) 0 (λ i a b. without-last s st j (o .whole) here limit i b)))
   ]);
+  classes = classes-fit s (withoutTelegram s st j) (without-most s st j (o .whole) here limit (at-most s st (o .classes)));
 }
   where
     limit : waiting st ≤ places

@@ -2,6 +2,7 @@ pub mod Frame
 pub mod Words
 pub mod Elements
 pub mod Parts
+pub mod Classes
 pub mod Kept
 pub mod Default
 pub mod Telegrams

@@ -1,22 +1,22 @@
 -- What a state of the sheet says of each of its parts, and what is enough for a part.
 use Prim.Native.Nat.{ℕ, _+_, _-_, _<_, _≤_}
-use mathlib.Core.Path.{_≡_, refl, sym, _∙_}
+use mathlib.Core.Path.{_≡_, refl, sym, ap, _∙_}
 use mathlib.Core.List.{List}
 use mathlib.Core.Bool.{true, true≢false}
 use native.Mathlib.Omega.{arith}
 use lib.ListN.{length}
 use lib.IntN.{ℤ, pos, negsuc, natAbs}
-use borrow.Author.Tests.{ltb-true}
+use borrow.Author.Tests.{ltb-true, leb-true, lt-ltb}
 use Rattle.sheet.specs.declared.Record.{Record}
 use Rattle.sheet.specs.declared.Found.{Found}
 use Rattle.sheet.specs.declared.Found.the-variants.{Present, Absent}
 use Rattle.sheet.specs.Names.{declarations, chartVariables}
 use Rattle.sheet.specs.Sheet.{countOf}
-use Rattle.sheet.proofs.All.{and-first, and-second, and-true, all-at}
+use Rattle.sheet.proofs.All.{true-false, and-first, and-second, and-true, all-at}
 use Rattle.sheet.specs.All.{allBelow}
 use Rattle.sheet_rules.specs.Fields.{declaredSo, typeAt, externalsOf, elementsOf}
 use Rattle.sheet_rules.specs.Indices.{cellsTaken}
-use Rattle.machine.specs.Values.{isBelow, isZero, chartOf}
+use Rattle.machine.specs.Values.{isBelow, isZero, sameWord, chartOf}
 use Rattle.machine.specs.State.{places, cellOf, placeAt, stateLength, wordOf, waiting, counted, telegramOf}
 use Rattle.machine.specs.Valid.{zeroWords, cellFits, variableFits, elementFits, telegramFits, headFits, cellsFit, waitingFit, unusedZero, contentFits, OfSheet}
 use Rattle.sheet_rules.proofs.Fields.{holds-present, holds-absent}
@@ -36,6 +36,17 @@ unfolding isBelow
 below-pos (pos k) n h = refl
 below-pos (negsuc k) n h = absurd (true≢false (sym h))
 
+pub below-more : (z : ℤ) (n m : ℕ) → n ≤ m → isBelow z n ≡ true → isBelow z m ≡ true
+unfolding isBelow
+below-more (pos k) n m l h = lt-ltb k m (omega (arith, ltb-true k n h))
+below-more (negsuc k) n m l h = h
+
+pub same-word : (a b : ℤ) → sameWord a b ≡ true → a ≡ b
+same-word (pos a) (pos b) e = ap pos (let h = leb-true a b (and-first _ _ e) in let k = leb-true b a (and-second _ _ e) in omega arith)
+same-word (pos a) (negsuc b) e = absurd (true-false (and-first _ _ e) refl)
+same-word (negsuc a) (pos b) e = absurd (true-false (and-second _ _ e) refl)
+same-word (negsuc a) (negsuc b) e = ap negsuc (let h = leb-true b a (and-first _ _ e) in let k = leb-true a b (and-second _ _ e) in omega arith)
+
 pub zeros : (st : List ℤ) (at from : ℕ) → ((k : ℕ) → from ≤ k → k < 8 → wordOf st (at + k) ≡ pos 0) → zeroWords st at from ≡ true
 unfolding zeroWords isZero
 zeros st at from h = all-true (8 - from) _ (λ k l. let e : at + from + k ≡ at + (from + k) = omega arith in rw (e, h (from + k) (omega arith) (omega arith)) refl)
@@ -45,11 +56,11 @@ zeros st at from h = all-true (8 - from) _ (λ k l. let e : at + from + k ≡ at
 module _ (s : List ℕ) (st : List ℤ) where
   pub content-of : length st ≡ stateLength s → contentFits s st ≡ true → OfSheet s st
   unfolding contentFits
-  content-of l h = record { whole = l; head = and-first _ _ h; cells = and-first _ _ (and-second _ _ h); telegrams = and-first _ _ (and-second _ _ (and-second _ _ h)); unused = and-second _ _ (and-second _ _ (and-second _ _ h)) }
+  content-of l h = record { whole = l; head = and-first _ _ h; cells = and-first _ _ (and-second _ _ h); telegrams = and-first _ _ (and-second _ _ (and-second _ _ h)); unused = and-first _ _ (and-second _ _ (and-second _ _ (and-second _ _ h))); classes = and-second _ _ (and-second _ _ (and-second _ _ (and-second _ _ h))) }
 
   pub of-content : OfSheet s st → contentFits s st ≡ true
   unfolding contentFits
-  of-content o = and-true _ _ (o .head) (and-true _ _ (o .cells) (and-true _ _ (o .telegrams) (o .unused)))
+  of-content o = and-true _ _ (o .head) (and-true _ _ (o .cells) (and-true _ _ (o .telegrams) (and-true _ _ (o .unused) (o .classes))))
 
 -- ---- what holds of a state of the sheet
 

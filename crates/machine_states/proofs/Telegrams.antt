@@ -12,11 +12,12 @@ use Rattle.sheet.specs.declared.Record.{Record}
 use Rattle.sheet.specs.declared.Found.the-variants.{Present}
 use Rattle.sheet.specs.All.{_and_}
 use Rattle.sheet.specs.Names.{external, internal}
-use Rattle.sheet.proofs.All.{and-true, false-and}
+use Rattle.sheet.proofs.All.{and-second, and-true, false-and}
 use Rattle.machine.specs.declared.Telegram.{Telegram}
 use Rattle.sheet_rules.specs.Fields.{componentsOf, externalsOf, portsOf}
 use Rattle.machine.specs.Values.{isBelow, sameWord, chartOf}
-use Rattle.machine.specs.Valid.{nameFits, reactionAwaits, datumOf, internalFits, externalFits, isInternal, telegramFits}
+use Rattle.machine.specs.State.{isInternal}
+use Rattle.machine.specs.Valid.{nameFits, reactionAwaits, datumOf, internalFits, externalFits, telegramFits}
 use Rattle.machine.specs.Run.{telegram, datum}
 use Rattle.machine_states.proofs.Frame.{name-same}
 use Rattle.machine_states.proofs.Elements.{element-bound, element-from, element-below}
@@ -24,6 +25,10 @@ use Rattle.machine_states.proofs.Elements.{element-bound, element-from,
 pub internal-fits : (s : List ℕ) (t : Telegram) → isBelow (t .sender) (componentsOf s) ≡ true → isBelow (t .receiver) (componentsOf s) ≡ true → isInternal t ≡ true → internalFits s t ≡ true → telegramFits s t ≡ true
 unfolding telegramFits
 internal-fits s t a b i h = rw (telegramFits, i) (and-true _ _ a (and-true _ _ b h))
+
+pub internal-part : (s : List ℕ) (t : Telegram) → telegramFits s t ≡ true → isInternal t ≡ true → internalFits s t ≡ true
+unfolding telegramFits
+internal-part s t h i = rw i at (and-second _ _ (and-second _ _ h))
 
 -- a port is a number from 0 on
 with-port : (t : Telegram) (n : ℕ) → isBelow (t .port) n ≡ true → isInternal t ≡ false

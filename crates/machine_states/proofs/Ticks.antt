@@ -69,7 +69,7 @@ module _ (s : List ℕ) (st : List ℤ) (o : OfSheet s st) (e : ℕ) (c : Record
       fires-kept ws h =
           let running = is-running s st o e c p j l v here clock runs in
           rw (fires-named s e cell ws st (clock-named s e kind st cell running named))
-          (appending s st own (is-counted s st o) (λ r. ChangeKept s (thenSlice r (λ st′. on (putWords st′ cell ws)))) (λ room. h room (telegram-kept s st o own room (clock-telegram s e kind c st cell p running named))) (omega arith, omega arith))
+          (appending s st own (is-counted s st o) (λ r. ChangeKept s (thenSlice r (λ st′. on (putWords st′ cell ws)))) (λ room few. h room (telegram-kept s st o own room few (clock-telegram s e kind c st cell p running named))) (omega arith, omega arith) (omega arith, omega arith))
 
       -- the telegram lies behind the cells
       cell-word : waiting st < places → (k : ℕ) → k < 8 → wordOf (withTelegram s st own) (cell + k) ≡ wordOf st (cell + k)

@@ -1,6 +1,7 @@
 pub mod Forms
 pub mod DataTypes
 pub mod Fields
+pub mod Sums
 pub mod Types
 pub mod Samples
 pub mod Arrays

@@ -18,7 +18,7 @@ use Rattle.sheet.proofs.Sheet.{record-absent, record-present}
 use Rattle.sheet_rules.specs.Fields.{oneIf, numberOr0, sumBelow}
 use Rattle.sheet_rules.specs.Uses.{standsIn, overBodies, overCharts, standsInBodies, homeBelow, homeOf, chartOr, homeChart, operandUses, rootUses, usesOf, bodiesHolding, isCall, callsInOneBody}
 use Rattle.sheet_rules.proofs.Fields.{holds-present, number-present, number-absent}
-use Rattle.sheet_uses.proofs.Sums.{sum-same, sum-zero, sum-most, sum-at, sum-both, sum-some}
+use Rattle.sheet_rules.proofs.Sums.{sum-same, sum-zero, sum-most, sum-at, sum-both, sum-some}
 use Rattle.sheet_uses.proofs.Trees.{FromAbove, from-above, higher-uses, plain-uses}
 
 module _ (s : List ℕ) where

@@ -1,4 +1,3 @@
-pub mod Sums
 pub mod Trees
 pub mod Homes
 pub mod Bodies

@@ -23,7 +23,7 @@ use Rattle.sheet_rules.specs.Check.{shapeWith, shape, otherwiseInShape}
 use Rattle.sheet_rules.proofs.Fields.{holds-present}
 use Rattle.sheet_rules.proofs.Forms.{form-literal}
 use Rattle.sheet_uses.specs.Paths.{standsInBinding, pathsTo, onePath}
-use Rattle.sheet_uses.proofs.Sums.{sum-same, sum-some}
+use Rattle.sheet_rules.proofs.Sums.{sum-same, sum-some}
 use Rattle.sheet_uses.proofs.Trees.{leaf-uses, leaf-stands, higher-uses}
 use Rattle.sheet_uses.proofs.Homes.{inBodies, homeUses, agree-once, bodies-above}
 use Rattle.sheet_uses.proofs.Bodies.{binding-shaped}

@@ -21,7 +21,7 @@ use Rattle.sheet_rules.specs.Forms.{operands, operandsOf, operandCount, operand
 use Rattle.sheet_rules.specs.Uses.{lowerOnly, standsStep, standsF, standsIn, operandFields, operandUses, isCall}
 use Rattle.sheet_rules.proofs.Fields.{number-present, number-absent}
 use Rattle.sheet_rules.proofs.Forms.{operands-plain}
-use Rattle.sheet_uses.proofs.Sums.{one-other, sum-same, sum-zero, sum-add, sum-both, sum-pick}
+use Rattle.sheet_rules.proofs.Sums.{one-other, sum-same, sum-zero, sum-add, sum-both, sum-pick}
 
 pub lower-same : (m : ℕ) (f g : ℕ → ℕ) → ((o : ℕ) → o < m → f o ≡ g o) → lowerOnly m f ≡ lowerOnly m g
 unfolding lowerOnly

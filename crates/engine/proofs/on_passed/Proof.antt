@@ -3,7 +3,7 @@ use native.Mathlib.Omega.{arith}
 use lib.ListN.{length}
 use borrow.Author.Tests.{not-true, not-false}
 use borrow.Author.Needs.{needs}
-use Rattle.machine_passed.proofs.Records.{cells-limit}
+use Rattle.machine_passed.proofs.Records.{cells-limit, components-limit}
 use Rattle.machine_events.proofs.Taken.{nine, kind-from-0}
 use Rattle.engine_queue.proofs.Laws.{laid}
 use Rattle.engine.proofs.Calls.{old-long, result-long, other-content, malformed-event, happened-event, copy-plays}
@@ -29,7 +29,7 @@ returns-2 : tie.Need-returns-2
 returns-2 c = result-long _ _ _ _ (c .before .before .before .before .before .before .before .pre .1) _ (c .before .before .before .state-length .ensures _ (c .before .before .before .before .fill .ensures .0)) _ (c .answered2 .ensures) (c .before .if2 .taken)
 
 content-fits-requires : tie.Need-content-fits-requires
-content-fits-requires c κs = (c .before .before .before .before .before .before .pre .0, c .before .if1 .left ∙ c .before .before .state-length .ensures _ (c .before .before .before .fill .ensures .0))
+content-fits-requires c κs = (c .before .before .before .before .before .before .pre .0, c .before .if1 .left ∙ c .before .before .state-length .ensures _ (c .before .before .before .fill .ensures .0), components-limit _ (c .before .before .before .before .before .before .pre .1))
 
 answered-requires-3 : tie.Need-answered-requires-3
 answered-requires-3 c κs = search needs

@@ -1,8 +1,9 @@
 use mathlib.Core.Path.{refl, sym, ap, _∙_}
 use native.Mathlib.Omega.{arith}
 use borrow.Author.Needs.{needs}
-use Rattle.machine.specs.State.{on}
-use Rattle.machine.proofs.Appending.{appended-room, appended-full}
+use borrow.Author.Tests.{leb-true, leb-false}
+use Rattle.machine.specs.State.{classLimit, on}
+use Rattle.machine.proofs.Appending.{appended-room, appended-full, appended-class-full}
 use Rattle.engine_queue.specs.Changed.{changedTo}
 use Rattle.engine_queue.proofs.append.Statement.{statement}
 use Rattle.engine_queue.proofs.append.Tie as tie
@@ -17,17 +18,36 @@ returns : tie.Need-returns
 unfolding changedTo
 returns c = (λ s e. sym (appended-full s _ _ (c .before .before .before .pre .head) (let q = c .before .waiting-count .ensures in let h = c .if1 .taken in omega arith)), λ n. refl)
 
-put-last-requires : tie.Need-put-last-requires
-put-last-requires c κs = search needs
+class-full-requires : tie.Need-class-full-requires
+class-full-requires c κs = (c .before .before .before .before .pre, c .before .before .waiting-count .ensures)
 
 same-length-2 : tie.Need-same-length-2
 same-length-2 c = search needs
 
 returns-2 : tie.Need-returns-2
 unfolding changedTo
-returns-2 c = (λ s e. sym (ap on (c .before .put-last .ensures s e) ∙ appended-room s _ _ (c .before .before .before .before .before .before .pre .head) (let q = c .before .before .before .before .waiting-count .ensures in let h = c .before .before .before .if1 .left in omega arith)), λ n. absurd (n refl))
+returns-2 c = (λ s e. sym (appended-class-full s _ _ (c .before .before .before .before .before .before .pre .head) (let q = c .before .before .before .before .waiting-count .ensures in let h = c .before .before .before .if1 .left in omega arith) (leb-true classLimit _ (sym (c .before .class-full .ensures s e) ∙ c .if2 .taken))), λ n. refl)
+
+put-last-requires : tie.Need-put-last-requires
+put-last-requires c κs = search needs
+
+same-length-3 : tie.Need-same-length-3
+same-length-3 c = search needs
+
+returns-3 : tie.Need-returns-3
+unfolding changedTo
+returns-3 c = (λ s e. sym (ap on (c .before .put-last .ensures s e) ∙ appended-room s _ _ (c .before .before .before .before .before .before .before .before .before .pre .head) (let q = c .before .before .before .before .before .before .before .waiting-count .ensures in let h = c .before .before .before .before .before .before .if1 .left in omega arith) (leb-false classLimit _ (sym (c .before .before .before .before .class-full .ensures s e) ∙ c .before .before .before .if2 .left))), λ n. absurd (n refl))
 
 pub append-spec : {M : Type 1} → statement M
 append-spec =
     tie.close
-    (tie.spec waiting-count-requires same-length returns put-last-requires same-length-2 returns-2)
+    (tie.spec
+    waiting-count-requires
+    same-length
+    returns
+    class-full-requires
+    same-length-2
+    returns-2
+    put-last-requires
+    same-length-3
+    returns-3)

@@ -1,9 +1,10 @@
 use native.Mathlib.Omega.{arith}
 use borrow.Author.Needs.{needs}
 use Rattle.sheet.proofs.All.{first-fails, rest-fails, first-holds}
+use Rattle.machine.specs.State.{waiting}
 use Rattle.machine.specs.Valid.{contentFits}
 use Rattle.sheet_types.proofs.Laws.{no, so}
-use Rattle.engine_valid_state.proofs.Laws.{places-inside, head-from, head-limit}
+use Rattle.engine_valid_state.proofs.Laws.{places-inside, head-from, head-limit, ends-fit}
 use Rattle.engine_valid_state.proofs.content_fits.Statement.{statement}
 use Rattle.engine_valid_state.proofs.content_fits.Tie as tie
 
@@ -36,7 +37,15 @@ unused-zero-requires c κs = (omega (arith, places-inside (c .before .before .be
 
 returns-4 : tie.Need-returns-4
 unfolding contentFits
-returns-4 c = first-holds _ _ _ (so (c .before .before .before .before .before .before .before .head-fits .ensures) (c .before .before .before .before .before .before .if1 .left)) (first-holds _ _ _ (so (c .before .before .before .before .before .cells-fit .ensures) (c .before .before .before .before .if2 .left)) (first-holds _ _ _ (so (c .before .before .waiting-fit .ensures) (c .before .if3 .left)) (c .unused-zero .ensures _ (c .before .before .before .before .before .before .before .before .before .pre .1))))
+returns-4 c = rest-fails _ _ (rest-fails _ _ (rest-fails _ _ (first-fails _ _ (no (c .before .unused-zero .ensures _ (c .before .before .before .before .before .before .before .before .before .before .pre .1)) (c .if4 .taken)))))
+
+classes-fit-requires : tie.Need-classes-fit-requires
+unfolding waiting
+classes-fit-requires c κs = (omega (arith, places-inside (c .before .before .before .before .before .before .before .before .before .before .args .sheet .now) (c .before .before .before .before .before .before .before .before .before .before .args .st .now) (c .before .before .before .before .before .before .before .before .before .before .pre .1)), head-limit _ _ (so (c .before .before .before .before .before .before .before .before .head-fits .ensures) (c .before .before .before .before .before .before .before .if1 .left)) (c .before .before .before .before .number-at .ensures), c .before .before .before .before .number-at .ensures, ends-fit _ _ (c .before .before .before .before .before .before .before .before .before .before .pre .1) _ (c .before .before .before .before .number-at .ensures) (c .before .before .before .before .before .before .before .before .before .before .pre .2) (so (c .before .before .before .waiting-fit .ensures) (c .before .before .if3 .left)))
+
+returns-5 : tie.Need-returns-5
+unfolding contentFits
+returns-5 c = first-holds _ _ _ (so (c .before .before .before .before .before .before .before .before .before .head-fits .ensures) (c .before .before .before .before .before .before .before .before .if1 .left)) (first-holds _ _ _ (so (c .before .before .before .before .before .before .before .cells-fit .ensures) (c .before .before .before .before .before .before .if2 .left)) (first-holds _ _ _ (so (c .before .before .before .before .waiting-fit .ensures) (c .before .before .before .if3 .left)) (first-holds _ _ _ (so (c .before .before .unused-zero .ensures _ (c .before .before .before .before .before .before .before .before .before .before .before .pre .1)) (c .before .if4 .left)) (c .classes-fit .ensures _ (c .before .before .before .before .before .before .before .before .before .before .before .pre .1)))))
 
 pub content-fits-spec : {M : Type 1} → statement M
 content-fits-spec =
@@ -50,4 +59,6 @@ content-fits-spec =
     waiting-fit-requires
     returns-3
     unused-zero-requires
-    returns-4)
+    returns-4
+    classes-fit-requires
+    returns-5)

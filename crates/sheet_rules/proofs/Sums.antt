@@ -1,12 +1,13 @@
--- Laws of sums.
-use Prim.Native.Nat.{ℕ, zero, suc, _+_, _*_, _≤_, _<_}
+-- Laws of sums and counts.
+use Prim.Native.Nat.{ℕ, zero, suc, _+_, _*_, _-_, _≤_, _<_}
 use mathlib.Core.Path.{_≡_, refl, sym, ap, _∙_, fun-ext}
+use mathlib.Core.Bool.{Bool, true, false}
 use native.Mathlib.Omega.{arith}
 use native.Mathlib.Decide.{decLt}
 use native.Mathlib.Nat.{zero-mul, add-mul, one-mul}
 use lib.Dec.{eqb}
 use borrow.Author.Tests.{eq-eqb, ne-eqb}
-use Rattle.sheet_rules.specs.Fields.{oneIf, sumBelow}
+use Rattle.sheet_rules.specs.Fields.{oneIf, sumBelow, countBelow}
 
 pub one-same : (n : ℕ) → oneIf (eqb n n) ≡ 1
 one-same n = rw (eq-eqb n n refl) refl
@@ -78,6 +79,12 @@ sum-pick n m g l =
     zero-and : {x : ℕ} → x ≡ g m → 0 + x ≡ g m
     zero-and e = omega (arith, e)
 
+-- a sum up to a term lies below a longer one
+pub sum-rises : (f : ℕ → ℕ) (n m : ℕ) → n < m → sumBelow n f + f n ≤ sumBelow m f
+unfolding sumBelow
+sum-rises f n zero l = absurd (omega arith)
+sum-rises f n (suc m) l = elim (decLt n m) [ yes q ↦ omega (arith, sum-rises f n m q) | no q ↦ (let e : n ≡ m = omega arith in rw e (omega arith)) ]
+
 -- a sum that isn't 0 has a term that isn't
 pub sum-some : (n : ℕ) (f : ℕ → ℕ) → 1 ≤ sumBelow n f → (i : ℕ) × (i < n) × (1 ≤ f i)
 unfolding sumBelow
@@ -85,4 +92,28 @@ sum-some zero f h = absurd (omega arith)
 sum-some (suc n) f h = elim (decLt 0 (f n)) [
   | yes q ↦ (n, omega arith, q)
   | no q ↦ (let r = sum-some n f (omega arith) in (r .0, omega (arith, r .1), r .2))
+]
+
+-- ---- counts
+
+one-most : (b : Bool) → oneIf b ≤ 1
+one-most true = omega arith
+one-most false = omega arith
+
+-- further numbers add none or one each
+pub count-on : (p : ℕ → Bool) (j n : ℕ) → j ≤ n → (countBelow j p ≤ countBelow n p) × (countBelow n p ≤ countBelow j p + (n - j))
+unfolding countBelow sumBelow
+count-on p j zero l = let e : j ≡ 0 = omega arith in rw e (omega arith, omega arith)
+count-on p j (suc n) l = elim (decLt j (suc n)) [
+  | yes q ↦ (let r = count-on p j n (omega arith) in let a = r .0 in let b = r .1 in let o = one-most (p n) in (omega arith, omega arith))
+  | no q ↦ (let e : j ≡ suc n = omega arith in rw e (omega arith, omega arith))
+]
+
+-- without one number, those behind it closing up, no more are counted
+pub count-closed : (n : ℕ) (p q : ℕ → Bool) (j : ℕ) → j ≤ n → ((k : ℕ) → k < j → q k ≡ p k) → ((k : ℕ) → j ≤ k → k < n → q k ≡ p (suc k)) → countBelow n q ≤ countBelow (suc n) p
+unfolding countBelow sumBelow
+count-closed zero p q j l early late = omega arith
+count-closed (suc n) p q j l early late = elim (decLt j (suc n)) [
+  | yes m ↦ omega (arith, count-closed n p q j (omega arith) early (λ k a b. late k a (omega arith)), ap oneIf (late n (omega arith) (omega arith)))
+  | no m ↦ omega (arith, sum-same (suc n) (λ i. oneIf (q i)) (λ i. oneIf (p i)) (λ i k. ap oneIf (early i (omega arith))))
 ]
