@@ -85,9 +85,9 @@ fn class_full(st: &[i32], n: usize, t: Telegram) -> bool
     if n < 16 {
         return false;
     }
-    let end = st.len() - 1024 + 8 * n;
-    let mut last = end - 8 * 16;
     let mut at = st.len() - 1024;
+    let end = at + 8 * n;
+    let mut last = end - 8 * 16;
     while at <= last {
         if same_class(st, at, t) {
             last += 8;

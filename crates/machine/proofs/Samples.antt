@@ -209,7 +209,7 @@ deliver-twice = refl
 -- ---- a full class
 
 -- so many wait from Log at element 2
-unfoldable pub atTwo : ℕ → List ℤ
+atTwo : ℕ → List ℤ
 atTwo n = waits n [] (copies n (sent 0 2))
 
 -- 16 of a class and one more: 12; 15: 0

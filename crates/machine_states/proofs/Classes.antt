@@ -45,7 +45,7 @@ module _ (t u : Telegram) (h : sameClass t u ≡ true) where
       ∙ ap (λ (z : ℤ). sameWord (u .sender) (x .sender) and sameWord z (x .receiver) and eqb (classOf t) (classOf x)) (class-words .1)
       ∙ ap (λ (n : ℕ). sameWord (u .sender) (x .sender) and sameWord (u .receiver) (x .receiver) and eqb n (classOf x)) (class-words .2)
 
-  pub like-one : (s : List ℕ) (st : List ℤ) → waitingLike s st t ≡ waitingLike s st u
+  like-one : (s : List ℕ) (st : List ℤ) → waitingLike s st t ≡ waitingLike s st u
   unfolding waitingLike
   like-one s st = ap (countBelow (waiting st)) (fun-ext (λ j. one-class (telegramOf s st j)))
 
@@ -59,7 +59,7 @@ one-true true h = refl
 one-true false h = absurd (omega arith)
 
 module _ (s : List ℕ) (st : List ℤ) where
-  -- a class of which none waits has none
+  -- whatever telegram it is the class of: where none waits, none is counted
   pub at-most : classesFit s st ≡ true → AtMost s st
   unfolding classesFit waitingLike countBelow
   at-most h t = elim (decLt 0 (waitingLike s st t)) [

@@ -7,16 +7,16 @@ use Rattle.engine_queue.proofs.class_full.Statement.{statement}
 use Rattle.engine_queue.proofs.class_full.Tie as tie
 
 abbrev Inv-loop : tie.InvT-loop
-Inv-loop st n t end last₀ at₀ last at = Looked st n t last at
+Inv-loop st n t at₀ end last₀ at last = Looked st n t last at
 
 abbrev μ-loop : tie.MeasureT-loop
-μ-loop st n t end last₀ at₀ last at = end + 8 - at
+μ-loop st n t at₀ end last₀ at last = end + 8 - at
 
 returns : tie.Need-returns Inv-loop μ-loop
 returns c = class-few _ (c .before .pre .0) _ (c .before .pre .1) _ (c .if1 .taken)
 
-sub-end : tie.Need-sub-end Inv-loop μ-loop
-sub-end c = let long = c .before .pre .0 .long in let all = c .before .pre .1 in let most = waiting-limit _ (c .before .pre .0) in omega arith
+sub-at : tie.Need-sub-at Inv-loop μ-loop
+sub-at c = let long = c .before .pre .0 .long in let all = c .before .pre .1 in let most = waiting-limit _ (c .before .pre .0) in omega arith
 
 mul-end : tie.Need-mul-end Inv-loop μ-loop
 mul-end c = let long = c .before .pre .0 .long in let all = c .before .pre .1 in let most = waiting-limit _ (c .before .pre .0) in omega arith
@@ -29,9 +29,6 @@ mul-last c = omega arith
 
 sub-last : tie.Need-sub-last Inv-loop μ-loop
 sub-last c = let long = c .before .pre .0 .long in let all = c .before .pre .1 in let most = waiting-limit _ (c .before .pre .0) in let h = c .if1 .left in omega arith
-
-sub-at : tie.Need-sub-at Inv-loop μ-loop
-sub-at c = let long = c .before .pre .0 .long in let all = c .before .pre .1 in let most = waiting-limit _ (c .before .pre .0) in omega arith
 
 loop-holds : tie.Need-loop-holds Inv-loop μ-loop
 loop-holds c = looked-none _ (c .before .pre .0) _ (c .before .pre .1) _ (let h = c .if1 .left in omega arith)
@@ -68,12 +65,11 @@ class-full-spec =
     Inv-loop
     μ-loop
     returns
-    sub-end
+    sub-at
     mul-end
     add-end
     mul-last
     sub-last
-    sub-at
     loop-holds
     same-class-requires
     add-last
