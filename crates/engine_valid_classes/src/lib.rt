@@ -22,7 +22,7 @@ fn class_number(st: &[i32], at: usize) -> usize
 
 // n telegrams wait; 16 are never too many.
 pub fn classes_fit(st: &[i32], n: usize) -> bool
-    requires { ⌜ (1024 ≤ length (now st)) × (n ≤ 128) × (n ≡ waiting (now st)) × ((j : ℕ) → j < n → EndsFit (telegramIn (now st) (length (now st) - 1024 + 8 * j))) ⌝ }
+    requires { ⌜ (n ≡ waiting (now st)) × (n ≤ 128) × (1024 ≤ length (now st)) × ((j : ℕ) → j < n → EndsFit (telegramIn (now st) (length (now st) - 1024 + 8 * j))) ⌝ }
     ensures { λ b. ⌜ ((s : List ℕ) → length (now (st .entry)) ≡ stateLength s → b ≡ classesFit s (now (st .entry))) ⌝ }
 {
     if n <= 16 {

@@ -12,10 +12,10 @@ abbrev μ-loop : tie.MeasureT-loop
 μ-loop st n counts₀ first j₀ counts j = n - j
 
 returns : tie.Need-returns Inv-loop μ-loop
-returns c = λ s e. few-fit _ _ (c .before .pre .3) s e (c .before .pre .2) (c .if1 .taken)
+returns c = λ s e. few-fit _ _ (c .before .pre .3) s e (c .before .pre .0) (c .if1 .taken)
 
 sub-first : tie.Need-sub-first Inv-loop μ-loop
-sub-first c = c .before .pre .0
+sub-first c = c .before .pre .2
 
 loop-holds : tie.Need-loop-holds Inv-loop μ-loop
 loop-holds c = (omega arith, counted-none _)
@@ -24,16 +24,16 @@ mul-class-number : tie.Need-mul-class-number Inv-loop μ-loop
 mul-class-number c = let h = c .before .before .before .pre .1 in omega arith
 
 add-class-number : tie.Need-add-class-number Inv-loop μ-loop
-add-class-number c = let a = c .before .before .before .pre .0 in let h = c .before .before .before .pre .1 in record { fits = omega arith }
+add-class-number c = let a = c .before .before .before .pre .2 in let h = c .before .before .before .pre .1 in record { fits = omega arith }
 
 class-number-requires : tie.Need-class-number-requires Inv-loop μ-loop
-class-number-requires c κs = (let a = c .before .before .before .pre .0 in let h = c .before .before .before .pre .1 in let l = c .loop-test .taken in omega arith, c .before .before .before .pre .3 _ (c .loop-test .taken))
+class-number-requires c κs = (let a = c .before .before .before .pre .2 in let h = c .before .before .before .pre .1 in let l = c .loop-test .taken in omega arith, c .before .before .before .pre .3 _ (c .loop-test .taken))
 
 array-read-count : tie.Need-array-read-count Inv-loop μ-loop
 array-read-count c = rw (c .class-number .ensures) (number-below _ (c .before .before .before .before .pre .3 _ (c .before .loop-test .taken)))
 
 returns-2 : tie.Need-returns-2 Inv-loop μ-loop
-returns-2 c = λ s e. counted-full _ _ (c .before .before .before .before .before .pre .3) s e (c .before .before .before .before .before .pre .2) (c .before .before .before .loop .j) (c .before .before .before .loop .counts) (c .before .before .loop-test .taken) (c .before .before .before .loop .inv .1) _ (c .before .class-number .ensures) (c .if2 .taken)
+returns-2 c = λ s e. counted-full _ _ (c .before .before .before .before .before .pre .3) s e (c .before .before .before .before .before .pre .0) (c .before .before .before .loop .j) (c .before .before .before .loop .counts) (c .before .before .loop-test .taken) (c .before .before .before .loop .inv .1) _ (c .before .class-number .ensures) (c .if2 .taken)
 
 add-counts : tie.Need-add-counts Inv-loop μ-loop
 add-counts c = let h = c .before .before .before .loop .inv .1 .1 (c .before .class-number .result) (rw (c .before .class-number .ensures) (number-below _ (c .before .before .before .before .before .pre .3 _ (c .before .before .loop-test .taken)))) in let m = h .1 in record { fits = omega arith }
@@ -51,7 +51,7 @@ loop-again : tie.Need-loop-again Inv-loop μ-loop
 loop-again c = (let l = c .before .before .loop-test .taken in omega arith, counted-more _ _ (c .before .before .before .before .before .pre .3) (c .before .before .before .loop .j) (c .before .before .before .loop .counts) (c .before .before .loop-test .taken) (c .before .before .before .loop .inv .1) _ _ (c .before .class-number .ensures) refl (c .if2 .left))
 
 returns-3 : tie.Need-returns-3 Inv-loop μ-loop
-returns-3 c = λ s e. counted-fit _ _ (c .before .before .before .pre .3) s e (c .before .before .before .pre .2) (c .before .loop .j) (c .before .loop .counts) (c .before .loop .inv .0) (c .loop-test .left) (c .before .loop .inv .1)
+returns-3 c = λ s e. counted-fit _ _ (c .before .before .before .pre .3) s e (c .before .before .before .pre .0) (c .before .loop .j) (c .before .loop .counts) (c .before .loop .inv .0) (c .loop-test .left) (c .before .loop .inv .1)
 
 pub classes-fit-spec : {M : Type 1} → statement M
 classes-fit-spec =

@@ -41,7 +41,7 @@ returns-4 c = rest-fails _ _ (rest-fails _ _ (rest-fails _ _ (first-fails _ _ (n
 
 classes-fit-requires : tie.Need-classes-fit-requires
 unfolding waiting
-classes-fit-requires c κs = (omega (arith, places-inside (c .before .before .before .before .before .before .before .before .before .before .args .sheet .now) (c .before .before .before .before .before .before .before .before .before .before .args .st .now) (c .before .before .before .before .before .before .before .before .before .before .pre .1)), head-limit _ _ (so (c .before .before .before .before .before .before .before .before .head-fits .ensures) (c .before .before .before .before .before .before .before .if1 .left)) (c .before .before .before .before .number-at .ensures), c .before .before .before .before .number-at .ensures, ends-fit _ _ (c .before .before .before .before .before .before .before .before .before .before .pre .1) _ (c .before .before .before .before .number-at .ensures) (c .before .before .before .before .before .before .before .before .before .before .pre .2) (so (c .before .before .before .waiting-fit .ensures) (c .before .before .if3 .left)))
+classes-fit-requires c κs = (c .before .before .before .before .number-at .ensures, head-limit _ _ (so (c .before .before .before .before .before .before .before .before .head-fits .ensures) (c .before .before .before .before .before .before .before .if1 .left)) (c .before .before .before .before .number-at .ensures), omega (arith, places-inside (c .before .before .before .before .before .before .before .before .before .before .args .sheet .now) (c .before .before .before .before .before .before .before .before .before .before .args .st .now) (c .before .before .before .before .before .before .before .before .before .before .pre .1)), ends-fit _ _ (c .before .before .before .before .before .before .before .before .before .before .pre .1) _ (c .before .before .before .before .number-at .ensures) (c .before .before .before .before .before .before .before .before .before .before .pre .2) (so (c .before .before .before .waiting-fit .ensures) (c .before .before .if3 .left)))
 
 returns-5 : tie.Need-returns-5
 unfolding contentFits
