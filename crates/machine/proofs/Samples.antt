@@ -187,24 +187,10 @@ atEight n more = sixteens 7 1 8 ++ copies n (sent 0 8) ++ more
 unfoldable pub full : List ℤ
 full = waits 128 [] (atEight 15 (sent 8 0))
 
--- "127 waiting, Outside: 0; 128: 8."
-outside-127 : event (once 8) (waits 127 [] (atEight 15 [])) (words 1 0 8) ≡ answered 0 0 (waits 128 [] (atEight 16 []))
-unfolding event answered words once reacts sends copies waits sent sixteens atEight
-outside-127 = refl
-
-pub outside-128 : event (once 8) full (words 1 0 8) ≡ answered 8 0 full
-unfolding event answered words once reacts sends copies waits sent sixteens atEight full
-outside-128 = refl
-
--- "128 waiting, Deliver to a reaction sending once: 0; twice: 8."
+-- "128 waiting, Deliver to a reaction sending once: 0."
 pub deliver-once : event (once 8) full (words 2 0 8) ≡ answered 0 3 (waits 128 [] (atEight 14 (sent 8 0 ++ sent 8 0)))
 unfolding event answered words once reacts sends copies waits sent sixteens atEight full
 deliver-once = refl
-
--- nothing of the refused body's work is kept
-deliver-twice : event (twice 8) full (words 2 0 8) ≡ answered 8 7 full
-unfolding event answered words twice reacts sends copies waits sent sixteens atEight full
-deliver-twice = refl
 
 -- ---- a full class
 
@@ -221,10 +207,10 @@ class-of-16 : event (once 2) (atTwo 16) (words 1 0 2) ≡ answered 12 0 (atTwo 1
 unfolding event answered words once reacts sends copies waits sent atTwo
 class-of-16 = refl
 
--- 128 wait and the class is full: 8
-class-and-list-full : event (once 8) full (words 1 1 8) ≡ answered 8 0 full
-unfolding event answered words once reacts sends copies waits sent sixteens atEight full
-class-and-list-full = refl
+-- 15 of a class, and a Deliver to a reaction that sends two of it: nothing of the refused body's work is kept
+class-twice : event (twice 2) (waits 16 [] (copies 15 (sent 2 0) ++ sent 0 2)) (words 2 0 2) ≡ answered 12 7 (waits 16 [] (copies 15 (sent 2 0) ++ sent 0 2))
+unfolding event answered words twice reacts sends copies waits sent
+class-twice = refl
 
 -- another sender has a class of its own
 other-sender : event (once 2) (atTwo 16) (words 1 1 2) ≡ answered 0 0 (waits 17 [] (copies 16 (sent 0 2) ++ sent 1 2))

@@ -1,11 +1,16 @@
--- Samples of slices with 127 and 128 waiting, in classes of at most 16.
+-- Samples with 127 and 128 waiting, in classes of at most 16: a full class, and slices.
 use Prim.Native.Nat.{ℕ, zero, suc}
 use mathlib.Core.List.{List, [], _∷_, _++_}
 use mathlib.Core.Path.{_≡_, refl}
 use lib.ListN.{replicate}
 use lib.IntN.{ℤ, pos}
 use Rattle.sheet_rules.proofs.Samples.{rec3, rec6, body}
-use Rattle.machine.proofs.Samples.{event, answered, words, waits, copies, fired, aboutToFire}
+use Rattle.machine.proofs.Samples.{event, answered, words, waits, sent, copies, reacts, sends, once, sixteens, atEight, full, fired, aboutToFire}
+
+-- 128 wait and the class is full: 8
+class-and-list-full : event (once 8) full (words 1 1 8) ≡ answered 8 0 full
+unfolding event answered words once reacts sends copies waits sent sixteens atEight full
+class-and-list-full = refl
 
 -- nine elements, 2 to 10, of one chart with a Timeout, which react to internal name 0
 nine : List (List ℕ)

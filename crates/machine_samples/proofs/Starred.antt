@@ -58,7 +58,8 @@ unfolding call answered words once reacts sends copies waits sent sixteens atEig
 outside-127 = refl
 
 outside-128 : event (once 8) full (words 1 0 8) ≡ answered 8 0 full
-outside-128 = machine.outside-128
+unfolding event answered words once reacts sends copies waits sent sixteens atEight full
+outside-128 = refl
 
 -- "128 waiting, Deliver to a reaction sending once: 0; twice: 8." Nothing of the refused body's work is kept
 deliver-once : event (once 8) full (words 2 0 8) ≡ answered 0 3 (waits 128 [] (atEight 14 (sent 8 0 ++ sent 8 0)))
