@@ -5,8 +5,7 @@ ghost use mathlib.Core.Path.{_≡_};
 ghost use mathlib.Core.List.{List};
 ghost use Prim.Native.Nat.{ℕ, _+_, _*_, _-_, _<_, _≤_};
 ghost use lib.ListN.{length};
-ghost use lib.Dec.{leb};
-ghost use Rattle.machine.specs.State.{placeAt, stateLength, waiting, telegramIn, telegramOf, sameClass, waitingLike, classLimit, withTelegram, appended, withoutTelegram};
+ghost use Rattle.machine.specs.State.{placeAt, stateLength, waiting, telegramIn, telegramOf, withTelegram, appended, withoutTelegram};
 ghost use Rattle.machine.specs.Valid.{OfSheet};
 ghost use Rattle.machine.specs.Play.{goesFrom, innerOf, oldest};
 ghost use Rattle.engine_queue.specs.Laid.{Laid};
@@ -59,47 +58,6 @@ fn put_last(st: &mut [i32], t: Telegram)
     engine_store::set_word(st, 0, (n + 1) as i32);
 }
 
-// Whether the telegram there has t's sender, receiver and class.
-fn same_class(st: &[i32], at: usize, t: Telegram) -> bool
-    requires { ⌜ at + 8 ≤ length (now st) ⌝ }
-    ensures { λ b. ⌜ b ≡ sameClass t (telegramIn (now (st .entry)) at) ⌝ }
-{
-    if t.sender != st[at] {
-        return false;
-    }
-    if t.receiver != st[at + 1] {
-        return false;
-    }
-    if t.port == -1 {
-        return st[at + 2] == -1;
-    }
-    st[at + 2] != -1
-}
-
-// Whether 16 of t's class wait, n being how many wait in all. From `last` on as many are left to look at as
-// are still needed for 16, so that behind it there is nothing to find; each one that is found moves it on.
-fn class_full(st: &[i32], n: usize, t: Telegram) -> bool
-    requires { ⌜ Laid (now st) × (n ≡ waiting (now st)) ⌝ }
-    ensures { λ b. ⌜ ((s : List ℕ) → length (now (st .entry)) ≡ stateLength s → b ≡ leb classLimit (waitingLike s (now (st .entry)) t)) ⌝ }
-{
-    if n < 16 {
-        return false;
-    }
-    let mut at = st.len() - 1024;
-    let end = at + 8 * n;
-    let mut last = end - 8 * 16;
-    while at <= last {
-        if same_class(st, at, t) {
-            last += 8;
-            if last == end {
-                return true;
-            }
-        }
-        at += 8;
-    }
-    false
-}
-
 // "128 telegrams wait and one more is appended": 8; "a seventeenth of its class": 12. The state then stays as it was. Otherwise 0.
 pub fn append(st: &mut [i32], t: Telegram) -> u8
     requires { ⌜ Laid (now st) ⌝ }
@@ -109,7 +67,7 @@ pub fn append(st: &mut [i32], t: Telegram) -> u8
     if 128 <= n {
         return 8;
     }
-    if class_full(st, n, t) {
+    if engine_classes::class_full(st, n, t) {
         return 12;
     }
     put_last(st, t);

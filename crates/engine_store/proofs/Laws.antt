@@ -7,7 +7,7 @@ use native.Mathlib.Omega.{arith}
 use native.Mathlib.Decide.{ℕ-discrete}
 use lib.ListN.{length, set, replicate, getD-replicate}
 use lib.Seq.{sets-eq, ext-getD}
-use lib.IntN.{ℤ, pos}
+use lib.IntN.{ℤ, pos, negsuc}
 use lib.Signed.{mag}
 use mir.Syntax.{w32}
 use mir.Val.{SFits, ofZ, toZ}
@@ -45,6 +45,14 @@ module _ {z w : ℤ} (h : SFits w32 z) (k : SFits w32 w) where
 
   pub bits-differ : (ofZ w32 z ≡ ofZ w32 w → ⊥) → sameWord z w ≡ false
   bits-differ n = sym (same-bits z w h k) ∙ ne-eqb _ _ n
+
+-- the port of an internal telegram is -1
+module _ (z : ℤ) (h : SFits w32 z) where
+  pub port-inside : ofZ w32 z ≡ 4294967295 → sameWord z (negsuc 0) ≡ true
+  port-inside e = bits-same h (record { sfits = omega arith }) e
+
+  pub port-outside : (ofZ w32 z ≡ 4294967295 → ⊥) → sameWord z (negsuc 0) ≡ false
+  port-outside e = bits-differ h (record { sfits = omega arith }) e
 
 -- ---- one list like another, word for word up to a number
 

@@ -5,6 +5,7 @@ use borrow.Author.Tests.{leb-true, leb-false}
 use Rattle.machine.specs.State.{classLimit, on}
 use Rattle.machine.proofs.Appending.{appended-room, appended-full, appended-class-full}
 use Rattle.engine_queue.specs.Changed.{changedTo}
+use Rattle.engine_queue.proofs.Laws.{waiting-limit}
 use Rattle.engine_queue.proofs.append.Statement.{statement}
 use Rattle.engine_queue.proofs.append.Tie as tie
 
@@ -19,7 +20,7 @@ unfolding changedTo
 returns c = (λ s e. sym (appended-full s _ _ (c .before .before .before .pre .head) (let q = c .before .waiting-count .ensures in let h = c .if1 .taken in omega arith)), λ n. refl)
 
 class-full-requires : tie.Need-class-full-requires
-class-full-requires c κs = (c .before .before .before .before .pre, c .before .before .waiting-count .ensures)
+class-full-requires c κs = let n = c .before .before .waiting-count .ensures in let laid = c .before .before .before .before .pre in (n, omega (arith, waiting-limit _ laid), laid .long)
 
 same-length-2 : tie.Need-same-length-2
 same-length-2 c = search needs

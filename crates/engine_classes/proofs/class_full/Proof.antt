@@ -1,0 +1,80 @@
+use Prim.Native.Nat.{_+_, _-_}
+use mathlib.Core.Path.{sym, subst, _∙_}
+use mathlib.Core.Logic.{⊎-elim}
+use native.Mathlib.Omega.{arith}
+use Rattle.engine_classes.proofs.Laws.{Looked, looked-none, end-inside, class-few, looked-few, looked-inside, looked-found, looked-full, looked-passed}
+use Rattle.engine_classes.proofs.class_full.Statement.{statement}
+use Rattle.engine_classes.proofs.class_full.Tie as tie
+
+abbrev Inv-loop : tie.InvT-loop
+Inv-loop st n t at₀ end last₀ at last = Looked st n t last at
+
+abbrev μ-loop : tie.MeasureT-loop
+μ-loop st n t at₀ end last₀ at last = end + 8 - at
+
+returns : tie.Need-returns Inv-loop μ-loop
+returns c = class-few _ _ (c .before .pre .0) (c .before .pre .1) (c .before .pre .2) _ (c .if1 .taken)
+
+sub-at : tie.Need-sub-at Inv-loop μ-loop
+sub-at c = let most = c .before .pre .1 in let long = c .before .pre .2 in omega arith
+
+mul-end : tie.Need-mul-end Inv-loop μ-loop
+mul-end c = let most = c .before .pre .1 in let long = c .before .pre .2 in omega arith
+
+add-end : tie.Need-add-end Inv-loop μ-loop
+add-end c = let most = c .before .pre .1 in let long = c .before .pre .2 in record { fits = omega arith }
+
+mul-last : tie.Need-mul-last Inv-loop μ-loop
+mul-last c = omega arith
+
+sub-last : tie.Need-sub-last Inv-loop μ-loop
+sub-last c = let most = c .before .pre .1 in let long = c .before .pre .2 in let h = c .if1 .left in omega arith
+
+loop-holds : tie.Need-loop-holds Inv-loop μ-loop
+loop-holds c = looked-none _ _ (c .before .pre .0) (c .before .pre .1) (c .before .pre .2) _ (let h = c .if1 .left in omega arith)
+
+same-class-requires : tie.Need-same-class-requires Inv-loop μ-loop
+same-class-requires c κs = omega (arith, looked-inside _ _ (c .before .before .before .pre .0) (c .before .before .before .pre .1) (c .before .before .before .pre .2) _ _ _ (c .before .loop .inv) (c .loop-test .taken), end-inside _ _ (c .before .before .before .pre .0) (c .before .before .before .pre .1) (c .before .before .before .pre .2) (c .before .before .before .args .t))
+
+add-last : tie.Need-add-last Inv-loop μ-loop
+add-last c = let k = c .before .before .before .loop .inv in record { fits = omega (arith, k .some, k .behind, end-inside _ _ (c .before .before .before .before .before .pre .0) (c .before .before .before .before .before .pre .1) (c .before .before .before .before .before .pre .2) (c .before .before .before .before .before .args .t)) }
+
+returns-2 : tie.Need-returns-2 Inv-loop μ-loop
+returns-2 c = looked-full _ _ (c .before .before .before .before .before .before .pre .0) (c .before .before .before .before .before .before .pre .1) (c .before .before .before .before .before .before .pre .2) _ _ _ (c .before .before .before .before .loop .inv) (c .before .before .before .loop-test .taken) (sym (c .before .before .same-class .ensures) ∙ c .before .if2 .taken) (c .if3 .taken)
+
+add-at : tie.Need-add-at Inv-loop μ-loop
+add-at c = record { fits = omega (arith, looked-inside _ _ (c .before .before .before .before .before .pre .0) (c .before .before .before .before .before .pre .1) (c .before .before .before .before .before .pre .2) _ _ _ (c .before .before .before .loop .inv) (c .before .before .loop-test .taken), end-inside _ _ (c .before .before .before .before .before .pre .0) (c .before .before .before .before .before .pre .1) (c .before .before .before .before .before .pre .2) (c .before .before .before .before .before .args .t)) }
+
+loop-less : tie.Need-loop-less Inv-loop μ-loop
+loop-less c = omega (arith, looked-inside _ _ (c .before .before .before .before .before .pre .0) (c .before .before .before .before .before .pre .1) (c .before .before .before .before .before .pre .2) _ _ _ (c .before .before .before .loop .inv) (c .before .before .loop-test .taken))
+
+loop-again : tie.Need-loop-again Inv-loop μ-loop
+loop-again c =
+    ⊎-elim
+    (λ w. subst (λ last. Looked (c .before .before .before .before .before .args .st .now) (c .before .before .before .before .before .args .n) (c .before .before .before .before .before .args .t) last (c .before .before .before .loop .at + 8)) (sym (w .2)) (looked-found _ _ (c .before .before .before .before .before .pre .0) (c .before .before .before .before .before .pre .1) (c .before .before .before .before .before .pre .2) _ _ _ (c .before .before .before .loop .inv) (c .before .before .loop-test .taken) (sym (c .before .same-class .ensures) ∙ w .0 .taken) (w .1 .left)))
+    (λ w. subst (λ last. Looked (c .before .before .before .before .before .args .st .now) (c .before .before .before .before .before .args .n) (c .before .before .before .before .before .args .t) last (c .before .before .before .loop .at + 8)) (sym (w .1)) (looked-passed _ _ (c .before .before .before .before .before .pre .0) (c .before .before .before .before .before .pre .1) (c .before .before .before .before .before .pre .2) _ _ _ (c .before .before .before .loop .inv) (c .before .before .loop-test .taken) (sym (c .before .same-class .ensures) ∙ w .0 .left)))
+    (c .if2 .came)
+
+returns-3 : tie.Need-returns-3 Inv-loop μ-loop
+returns-3 c = looked-few _ _ (c .before .before .before .pre .0) (c .before .before .before .pre .1) (c .before .before .before .pre .2) _ _ _ (c .before .loop .inv) (let h = c .loop-test .left in omega arith)
+
+pub class-full-spec : {M : Type 1} → statement M
+class-full-spec =
+    tie.close
+    (tie.spec
+    Inv-loop
+    μ-loop
+    returns
+    sub-at
+    mul-end
+    add-end
+    mul-last
+    sub-last
+    loop-holds
+    same-class-requires
+    add-last
+    returns-2
+    add-at
+    loop-less
+    loop-again
+    returns-3)
