@@ -1,4 +1,4 @@
--- The paper's starred samples, as one table of theorems: those that are proved beside the definitions, where edits of these are refused, and two whole calls with 127 and 128 waiting, whose tests of all places take seconds.
+-- The paper's starred samples, as one table of theorems: those that are proved beside the definitions, where edits of these are refused, and those with 127 and 128 waiting, two of them as whole calls, whose tests of all places take seconds.
 use Prim.Native.Nat.{ℕ}
 use mathlib.Core.List.{List, [], _∷_, _++_}
 use mathlib.Core.Path.{_≡_, refl}
