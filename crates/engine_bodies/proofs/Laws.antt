@@ -26,7 +26,7 @@ use Rattle.machine.specs.Values.{inType, isBound, firstCell}
 use Rattle.machine.specs.Valid.{OfSheet}
 use Rattle.machine.specs.Eval.{Context}
 use Rattle.machine.specs.Run.{World, world, datum, localsOf, runOf}
-use Rattle.machine.specs.Play.{ended, answer, limitOf, ranBody, eventEnd, bodyEvent}
+use Rattle.machine.specs.Play.{ended, answer, limitOf, ranBody, eventEnd, eventEndWithin, bodyEvent}
 use Rattle.sheet_rules.specs.Check.{checkOf}
 use Rattle.machine_equations.proofs.Left.{RanWithin, run-left}
 use Rattle.machine_passed.specs.Places.{InChart, Element, Placed, Locals}
@@ -163,9 +163,9 @@ module _ (s : List ℕ) (ok : checkOf s ≡ Passed) (e number : ℕ) (zs : List 
     -- the answer of an event
     module _ (a : Answer) (old st′ : List ℤ) (l limit : ℕ) (m : limit ≡ limitOf s) where
       pub done-event : a ≡ answer 0 (limit - l) Nothing → ranWorld .ran ≡ Done l → st′ ≡ ranWorld .st → ended a st′ ≡ bodyEvent s old e (recordOf s bodies number) zs st
-      unfolding eventEnd
+      unfolding eventEndWithin
       done-event is h q = ap (λ a. ended a st′) (is ∙ ap (λ k. answer 0 (k - l) Nothing) m) ∙ ap (ended (answer 0 (limitOf s - l) Nothing)) q ∙ sym (ap (λ r. eventEnd s old r (ranWorld .st)) h)
 
       pub refused-event : (n : ℕ) → a ≡ answer n (limit - l) Nothing → ranWorld .ran ≡ Refused n l → st′ ≡ old → ended a st′ ≡ bodyEvent s old e (recordOf s bodies number) zs st
-      unfolding eventEnd
+      unfolding eventEndWithin
       refused-event n is h q = ap (λ a. ended a st′) (is ∙ ap (λ k. answer n (k - l) Nothing) m) ∙ ap (ended (answer n (limitOf s - l) Nothing)) q ∙ sym (ap (λ r. eventEnd s old r (ranWorld .st)) h)

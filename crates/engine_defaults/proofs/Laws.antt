@@ -7,17 +7,16 @@ use native.Mathlib.Decide.{decLt, ℕ-discrete}
 use lib.ListN.{length, getD, set, replicate, length-set, getD-replicate}
 use lib.Seq.{ext-getD, getD-set-same, getD-set-other}
 use lib.IntN.{ℤ, pos}
-use borrow.Author.Tests.{lt-ltb, le-ltb, eq-eqb, ne-eqb}
+use borrow.Author.Tests.{lt-ltb, le-ltb}
 use Rattle.sheet.specs.declared.Record.{Record}
 use Rattle.sheet.specs.Table.{lookUp}
-use Rattle.sheet.specs.Names.{head, stepLimit}
-use Rattle.sheet.specs.Sheet.{recordOf}
-use Rattle.sheet_rules.specs.Fields.{fieldOf, fieldAt, numberOr0, typeAt}
+use Rattle.sheet_rules.specs.Fields.{fieldOf, fieldAt, typeAt}
 use Rattle.sheet_rules.specs.DataTypes.{dataTypeOf}
 use Rattle.sheet_rules.proofs.DataTypes.{type-no-data, type-enumerated}
 use Rattle.machine.specs.Values.{defaultIn, defaultOf}
 use Rattle.machine.specs.Run.{localAt, listFrom, localsOf}
-use Rattle.machine.specs.Play.{limitOf}
+use Rattle.machine.specs.Play.{defaultLimit, limitOf}
+use Rattle.machine_limits.proofs.Limit.{limit-zero, limit-given}
 
 -- ---- defaults
 
@@ -91,10 +90,10 @@ module _ (s : List ℕ) (b : Record) (zs : List ℤ) where
 
 -- ---- the limit
 
-pub limit-zero : (s : List ℕ) (x : ℕ) → x ≡ fieldAt s 0 0 3 → x ≡ 0 → 10000 ≡ limitOf s
-unfolding limitOf fieldAt fieldOf
-limit-zero s x e z = rw (limitOf, eq-eqb (numberOr0 (recordOf s head 0) stepLimit) 0 (sym e ∙ z)) refl
+pub field-zero : (s : List ℕ) (x : ℕ) → x ≡ fieldAt s 0 0 3 → x ≡ 0 → defaultLimit ≡ limitOf s
+unfolding fieldAt fieldOf
+field-zero s x e z = sym (limit-zero defaultLimit s (sym e ∙ z))
 
-pub limit-given : (s : List ℕ) (x : ℕ) → x ≡ fieldAt s 0 0 3 → (x ≡ 0 → ⊥) → x ≡ limitOf s
-unfolding limitOf fieldAt fieldOf
-limit-given s x e z = rw (limitOf, ne-eqb (numberOr0 (recordOf s head 0) stepLimit) 0 (λ q. z (e ∙ q))) e
+pub field-given : (s : List ℕ) (x : ℕ) → x ≡ fieldAt s 0 0 3 → (x ≡ 0 → ⊥) → x ≡ limitOf s
+unfolding fieldAt fieldOf
+field-given s x e z = e ∙ sym (limit-given defaultLimit s (λ q. z (e ∙ q)))

@@ -58,14 +58,14 @@ pub fn fresh_locals(sheet: &[u8], directory: &[usize; 16], b: Record, d: &[i32; 
     locals
 }
 
-// "f3 step limit (0 means 10,000)", which is a 16-bit number.
+// "f3 step limit (0 means 2,000)", which is a 16-bit number.
 pub fn limit(sheet: &[u8], directory: &[usize; 16]) -> u32
     requires { ⌜ now directory ≡ directoryOf (now sheet) ⌝ }
     ensures { λ n. ⌜ (n ≡ limitOf (now (sheet .entry))) × (n < 65536) ⌝ }
 {
     let steps = sheet_fields::field_at(sheet, directory, 0, 0, 3);
     if steps == 0 {
-        return 10000;
+        return 2000;
     }
     steps as u32
 }

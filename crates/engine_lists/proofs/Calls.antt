@@ -18,7 +18,7 @@ use Rattle.sheet_rules.specs.Check.{checkOf}
 use Rattle.machine.specs.Lists.{Played, played, nowhere, afterAnswer, eventsOf, playOf, StartGives}
 use Rattle.machine_claim.proofs.Runs.{play-is}
 use Rattle.engine_answers.specs.Words.{eventsIn, answersWords, Written, written, unwritten, inWords}
-use Rattle.engine_lists.specs.ListCall.{Listed, listed, unlisted, turnedDown, wholeEvents, listOf, listCall}
+use Rattle.engine_lists.specs.ListCall.{Listed, listed, unlisted, turnedDown, wholeEvents, listOf, listCall, listCallBy}
 
 module _ (s : List ℕ) (events st spare answers : List ℤ) where
   abbrev called : Listed
@@ -28,26 +28,26 @@ module _ (s : List ℕ) (events st spare answers : List ℤ) where
   down n a e h = ap (λ a. listed a st answers) e ∙ sym h
 
   pub shape-list : (a : Answer) → a ≡ answer 1 0 Nothing → checkOf s ≡ Shape → listed a st answers ≡ called
-  unfolding listCall
-  shape-list a e h = down 1 a e (rw (listCall, h) refl)
+  unfolding listCallBy
+  shape-list a e h = down 1 a e (rw (listCallBy, h) refl)
 
   pub static-list : (a : Answer) → a ≡ answer 2 0 Nothing → checkOf s ≡ Static → listed a st answers ≡ called
-  unfolding listCall
-  static-list a e h = down 2 a e (rw (listCall, h) refl)
+  unfolding listCallBy
+  static-list a e h = down 2 a e (rw (listCallBy, h) refl)
 
   module _ (ok : checkOf s ≡ Passed) (n : ℕ) (l : n ≡ stateLength s) where
     pub state-long : (a : Answer) → a ≡ answer 3 0 Nothing → (length st ≡ n → ⊥) → listed a st answers ≡ called
-    unfolding listCall
-    state-long a e h = down 3 a e (rw (listCall, ok, false-and _ (eqb (length spare) (stateLength s)) (ne-eqb (length st) (stateLength s) (λ q. h (q ∙ sym l)))) refl)
+    unfolding listCallBy
+    state-long a e h = down 3 a e (rw (listCallBy, ok, false-and _ (eqb (length spare) (stateLength s)) (ne-eqb (length st) (stateLength s) (λ q. h (q ∙ sym l)))) refl)
 
     pub spare-long : (a : Answer) → a ≡ answer 3 0 Nothing → (length spare ≡ n → ⊥) → listed a st answers ≡ called
-    unfolding listCall
-    spare-long a e h = down 3 a e (rw (listCall, ok, and-false (eqb (length st) (stateLength s)) _ (ne-eqb (length spare) (stateLength s) (λ q. h (q ∙ sym l)))) refl)
+    unfolding listCallBy
+    spare-long a e h = down 3 a e (rw (listCallBy, ok, and-false (eqb (length st) (stateLength s)) _ (ne-eqb (length spare) (stateLength s) (λ q. h (q ∙ sym l)))) refl)
 
     module _ (h : length st ≡ n) (k : length spare ≡ n) where
       fitting : called ≡ elim (wholeEvents events answers) [ true ↦ listOf answers (playOf s (eventsIn events)) | false ↦ turnedDown 4 st answers ]
-      unfolding listCall
-      fitting = rw (listCall, ok, and-true _ _ (eq-eqb (length st) (stateLength s) (h ∙ l)) (eq-eqb (length spare) (stateLength s) (k ∙ l))) refl
+      unfolding listCallBy
+      fitting = rw (listCallBy, ok, and-true _ _ (eq-eqb (length st) (stateLength s) (h ∙ l)) (eq-eqb (length spare) (stateLength s) (k ∙ l))) refl
 
       pub events-long : (a : Answer) → a ≡ answer 4 0 Nothing → (length events % 9 ≡ 0 → ⊥) → listed a st answers ≡ called
       unfolding wholeEvents

@@ -14,8 +14,8 @@ use Rattle.sheet.specs.Sheet.{countOf, offsetOf, recordAt, recordOf}
 use Rattle.machine.specs.declared.Answer.{Answer}
 use Rattle.sheet_rules.specs.Fields.{numberOr0}
 use Rattle.machine.specs.State.{putWords}
-use Rattle.machine.specs.Play.{limitOf}
-use Rattle.machine.specs.Lists.{Played, played, nowhere, thenPlayed, afterAnswer, goesOn, eventsOf, EventGives}
+use Rattle.machine.specs.Play.{defaultLimit, limitBy, limitOf}
+use Rattle.machine.specs.Lists.{Played, played, nowhere, thenPlayed, afterAnswer, goesOn, eventsOf, eventsOfBy, EventGives}
 use Rattle.machine_events.specs.Playing.{Playing}
 use Rattle.machine_claim.proofs.Limit.{event-within}
 use Rattle.machine_claim.proofs.Kept.{goes-on-is}
@@ -31,10 +31,10 @@ module _ (s : List ℕ) (bytes : (i : ℕ) → getD s i 0 < 256) where
   field-small false at = omega arith
 
   limit-small : limitOf s < 65536
-  unfolding limitOf recordOf
+  unfolding limitBy recordOf
   limit-small = go (eqb (numberOr0 (recordOf s head 0) stepLimit) 0)
     where
-      go : (b : Bool) → elim b [ true ↦ 10000 | false ↦ numberOr0 (recordOf s head 0) stepLimit ] < 65536
+      go : (b : Bool) → elim b [ true ↦ defaultLimit | false ↦ numberOr0 (recordOf s head 0) stepLimit ] < 65536
       go true = omega arith
       go false = field-small (ltb 0 (countOf s head)) (offsetOf s head + 16 * 0)
 
@@ -73,7 +73,7 @@ module _ (s d : List ℕ) (events : List ℤ) where
       sym (behind-none (inWords (eventsOf s st (eventsFrom events count 0)))) ∙ ap (λ n. behind [] (inWords (eventsOf s st (eventsFrom events n 0)))) e
 
   one-event : (st ev : List ℤ) (evs : List (List ℤ)) (a : Answer) (new : List ℤ) → Playing s d st → EventGives s st st ev a new → inWords (eventsOf s st (ev ∷ evs)) ≡ behind (answerWords a) (inWords (eventsOf s new evs))
-  unfolding eventsOf thenPlayed
+  unfolding eventsOfBy thenPlayed
   one-event st ev evs a new p g =
       ap (λ w. inWords (thenPlayed w (λ a new. afterAnswer a (eventsOf s (goesOn a st new) evs)))) (sym g)
       ∙ ap (λ st. inWords (afterAnswer a (eventsOf s st evs))) (goes-on-is s d st ev a new p g)
@@ -95,7 +95,7 @@ module _ (s d : List ℕ) (events : List ℤ) where
       ∙ ap (λ ws. behind ws (rest count (i + 1) new)) (sym front)
 
   pub all-events : (count i : ℕ) (st answers : List ℤ) (w : Written) → i ≤ count → count ≤ i → length answers ≡ 10 * count → w ≡ behind (take (10 * i) answers) (rest count i st) → written answers st ≡ w
-  unfolding behind eventsFrom eventsOf inWords answersWords
+  unfolding behind eventsFrom eventsOfBy inWords answersWords
   all-events count i st answers w l k m h =
       let n : count - i ≡ 0 = omega arith in
       let whole : take (10 * i) answers ≡ answers = take-all (10 * i) answers (omega arith) in

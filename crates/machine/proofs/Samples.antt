@@ -15,7 +15,7 @@ use Rattle.machine.specs.Valid.{dataFit, nameFits, reactionAwaits, zeroW
 use Rattle.machine.specs.Eval.{val, isVariable, isPlainVariable, andThen, needs, onRecord, intOut, dividing, notVal, onInts, combined, binaryVal, written, literalValue, within, ofType, parameterVal, variableAtCell, reached, elementAs, elementVal, readAs, readVal, clockWord, clockVal, evalIn, evalStep, evalF, evalOf}
 use Rattle.machine.specs.Run.{goOn, thenOperand, withRecord, provided, before, nextValue, valuesFrom, thenValues, areOf, wordsIn, localAt, listFrom, localsOf, localsThere, append, armed, clockSet, fewer, assigned, hasVariable, assignOf, elementAssigned, assignElementOf, nameValues, externalSendOf, internalSendOf, armOf, clockActOf, entered, callOf, choiceOf, runIn, runStep, runF, runOf}
 use Rattle.machine.specs.Kinds.{kindOf}
-use Rattle.machine.specs.Play.{Outcome, ended, stuck, answer, limitOf, bodyFrom, bodyWhere, ranBody, elementBody, alone, eventEnd, defaultCell, alike, defaultCells, elementCells, cellsFrom, defaultState, hasHead, elementThere, elementsThere, startNext, startFrom, started, oldestFrom, oldest, taking, sameDeclared, brought, reacting, panicking, withNumber, outside, bodiesThere, received, delivered, deliver, corrupt, inner, thenSlice, fires, ticks, slicedCell, slicedEach, slicedVariable, slicedCells, slicedElement, slicedFrom, changeEnd, slice, restZero, wellFormed, isEvent, happensAs, happens, ifPassed, startCall, eventCall}
+use Rattle.machine.specs.Play.{Outcome, ended, stuck, answer, limitBy, limitOf, bodyFrom, bodyWhere, ranBodyWithin, elementBody, alone, eventEndWithin, defaultCell, alike, defaultCells, elementCells, cellsFrom, defaultState, hasHead, elementThere, elementsThere, startNextWithin, startFromWithin, startedWithin, oldestFrom, oldest, taking, sameDeclared, brought, reactingWithin, panickingWithin, withNumber, outside, bodiesThere, receivedWithin, deliveredWithin, deliverWithin, corruptWithin, innerWithin, thenSlice, fires, ticks, slicedCell, slicedEach, slicedVariable, slicedCells, slicedElement, slicedFrom, changeEnd, slice, restZero, wellFormed, isEvent, happensAsWithin, happens, happensWithin, ifPassed, startCall, startCallBy, eventCallBy}
 use Rattle.machine.specs.declared.Out.{Out}
 use Rattle.machine.specs.declared.Out.the-variants.{Val, Refused}
 use Rattle.machine.specs.declared.Handed.the-variants.{Nothing}
@@ -53,7 +53,7 @@ mod-zero l = refl
 -- ---- start and events, with every definition open
 
 unfoldable pub start : List (List ℕ) → Outcome
-unfolding check fits32 isBelow recordBy isZero inDataType inType defaultIn defaultOf hasDefault isBound bindingOf chartOf firstCell cellAt cellOf placeAt stateLength wordOf waiting setWaiting telegramIn telegramOf putWords withTelegram classOf sameClass waitingLike appended withoutTelegram dataFit nameFits reactionAwaits zeroWords runningClock clockCell cellFits variableFits elementFits internalFits externalFits telegramFits headFits cellsFit waitingFit unusedZero classesFit contentFits andThen needs onRecord intOut quotient remainder dividing notVal onInts combined binaryVal written literalValue within ofType parameterVal variableAtCell reached elementAs elementVal readAs readVal clockWord clockVal evalIn evalStep evalF evalOf goOn thenOperand withRecord provided before nextValue valuesFrom thenValues areOf wordsIn localAt listFrom localsOf localsThere append armed clockSet fewer assigned hasVariable assignOf elementAssigned assignElementOf nameValues externalSendOf internalSendOf isVariable isPlainVariable armOf clockActOf entered callOf choiceOf runIn runStep runF runOf limitOf bodyFrom bodyWhere ranBody elementBody alone eventEnd defaultCell alike defaultCells elementCells cellsFrom defaultState hasHead elementThere elementsThere startNext startFrom started oldestFrom oldest taking sameDeclared brought reacting panicking withNumber outside bodiesThere received delivered deliver corrupt inner thenSlice fires ticks slicedCell slicedEach slicedVariable slicedCells slicedElement slicedFrom changeEnd slice restZero wellFormed kindOf isEvent happensAs happens ifPassed startCall eventCall
+unfolding check fits32 isBelow recordBy isZero inDataType inType defaultIn defaultOf hasDefault isBound bindingOf chartOf firstCell cellAt cellOf placeAt stateLength wordOf waiting setWaiting telegramIn telegramOf putWords withTelegram classOf sameClass waitingLike appended withoutTelegram dataFit nameFits reactionAwaits zeroWords runningClock clockCell cellFits variableFits elementFits internalFits externalFits telegramFits headFits cellsFit waitingFit unusedZero classesFit contentFits andThen needs onRecord intOut quotient remainder dividing notVal onInts combined binaryVal written literalValue within ofType parameterVal variableAtCell reached elementAs elementVal readAs readVal clockWord clockVal evalIn evalStep evalF evalOf goOn thenOperand withRecord provided before nextValue valuesFrom thenValues areOf wordsIn localAt listFrom localsOf localsThere append armed clockSet fewer assigned hasVariable assignOf elementAssigned assignElementOf nameValues externalSendOf internalSendOf isVariable isPlainVariable armOf clockActOf entered callOf choiceOf runIn runStep runF runOf limitBy bodyFrom bodyWhere ranBodyWithin elementBody alone eventEndWithin defaultCell alike defaultCells elementCells cellsFrom defaultState hasHead elementThere elementsThere startNextWithin startFromWithin startedWithin oldestFrom oldest taking sameDeclared brought reactingWithin panickingWithin withNumber outside bodiesThere receivedWithin deliveredWithin deliverWithin corruptWithin innerWithin thenSlice fires ticks slicedCell slicedEach slicedVariable slicedCells slicedElement slicedFrom changeEnd slice restZero wellFormed kindOf isEvent happensAsWithin happensWithin ifPassed startCallBy eventCallBy
 start ss = startCall (sheetOf ss) (replicate (stateLength (sheetOf ss)) (pos 0))
 
 -- the machine alone, without the tests of sheet, state and event that a call makes before
@@ -136,6 +136,15 @@ limit-two = refl
 pub limit-one : start (assigning 1 1) ≡ answered 10 1 (replicate 1040 (pos 0))
 unfolding start assigning answered
 limit-one = refl
+
+-- "Head f3 of 0 now means 2,000 steps"; another number means itself
+limit-default : limitOf (sheetOf (assigning 1 0)) ≡ 2000
+unfolding start assigning
+limit-default = refl
+
+limit-given : limitOf (sheetOf (assigning 1 1)) ≡ 1
+unfolding start assigning
+limit-given = refl
 
 -- ---- a full list
 

@@ -14,7 +14,7 @@ use Rattle.machine.specs.State.{stateLength}
 use Rattle.machine.specs.Valid.{OfSheet}
 use Rattle.machine.specs.Play.{Outcome, ended, stuck, limitOf, isEvent, eventCall}
 use Rattle.sheet_rules.specs.Check.{checkOf}
-use Rattle.machine.specs.Lists.{Played, played, nowhere, thenPlayed, afterAnswer, goesOn, eventsOf, playOf, EventGives}
+use Rattle.machine.specs.Lists.{Played, played, nowhere, thenPlayed, afterAnswer, goesOn, eventsOf, eventsOfBy, playOf, EventGives}
 use Rattle.machine_states.proofs.Parts.{of-content}
 use Rattle.machine_events.proofs.Laws.{event-malformed, event-happens}
 use Rattle.machine_promise.specs.Promise.{StartKept, EventKept, ListKept}
@@ -49,7 +49,7 @@ module _ (s : List ℕ) (ok : checkOf s ≡ Passed) where
 
   module _ (e : Engine) (m : Meets e) where
     calls-same : (calls : List Call) (st : List ℤ) → OfSheet s st → AllLent s calls → calledFrom e s st calls ≡ eventsOf s st (eventsCalled calls)
-    unfolding calledFrom eventsOf thenPlayed
+    unfolding calledFrom eventsOfBy thenPlayed
     calls-same [] st o l = refl
     calls-same (c ∷ calls) st o l =
         let a = e .event s st (c .lent) (c .words) .answer in

@@ -11,9 +11,9 @@ use Rattle.sheet_rules.specs.declared.Checked.the-variants.{Passed}
 use Rattle.sheet_rules.specs.Fields.{elementsOf}
 use Rattle.machine.specs.State.{stateLength}
 use Rattle.machine.specs.Valid.{OfSheet}
-use Rattle.machine.specs.Play.{limitOf}
+use Rattle.machine.specs.Play.{defaultLimit, limitOf}
 use Rattle.sheet_rules.specs.Check.{checkOf}
-use Rattle.machine.specs.Lists.{Played, played, afterAnswer, goesOn, playOf, StartGives, EventGives}
+use Rattle.machine.specs.Lists.{Played, played, afterAnswer, goesOn, playOf, StartGivesBy, EventGivesBy}
 use Rattle.machine_promise.specs.Promise.{OneOf, AllAnswered, OneReaction}
 
 -- ---- an engine
@@ -28,10 +28,13 @@ pub record Engine : Type 0 where
   pub start : List ℕ → List ℤ → Returned
   pub event : List ℕ → List ℤ → List ℤ → List ℤ → Returned
 
--- the contracts of start and event, whatever the bytes, the words and their number
-pub record Meets (e : Engine) : Type 0 where
-  pub start : (s : List ℕ) (lent : List ℤ) → StartGives s lent (e .start s lent .answer) (e .start s lent .state)
-  pub event : (s : List ℕ) (old lent ev : List ℤ) → EventGives s old lent ev (e .event s old lent ev .answer) (e .event s old lent ev .state)
+-- the contracts of start and event, whatever the bytes, the words and their number, by a machine with that default limit
+pub record MeetsBy (default : ℕ) (e : Engine) : Type 0 where
+  pub start : (s : List ℕ) (lent : List ℤ) → StartGivesBy default s lent (e .start s lent .answer) (e .start s lent .state)
+  pub event : (s : List ℕ) (old lent ev : List ℤ) → EventGivesBy default s old lent ev (e .event s old lent ev .answer) (e .event s old lent ev .state)
+
+abbrev pub Meets : Engine → Type 0
+Meets e = MeetsBy defaultLimit e
 
 -- ---- a run made of its calls
 

@@ -21,7 +21,7 @@ use Rattle.machine.specs.State.{stateLength}
 use Rattle.machine.specs.Valid.{OfSheet}
 use Rattle.machine.specs.Eval.{Context}
 use Rattle.machine.specs.Run.{World, localsOf}
-use Rattle.machine.specs.Play.{Outcome, ended, stuck, answer, limitOf, isInitial, elementBody, alone, ranBody, startNext, startFrom, started, defaultState}
+use Rattle.machine.specs.Play.{Outcome, ended, stuck, answer, limitOf, isInitial, elementBody, alone, ranBody, startNext, startNextWithin, startFrom, startFromWithin, started, startedWithin, defaultState}
 use Rattle.sheet_rules.specs.Check.{checkOf}
 use Rattle.machine_equations.proofs.Left.{RanWithin, run-left}
 use Rattle.machine_passed.proofs.Records.{elements-bound, elements-are, components-limit}
@@ -31,11 +31,11 @@ use Rattle.machine_sound.specs.Gives.{Ends}
 use Rattle.machine_promise.proofs.Bodies.{body-of, ran-is, ran-ends, no-parameters, runs-alone}
 
 pub begins : (s : List ℕ) → checkOf s ≡ Passed → (n e : ℕ) (st : List ℤ) → n ≡ countOf s bindings → e ≡ externalsOf s → st ≡ defaultState s → started s ≡ startFrom s n e 0 st
-unfolding started
+unfolding startedWithin
 begins s ok n e st p q r = ap (λ b. elim b as (λ b. Outcome) [ true ↦ startFrom s (elementsOf s) (externalsOf s) 0 (defaultState s) | false ↦ stuck ]) (elements-there s ok) ∙ ap (λ n. startFrom s n (externalsOf s) 0 (defaultState s)) (elements-are s ok ∙ sym p) ∙ ap (λ e. startFrom s n e 0 (defaultState s)) (sym q) ∙ ap (startFrom s n e 0) (sym r)
 
 pub ends : (s : List ℕ) (n e k : ℕ) (st : List ℤ) (a : Answer) → n ≡ 0 → a ≡ answer 0 k Nothing → ended a st ≡ startFrom s n e k st
-unfolding startFrom
+unfolding startFromWithin
 ends s n e k st a z q = ap (λ a. ended a st) q ∙ ap (λ n. startFrom s n e k st) (sym z)
 
 module _ (s : List ℕ) where
@@ -43,15 +43,15 @@ module _ (s : List ℕ) where
   first-run e st = ranBody s e (alone (elementBody s e isInitial)) [] st
 
   one : (n e k : ℕ) (st : List ℤ) (r : Ran) → first-run e st .ran ≡ r → startFrom s (suc n) e k st ≡ startNext s k r (first-run e st .st) (λ k st. startFrom s n (suc e) k st)
-  unfolding startFrom
+  unfolding startFromWithin
   one n e k st r h = ap (λ r. startNext s k r (first-run e st .st) (λ k st. startFrom s n (suc e) k st)) h
 
   one-done : (n e k l : ℕ) (st : List ℤ) → first-run e st .ran ≡ Done l → startFrom s (suc n) e k st ≡ startFrom s n (suc e) (k + (limitOf s - l)) (first-run e st .st)
-  unfolding startNext
+  unfolding startNextWithin
   one-done n e k l st h = one n e k st (Done l) h
 
   one-refused : (n e k x l : ℕ) (st : List ℤ) → first-run e st .ran ≡ Refused x l → startFrom s (suc n) e k st ≡ ended (answer x (k + (limitOf s - l)) Nothing) (replicate (stateLength s) (pos 0))
-  unfolding startNext
+  unfolding startNextWithin
   one-refused n e k x l st h = one n e k st (Refused x l) h
 
 module _ (s : List ℕ) (ok : checkOf s ≡ Passed) where

@@ -24,7 +24,7 @@ use Rattle.machine.specs.Values.{isBelow, isBound}
 use Rattle.machine.specs.State.{wordOf, waiting, counted, telegramOf, withoutTelegram, isInternal}
 use Rattle.machine.specs.Valid.{nameFits, internalFits, telegramFits, OfSheet}
 use Rattle.machine.specs.Kinds.{kindOf}
-use Rattle.machine.specs.Play.{Outcome, ended, answer, elementBody, goesFrom, innerOf, oldest, taking, reacting, panicking, withNumber, outside, delivered, deliver, corrupt, inner, slice, restZero, boundWord, wellFormed, isEvent, telegramOfEvent, happens}
+use Rattle.machine.specs.Play.{Outcome, ended, answer, elementBody, goesFrom, innerOf, oldest, taking, reacting, panicking, withNumber, outside, delivered, deliverWithin, corruptWithin, innerWithin, slice, restZero, boundWord, wellFormed, isEvent, telegramOfEvent, happens}
 use Rattle.machine_equations.proofs.EventKinds.{kind-word}
 use Rattle.machine_states.proofs.Parts.{same-word, is-counted, telegram-of}
 use Rattle.machine_states.proofs.Telegrams.{internal-part}
@@ -146,7 +146,7 @@ module _ (s : List ℕ) (st ev : List ℤ) (h : isEvent s ev ≡ true) (n : ℕ)
 
   -- "no such telegram waits"
   pub none-happens : counted st ≡ true → (w : ℕ) → w ≡ waiting st → w ≤ j → happens s st ev ≡ ended (answer 5 0 Nothing) st
-  unfolding deliver corrupt inner
+  unfolding deliverWithin corruptWithin innerWithin
   none-happens c w v l = elim (ℕ-discrete n 2) [
     | yes q ↦ let o = at ∙ oldest-outer s st ev h n e n₁ n₅ (λ z. omega arith) in happens-deliver s st ev (k ∙ ap pos q) ∙ taking-none s st (goesFrom (wordOf ev 1) (wordOf ev 2)) (delivered s st) c (omega arith)
     | no n₂ ↦ elim (ℕ-discrete n 3) [
@@ -239,7 +239,7 @@ module _ {s d : List ℕ} {st ev : List ℤ} {n j : ℕ} {t : Telegram} {st′ :
     copied d = undo (sym (undoes-waiting s st ev (k .event) n (k .kind) (k .no-outside) (k .no-slice) j (k .at) d (waiting st) refl) ∙ lt-ltb j (waiting st) (k .waits))
 
     pub as-deliver : n ≡ 2 → x ≡ delivered s old t st′ → x ≡ happens s st ev
-    unfolding deliver
+    unfolding deliverWithin
     as-deliver q g = g ∙ go (isBelow (t .receiver) (externalsOf s)) refl ∙ sym (happens-deliver s st ev (word 2 q) ∙ took (goesFrom (wordOf ev 1) (wordOf ev 2)) (delivered s st) (outer-at (λ z. omega arith)))
       where
         go : (b : Bool) → isBelow (t .receiver) (externalsOf s) ≡ b → delivered s old t st′ ≡ delivered s st t st′
@@ -247,7 +247,7 @@ module _ {s d : List ℕ} {st ev : List ℤ} {n j : ℕ} {t : Telegram} {st′ :
         go false b = ap (λ o. delivered s o t st′) (copied (λ q. ap (λ z. isBelow z (externalsOf s)) (sym receiver-is) ∙ b))
 
     pub as-corrupt : n ≡ 3 → (r : ℕ) → r ≡ natAbs (t .receiver) → x ≡ panicking s old r st′ → x ≡ happens s st ev
-    unfolding corrupt
+    unfolding corruptWithin
     as-corrupt q r i g =
         g
         ∙ ap (λ o. panicking s o r st′) (copied (λ z. absurd (omega arith)))
@@ -255,7 +255,7 @@ module _ {s d : List ℕ} {st ev : List ℤ} {n j : ℕ} {t : Telegram} {st′ :
         ∙ sym (happens-corrupt s st ev (word 3 q) ∙ took (goesFrom (wordOf ev 1) (wordOf ev 2)) (λ t st′. withNumber (wordOf ev 2) (λ e. panicking s st e st′)) (outer-at (λ z. omega arith)) ∙ number-is (wordOf ev 2) _ _ receiver-word)
 
     pub as-inner : (n ≡ 2 → ⊥) → (n ≡ 3 → ⊥) → x ≡ reacting s old (natAbs (t .receiver)) (elementBody s (natAbs (t .receiver)) (reactsTo (natAbs (t .name)))) t st′ → x ≡ happens s st ev
-    unfolding inner
+    unfolding innerWithin
     as-inner n₂ n₃ g =
         let q = inner-is n₂ n₃ in
         g

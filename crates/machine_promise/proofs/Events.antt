@@ -26,7 +26,7 @@ use Rattle.machine.specs.State.{stateLength, wordOf, waiting, telegramOf, witho
 use Rattle.machine.specs.Valid.{dataFit, nameFits, reactionAwaits, datumOf, internalFits, externalFits, telegramFits, contentFits, OfSheet}
 use Rattle.machine.specs.Kinds as kind
 use Rattle.machine.specs.Kinds.{Kind, kindOf}
-use Rattle.machine.specs.Play.{Outcome, ended, stuck, withNumber, bodiesThere, received, answer, reactsOn, elementBody, oldestFrom, oldest, goesFrom, innerOf, taking, reacting, panicking, outside, delivered, deliver, corrupt, inner, slicedFrom, slice, boundWord, wellFormed, isEvent, telegramOfEvent, happensAs, happens, turnedDown, ifPassed, eventCall, changeEnd}
+use Rattle.machine.specs.Play.{Outcome, ended, stuck, withNumber, bodiesThere, received, receivedWithin, answer, reactsOn, elementBody, oldestFrom, oldest, goesFrom, innerOf, taking, reacting, panicking, outside, delivered, deliveredWithin, deliver, deliverWithin, corrupt, corruptWithin, inner, innerWithin, slicedFrom, slice, boundWord, wellFormed, isEvent, telegramOfEvent, happensAs, happensAsWithin, happens, happensWithin, turnedDown, ifPassed, eventCall, eventCallBy, changeEnd}
 use Rattle.sheet_rules.specs.Check.{checkOf}
 use Rattle.sheet_rules.proofs.Fields.{holds-present}
 use Rattle.machine_passed.proofs.Records.{externals-components}
@@ -111,7 +111,7 @@ module _ (s : List ℕ) (ok : checkOf s ≡ Passed) where
 
   -- the reaction for its port and name, or without one the panic body
   received-kept : (old st : List ℤ) → OfSheet s st → (t : Telegram) → isBelow (t .name) (countOf s names) ≡ true → dataFit s (nameRange s (natAbs (t .name))) (datumOf t) ≡ true → (e p : ℕ) → isBound s e ≡ true → EventKept s old (received s old t st e p (natAbs (t .name)))
-  unfolding received isReaction
+  unfolding receivedWithin isReaction
   received-kept old st o t below h e p bound = go (elementBody s e (reactsOn p (natAbs (t .name)))) refl
     where
       go : (f : Found) → elementBody s e (reactsOn p (natAbs (t .name))) ≡ f → EventKept s old (elim f [ Present b ↦ reacting s old e (Present b) t st | Absent ↦ elim (bodiesThere s e) [ true ↦ panicking s old e st | false ↦ stuck ] ])
@@ -123,7 +123,7 @@ module _ (s : List ℕ) (ok : checkOf s ≡ Passed) where
       go Absent q = let x = bound-element s ok e bound in subst (λ b. EventKept s old (elim b [ true ↦ panicking s old e st | false ↦ stuck ])) (sym (bodies-there s ok e bound)) (panicking-kept s ok e (x .0) (x .1) (x .2) old st o)
 
   delivered-kept : (old : List ℤ) (t : Telegram) (st : List ℤ) → telegramFits s t ≡ true → isInternal t ≡ false → OfSheet s st → EventKept s old (delivered s old t st)
-  unfolding delivered externalFits nameFits
+  unfolding deliveredWithin externalFits nameFits
   delivered-kept old t st h n o = go (isBelow (t .receiver) (externalsOf s)) refl
     where
       named : isBelow (t .name) (countOf s names) and hasClass s (natAbs (t .name)) external and dataFit s (nameRange s (natAbs (t .name))) (datumOf t) ≡ true
@@ -140,19 +140,19 @@ module _ (s : List ℕ) (ok : checkOf s ≡ Passed) where
   outer a r t h = not-true _ (and-first _ _ h)
 
   deliver-kept : (st : List ℤ) → OfSheet s st → (a r : ℤ) → EventKept s st (deliver s st a r)
-  unfolding deliver
+  unfolding deliverWithin
   deliver-kept st o a r = taking-kept s st o (goesFrom a r) (delivered s st) (λ t st′ h p o′. delivered-kept st t st′ h (outer a r t p) o′)
 
   -- ---- 3 Corrupt
 
   corrupt-kept : (st : List ℤ) → OfSheet s st → (a r : ℤ) → isBelow r (componentsOf s) ≡ true → isBound s (natAbs r) ≡ true → EventKept s st (corrupt s st a r)
-  unfolding corrupt
+  unfolding corruptWithin
   corrupt-kept st o a r below bound = let x = bound-element s ok (natAbs r) bound in taking-kept s st o (goesFrom a r) _ (λ t st′ h p o′. subst (EventKept s st) (sym (number-is r _ _ below)) (panicking-kept s ok (natAbs r) (x .0) (x .1) (x .2) st st′ o′))
 
   -- ---- 4 Inner
 
   inner-kept : (st : List ℤ) → OfSheet s st → (r : ℤ) → EventKept s st (inner s st r)
-  unfolding inner internalFits nameFits reactionAwaits isReaction
+  unfolding innerWithin internalFits nameFits reactionAwaits isReaction
   inner-kept st o r = taking-kept s st o (innerOf r) _ (λ t st′ h p o′.
       let same : t .receiver ≡ r = same-word _ _ (and-second _ _ p) in
       let i = internal-part s t h (and-first _ _ p) in
@@ -194,7 +194,7 @@ module _ (s : List ℕ) (ok : checkOf s ≡ Passed) where
         same (suc (suc (suc (suc j)))) l = absurd (omega arith)
 
     kind-kept : (k : Kind) → wellFormed s ev k ≡ true → EventKept s st (happensAs s st ev k)
-    unfolding wellFormed happensAs
+    unfolding wellFormed happensAsWithin
     kind-kept kind.outside h = outside-kept st o (telegramOfEvent ev) (sent-outside h)
     kind-kept kind.deliver h = deliver-kept st o (wordOf ev 1) (wordOf ev 2)
     kind-kept kind.corrupt h = let r = and-first _ _ (and-second _ _ h) in corrupt-kept st o (wordOf ev 1) (wordOf ev 2) (and-first _ _ r) (bound-word s (wordOf ev 2) (and-first _ _ r) (not-true _ (and-second _ _ r)))
@@ -203,12 +203,12 @@ module _ (s : List ℕ) (ok : checkOf s ≡ Passed) where
     kind-kept kind.noKind h = absurd (true-false h refl)
 
     pub happens-kept : wellFormed s ev (kindOf (wordOf ev 0)) ≡ true → EventKept s st (happens s st ev)
-    unfolding happens
+    unfolding happensWithin
     happens-kept h = kind-kept (kindOf (wordOf ev 0)) h
 
     -- what is left of an event's call on a passed sheet and a state of it
     called : eventCall s st st ev ≡ elim (isEvent s ev) [ true ↦ happens s st ev | false ↦ turnedDown 4 st ]
-    unfolding eventCall ifPassed
+    unfolding eventCallBy ifPassed
     called =
         let whole : eqb (length st) (stateLength s) ≡ true = eq-eqb _ _ (o .whole) in
         ap (λ c. ifPassed c st (λ result. elim (eqb (length st) (stateLength s) and eqb (length result) (stateLength s)) [ true ↦ elim (contentFits s st) [ true ↦ elim (isEvent s ev) [ true ↦ happens s st ev | false ↦ turnedDown 4 result ] | false ↦ turnedDown 3 result ] | false ↦ turnedDown 3 result ])) ok

@@ -2,3 +2,4 @@ pub mod Starred
 pub mod Leftward
 pub mod NotPassed
 pub mod Classes
+pub mod Limits

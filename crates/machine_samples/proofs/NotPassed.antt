@@ -486,7 +486,7 @@ fires-uncounted : happened 5 (pos 0) (doing 18 0 []) (negsuc 0) (firing (pos 0))
 unfolding happened
 fires-uncounted = refl
 
-sends-counted : sends (pos 1) ≡ Done 9997
+sends-counted : sends (pos 1) ≡ Done 1997
 unfolding sends
 sends-counted = refl
 

@@ -1,0 +1,8 @@
+pub mod Limit
+pub mod Values
+pub mod State
+pub mod Valid
+pub mod Eval
+pub mod Run
+pub mod Play
+pub mod Calls

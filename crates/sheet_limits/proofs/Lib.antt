@@ -1,0 +1,11 @@
+pub mod Records
+pub mod Written
+pub mod Fields
+pub mod Forms
+pub mod Indices
+pub mod Shape
+pub mod Types
+pub mod Uses
+pub mod Static
+pub mod Check
+pub mod Samples
