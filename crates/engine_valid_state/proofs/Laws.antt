@@ -12,7 +12,7 @@ use Rattle.sheet.specs.declared.Found.the-variants.{Present, Absent}
 use Rattle.sheet.specs.All.{allBelow}
 use Rattle.sheet.specs.Names.{declarations, declaredType, declaredIndex, chartVariables}
 use Rattle.sheet.specs.Sheet.{recordOf}
-use Rattle.sheet.proofs.All.{and-first, and-second, all-at}
+use Rattle.sheet.proofs.All.{and-first, and-second, all-at, all-same}
 use Rattle.sheet_rules.specs.Fields.{declaredSo, sumBelow, componentsOf, externalsOf, elementsOf}
 use Rattle.sheet_rules.specs.Indices.{indexOf, cellsBy, cellsTaken, cellsBefore}
 use Rattle.sheet_rules.specs.Shape.{cellsBound}
@@ -21,7 +21,6 @@ use Rattle.sheet_indices.proofs.Laws.{index-present}
 use Rattle.machine.specs.Values.{chartOf, firstCell}
 use Rattle.machine.specs.State.{cellAt, cellOf, placeAt, stateLength, wordOf, waiting, telegramIn, telegramOf}
 use Rattle.machine.specs.Valid.{zeroWords, cellFits, variableFits, elementFits, internalFits, telegramFits, headFits, cellsFit, waitingFit, unusedZero}
-use Rattle.machine_states.proofs.Frame.{all-same}
 use Rattle.machine_states.proofs.Parts.{below-abs, below-more, same-word}
 use Rattle.machine_states.proofs.Telegrams.{internal-part}
 use Rattle.machine_states.proofs.Elements.{element-count, element-cells, variable-cells}

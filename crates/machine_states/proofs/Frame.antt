@@ -1,5 +1,5 @@
 -- What is said of a cell or of a telegram's place depends on its eight words only.
-use Prim.Native.Nat.{ℕ, zero, suc, _+_, _-_, _<_, _≤_}
+use Prim.Native.Nat.{ℕ, _+_, _-_, _<_, _≤_}
 use mathlib.Core.Path.{_≡_, refl, ap, _∙_}
 use mathlib.Core.List.{List}
 use mathlib.Core.Bool.{Bool, true, false}
@@ -8,7 +8,8 @@ use lib.Dec.{ltb, eqb}
 use lib.IntN.{ℤ, pos, natAbs}
 use lib.Signed.{leZ, ltZ}
 use Rattle.sheet.specs.declared.Range.{Range}
-use Rattle.sheet.specs.All.{_and_, allBelow}
+use Rattle.sheet.specs.All.{_and_}
+use Rattle.sheet.proofs.All.{all-same}
 use Rattle.sheet.specs.Names.{internal, Timer-type, Timeout-type, isClock}
 use Rattle.sheet_rules.specs.Fields.{declaredSo}
 use Rattle.sheet_rules.specs.Types.{nameRange}
@@ -23,11 +24,6 @@ either false x x′ y y′ e f = f
 
 both : (x x′ y y′ : Bool) → x ≡ x′ → y ≡ y′ → x and y ≡ x′ and y′
 both x x′ y y′ e f = rw (e, f) refl
-
-pub all-same : (n : ℕ) (p q : ℕ → Bool) → ((i : ℕ) → i < n → p i ≡ q i) → allBelow n p ≡ allBelow n q
-unfolding allBelow
-all-same zero p q h = refl
-all-same (suc n) p q h = rw (all-same n p q (λ i l. h i (omega arith)), h n (omega arith)) refl
 
 pub data-same : (s : List ℕ) (g : Range) (d d′ : ℕ → ℤ) → ((j : ℕ) → j < 4 → d j ≡ d′ j) → dataFit s g d ≡ dataFit s g d′
 unfolding dataFit

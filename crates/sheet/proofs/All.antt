@@ -59,6 +59,12 @@ unfolding allBelow
 all-true zero p h = refl
 all-true (suc n) p h = and-true _ _ (all-true n p (λ i l. h i (omega arith))) (h n (omega arith))
 
+-- tests that agree below n
+pub all-same : (n : ℕ) (p q : ℕ → Bool) → ((i : ℕ) → i < n → p i ≡ q i) → allBelow n p ≡ allBelow n q
+unfolding allBelow
+all-same zero p q h = refl
+all-same (suc n) p q h = rw (all-same n p q (λ i l. h i (omega arith)), h n (omega arith)) refl
+
 pub all-fails : (n : ℕ) (p : ℕ → Bool) (i : ℕ) → i < n → p i ≡ false → allBelow n p ≡ false
 all-fails n p i l e = not-so _ (λ h. true-false (all-at n p h i l) e)
 

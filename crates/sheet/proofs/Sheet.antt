@@ -29,7 +29,7 @@ module _ (s : List ℕ) (right : directoryRight s ≡ true) where
   unfolding directoryRight
   sheet-limit = leb-true _ _ (and-first _ _ right)
 
-  offset-right : (k : ℕ) → k < 8 → offsetOf s k ≡ startOf s k
+  pub offset-right : (k : ℕ) → k < 8 → offsetOf s k ≡ startOf s k
   unfolding pairRight
   offset-right k h = eqb-true _ _ (and-first _ _ (pair-right k h))
 

@@ -8,39 +8,29 @@ use native.Mathlib.Decide.{decLt}
 use lib.ListN.{length, getD, set, length-set}
 use lib.Seq.{getD-set-same, getD-set-other}
 use lib.Dec.{leb, eqb, ltb}
-use borrow.Author.Tests.{eqb-true}
 use Rattle.sheet.specs.declared.Record.{Record}
 use Rattle.sheet.specs.declared.Found.{Found}
 use Rattle.sheet.specs.declared.Found.the-variants.{Present, Absent}
-use Rattle.sheet.specs.All.{_and_, allBelow}
+use Rattle.sheet.specs.All.{_and_}
 use Rattle.sheet.specs.Names.{head, stepLimit}
 use Rattle.sheet.specs.Sheet.{wordAt, offsetOf, lengthOf, startOf, pairRight, directoryRight, countOf, recordAt, recordOf}
-use Rattle.sheet.proofs.All.{and-first}
-use Rattle.sheet.proofs.Sheet.{pair-right, count-right, count-none, count-some, record-present, record-absent, present-below, record-inside}
+use Rattle.sheet.proofs.All.{all-same}
+use Rattle.sheet.proofs.Sheet.{offset-right, count-right, count-none, count-some, record-present, record-absent, present-below, record-inside}
 use Rattle.sheet_rules.specs.Fields.{numberOr0}
 use Rattle.sheet_limits.specs.ButLimit.{compared, ButLimit, putNumber, limitPlace, withLimit}
-
-all-alike : (n : ℕ) (p p′ : ℕ → Bool) → ((i : ℕ) → i < n → p i ≡ p′ i) → allBelow n p ≡ allBelow n p′
-unfolding allBelow
-all-alike zero p p′ h = refl
-all-alike (suc n) p p′ h = λ q. all-alike n p p′ (λ i l. h i (omega arith)) q and h n (omega arith) q
 
 -- ---- where sections lie
 
 module _ (s : List ℕ) (right : directoryRight s ≡ true) where
-  offset-right : (k : ℕ) → k < 8 → offsetOf s k ≡ startOf s k
-  unfolding pairRight
-  offset-right k l = eqb-true _ _ (and-first _ _ (pair-right s right k l))
-
   head-offset : offsetOf s head ≡ 32
   unfolding startOf
-  head-offset = offset-right 0 (omega arith)
+  head-offset = offset-right s right 0 (omega arith)
 
   -- behind a head that is there
   behind-head : 0 < countOf s head → (k : ℕ) → suc k < 8 → 48 ≤ offsetOf s (suc k)
   unfolding startOf
-  behind-head one zero l = omega (arith, offset-right 1 l, head-offset, count-right s head right (omega arith))
-  behind-head one (suc k) l = omega (arith, offset-right (suc (suc k)) l, behind-head one k (omega arith))
+  behind-head one zero l = omega (arith, offset-right s right 1 l, head-offset, count-right s head right (omega arith))
+  behind-head one (suc k) l = omega (arith, offset-right s right (suc (suc k)) l, behind-head one k (omega arith))
 
 -- ---- two sheets whose bytes differ in the head's f3 alone
 
@@ -71,7 +61,7 @@ module _ (s t : List ℕ) (long : length t ≡ length s) (bytes : (i : ℕ) → 
 
   directory-same : directoryRight t ≡ directoryRight s
   unfolding directoryRight
-  directory-same = λ q. leb (long q) 65535 and all-alike 8 (pairRight t) (pairRight s) pair-same q and eqb (start-same 8 (omega arith) q) (long q)
+  directory-same = λ q. leb (long q) 65535 and all-same 8 (pairRight t) (pairRight s) pair-same q and eqb (start-same 8 (omega arith) q) (long q)
 
   count-same : (k : ℕ) → countOf t k ≡ countOf s k
   unfolding countOf
