@@ -10,22 +10,22 @@ use lib.IntN.{ℤ}
 use borrow.Author.Tests.{eqb-true, eqb-false}
 use Rattle.sheet.specs.All.{_and_}
 use Rattle.sheet_rules.specs.declared.Checked.the-variants.{Passed, Shape, Static}
-use Rattle.sheet_rules.specs.Check.{checkOf, checkCall}
-use Rattle.sheet_limits.specs.ButLimit.{ButLimit, withLimit}
+use Rattle.sheet_rules.specs.Check.{checkOf}
+use Rattle.sheet_limits.specs.ButLimit.{ButLimit}
+use Rattle.sheet_limits.proofs.Records.{itself}
 use Rattle.sheet_limits.proofs.Written.{with-limit, has-limit}
 use Rattle.sheet_limits.proofs.Check.{same-checkOf, same-checkCall}
-use Rattle.machine.specs.declared.Handed.the-variants.{Nothing}
-use Rattle.machine.specs.Play.{Outcome, ended, stuck, answer, defaultLimit, writtenLimit, limitBy, startCallBy, eventCallBy}
+use Rattle.machine.specs.Play.{Outcome, ended, defaultLimit, writtenLimit, limitBy}
 use Rattle.machine.specs.Lists.{played, afterAnswer, goesOn}
 use Rattle.machine_passed.proofs.Records.{head-there}
 use Rattle.machine_limits.proofs.Limit.{limit-zero, limit-given}
 use Rattle.machine_limits.proofs.State.{same-stateLength}
 use Rattle.machine_limits.proofs.Calls.{same-startCallBy, same-eventCallBy, same-playOfBy}
 use Rattle.machine_claim.specs.Claim.{Returned, Engine, MeetsBy, Meets, Call, calledFrom, runOfEngine}
-use Rattle.machine_claim.proofs.Machine.{some-engine}
+use Rattle.machine_claim.proofs.Machine.{returnedOf, some-engine}
 use Rattle.engine_answers.specs.Words.{eventsIn}
 use Rattle.engine_lists.specs.ListCall.{turnedDown, wholeEvents, listOf, listCall, listCallBy}
-use Rattle.engine_rewritten.specs.Rewritten.{formerLimit, rewritten, Kept, EveryRewritten, SomeFormer}
+use Rattle.engine_rewritten.specs.Rewritten.{formerLimit, rewritten, EveryRewritten, SomeFormer}
 
 -- ---- the limits
 
@@ -41,14 +41,8 @@ module _ (s : List ℕ) where
 
 -- ---- calls
 
--- what a call left, by its outcome
-leftBy : Outcome → Returned
-leftBy (ended a st) = record { answer = a; state = st }
-leftBy stuck = record { answer = answer 0 0 Nothing; state = [] }
-
 left-same : (r r′ : Returned) (w w′ : Outcome) → ended (r .answer) (r .state) ≡ w → ended (r′ .answer) (r′ .state) ≡ w′ → w ≡ w′ → r ≡ r′
-unfolding leftBy
-left-same r r′ w w′ e e′ same = ap leftBy (e ∙ same ∙ sym e′)
+left-same r r′ w w′ e e′ same = ap returnedOf (e ∙ same ∙ sym e′)
 
 module _ (before today : Engine) (m : MeetsBy formerLimit before) (n : Meets today) (s : List ℕ) (z : writtenLimit s ≡ 0) where
   start-kept : before .start s ≡ today .start (rewritten s)
@@ -101,7 +95,7 @@ module _ (s : List ℕ) where
     where
       go : (b : Bool) → ButLimit s (elim b [ true ↦ rewritten s | false ↦ s ])
       go true = alike s
-      go false = record { directory = refl; counts = λ k. refl; records = λ k i. refl }
+      go false = itself s
 
   reformed-limits : checkOf s ≡ Passed → limitBy formerLimit s ≡ limitBy defaultLimit (reformed s)
   unfolding reformed

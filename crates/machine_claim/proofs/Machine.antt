@@ -20,7 +20,8 @@ use Rattle.machine_promise.specs.Promise.{StartKept, EventKept}
 use Rattle.machine_promise.proofs.Promise.{promise}
 use Rattle.machine_claim.specs.Claim.{Returned, Engine, SomeEngine}
 
-abbrev returnedOf : Outcome → Returned
+-- what a call left, by its outcome
+abbrev pub returnedOf : Outcome → Returned
 returnedOf (ended a st) = record { answer = a; state = st }
 returnedOf stuck = record { answer = answer 0 0 Nothing; state = [] }
 

@@ -3,7 +3,7 @@ use Prim.Native.Nat.{ℕ}
 use mathlib.Core.List.{List, [], _∷_, _++_}
 use mathlib.Core.Path.{_≡_, refl}
 use lib.ListN.{replicate}
-use lib.IntN.{ℤ, pos}
+use lib.IntN.{pos}
 use Rattle.sheet_rules.proofs.Samples.{sheetOf, rec3, rec6}
 use Rattle.machine.specs.Play.{Outcome, eventCall}
 use Rattle.machine.proofs.Samples.{start, answered, words, waits, sent}

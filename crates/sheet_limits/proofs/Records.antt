@@ -1,5 +1,5 @@
 -- What two sheets that agree but for the limit have in common: counts, the records of every section but the head, and of the head all but the limit.
-use Prim.Native.Nat.{ℕ, zero, suc}
+use Prim.Native.Nat.{ℕ, suc}
 use mathlib.Core.Path.{_≡_, refl, sym, ap, _∙_}
 use mathlib.Core.List.{List}
 use mathlib.Core.Bool.{Bool}
@@ -21,6 +21,10 @@ head-test : (p : Record → Bool) → ((r : Record) → p (noLimit r) ≡ p r) �
 unfolding holds compared
 head-test p e (Present r) = e r
 head-test p e Absent = refl
+
+-- a sheet agrees with itself
+pub itself : (s : List ℕ) → ButLimit s s
+itself s = record { directory = refl; counts = λ k. refl; records = λ k n. refl }
 
 module _ {s s′ : List ℕ} (h : ButLimit s s′) where
   pub same-directoryRight : directoryRight s ≡ directoryRight s′

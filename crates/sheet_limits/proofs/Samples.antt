@@ -1,6 +1,6 @@
 -- A limit written into a sheet's bytes.
 use mathlib.Core.Path.{_≡_, refl}
-use mathlib.Core.List.{List, []}
+use mathlib.Core.List.{[]}
 use Rattle.sheet_rules.proofs.Samples.{sheetOf, check, assigning}
 use Rattle.sheet_limits.specs.ButLimit.{putNumber, withLimit}
 

@@ -2,7 +2,7 @@
 use Prim.Native.Nat.{ℕ, zero, suc, _+_, _*_, _/_, _%_, _<_, _≤_}
 use mathlib.Core.Path.{_≡_, refl, sym, ap, _∙_}
 use mathlib.Core.List.{List}
-use mathlib.Core.Bool.{Bool, true, false}
+use mathlib.Core.Bool.{true, false}
 use native.Mathlib.Omega.{arith}
 use native.Mathlib.Decide.{decLt}
 use lib.ListN.{length, getD, set, length-set}
@@ -18,6 +18,7 @@ use Rattle.sheet.proofs.All.{all-same}
 use Rattle.sheet.proofs.Sheet.{offset-right, count-right, count-none, count-some, record-present, record-absent, present-below, record-inside}
 use Rattle.sheet_rules.specs.Fields.{numberOr0}
 use Rattle.sheet_limits.specs.ButLimit.{compared, ButLimit, putNumber, limitPlace, withLimit}
+use Rattle.sheet_limits.proofs.Records.{itself}
 
 -- ---- where sections lie
 
@@ -140,7 +141,7 @@ module _ (n : ℕ) (s : List ℕ) where
     where
       go : (f : Found) → recordOf s head 0 ≡ f → ButLimit s (elim f [ Present r ↦ putNumber s (limitPlace s) n | Absent ↦ s ])
       go (Present r) e = (let one : 0 < countOf s head = present-below s head 0 r e in rw (at-head s one) (put-alike s one n))
-      go Absent e = record { directory = refl; counts = λ k. refl; records = λ k i. refl }
+      go Absent e = itself s
 
   pub has-limit : (r : Record) → recordOf s head 0 ≡ Present r → numberOr0 (recordOf (withLimit n s) head 0) stepLimit ≡ n
   unfolding withLimit
