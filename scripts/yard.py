@@ -19,6 +19,7 @@ OPERANDS_ONLY = {"not": 8, "and": 9, "=": 10, "<": 11, "+": 12, "-": 13, "*": 14
 CLOCK_ONLY = {"active": 17, "value": 18, "start": 38, "stop": 39}
 ARMING = {"after": 36, "every": 37}  # a Timeout, a Cycler
 ELEMENT = {"at": 19, "put": 44}  # of an array: read, assign
+SECOND_RECORD = 65535  # f0 of an element's second binding record, with the constants from the eighth on
 
 Body = namedtuple("Body", "role do port name parameters locals", defaults=[None, None, (), {}])
 array = namedtuple("array", "element over")  # type of a variable: over a type, or over a number of places
@@ -52,7 +53,7 @@ class Sheet:
     def __init__(self, external, elements, ports):
         self.components, self.ports, self.external = external + elements, ports, len(external)
         self.types = {"Bool": 0, "Int": 1, "Component": 2, "Port": 3, "Timer": 4, "Timeout": 5, "Cycler": 6}
-        self.members, self.names, self.charts, self.procedures = {}, [], [], {}
+        self.members, self.names, self.charts, self.procedures, self.bound = {}, [], [], {}, 0
         self.sections = [[[len(self.components), self.external, len(ports)]], [], [], [], [], [], [], []]
 
     def enumerated(self, name, members, default):
@@ -95,8 +96,12 @@ class Sheet:
         self.sections[4].append(ranges + [first, len(bodies)])
 
     def bind(self, element, chart, *constants):
-        assert self.components.index(element) == self.external + len(self.sections[7]), "elements are bound in order"
-        self.sections[7].append([self.charts.index(chart)] + [self.node(c, {}) for c in constants])
+        assert self.components.index(element) == self.external + self.bound, "elements are bound in order"
+        self.bound += 1
+        nodes = [self.node(c, {}) for c in constants]
+        self.sections[7].append([self.charts.index(chart)] + nodes[:7])
+        if nodes[7:]:
+            self.sections[7].append([SECOND_RECORD] + nodes[7:])
 
     def node(self, x, scope):
         """Adds the nodes of an expression or statement, operands first, and gives the number of its own."""

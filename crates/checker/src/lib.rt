@@ -23,7 +23,7 @@ fn shape_holds(sheet: &[u8], directory: &[usize; 16], marks: &mut [u16]) -> bool
     }
     let components = sheet_fields::field_at(sheet, directory, 0, 0, 0);
     let externals = sheet_fields::field_at(sheet, directory, 0, 0, 1);
-    if externals + sheet_reader::count_in(directory, 7) != components {
+    if externals + sheet_bindings::elements_bound(sheet, directory) != components {
         return false;
     }
     if 512 < sheet_elements::cells(sheet, directory) {

@@ -2,8 +2,9 @@
 use sheet::Found;
 use sheet::Record;
 ghost use mathlib.Core.Path.{_≡_};
+ghost use Prim.Native.Nat.{_≤_, _<_};
 ghost use Rattle.sheet.specs.Sheet.{directoryOf};
-ghost use Rattle.sheet_rules.specs.Shape.{literalShape, constantShape, constantsShape, bindingShape};
+ghost use Rattle.sheet_rules.specs.Shape.{literalShape, constantShape, constantsShape, secondShape, recordsShape, bindingShape, bindingsShape};
 
 pub fn literal_fits(sheet: &[u8], directory: &[usize; 16], r: Record) -> bool
     requires { ⌜ now directory ≡ directoryOf (now sheet) ⌝ }
@@ -56,28 +57,89 @@ fn constant_fits(sheet: &[u8], directory: &[usize; 16], n: usize) -> bool
     literal_fits(sheet, directory, r)
 }
 
-// The constants of a binding to chart c.
-fn constants_fit(sheet: &[u8], directory: &[usize; 16], c: Record, r: Record) -> bool
-    requires { ⌜ now directory ≡ directoryOf (now sheet) ⌝ }
-    ensures { λ b. ⌜ b ≡ constantsShape (now (sheet .entry)) r c ⌝ }
+// The constants of the element bound to chart c whose first record is k.
+fn constants_fit(sheet: &[u8], directory: &[usize; 16], k: usize, c: Record) -> bool
+    requires { ⌜ (now directory ≡ directoryOf (now sheet)) × (k ≤ 131072) ⌝ }
+    ensures { λ b. ⌜ b ≡ constantsShape (now (sheet .entry)) k c ⌝ }
 {
     let count = c.f1 as usize;
     let mut j: usize = 0;
     while j < count {
-        if !constant_fits(sheet, directory, sheet_fields::field(r, 1 + j)) {
+        let Found::Present(b) = sheet_reader::read(
+            sheet,
+            directory,
+            7,
+            sheet_bindings::constant_record(k, j),
+        ) else {
+            return false;
+        };
+        let n = sheet_fields::field(b, sheet_bindings::constant_field(j));
+        if !constant_fits(sheet, directory, n) {
             return false;
         }
         j += 1;
     }
-    sheet_fields::zero_from(r, 1 + count)
+    true
 }
 
-pub fn binding_fits(sheet: &[u8], directory: &[usize; 16], r: Record) -> bool
-    requires { ⌜ now directory ≡ directoryOf (now sheet) ⌝ }
-    ensures { λ b. ⌜ b ≡ bindingShape (now (sheet .entry)) r ⌝ }
+// Whether record k is a second one, with n constants.
+fn second_fits(sheet: &[u8], directory: &[usize; 16], k: usize, n: usize) -> bool
+    requires { ⌜ (now directory ≡ directoryOf (now sheet)) × (n < 65536) ⌝ }
+    ensures { λ b. ⌜ b ≡ secondShape (now (sheet .entry)) k n ⌝ }
 {
+    let Found::Present(r) = sheet_reader::read(sheet, directory, 7, k) else {
+        return false;
+    };
+    if r.f0 != 65535 {
+        return false;
+    }
+    sheet_fields::zero_from(r, 1 + n)
+}
+
+// The records from k on, the first one being r, of an element bound to chart c.
+fn records_fit(sheet: &[u8], directory: &[usize; 16], k: usize, r: Record, c: Record) -> bool
+    requires { ⌜ (now directory ≡ directoryOf (now sheet)) × (k ≤ 131072) ⌝ }
+    ensures { λ b. ⌜ b ≡ recordsShape (now (sheet .entry)) k r c ⌝ }
+{
+    if !constants_fit(sheet, directory, k, c) {
+        return false;
+    }
+    let count = c.f1 as usize;
+    if !sheet_fields::zero_from(r, 1 + count) {
+        return false;
+    }
+    if count <= 7 {
+        return true;
+    }
+    second_fits(sheet, directory, k + 1, count - 7)
+}
+
+// The records of the element whose first one is k.
+fn binding_fits(sheet: &[u8], directory: &[usize; 16], k: usize) -> bool
+    requires { ⌜ (now directory ≡ directoryOf (now sheet)) × (k ≤ 131072) ⌝ }
+    ensures { λ b. ⌜ b ≡ bindingShape (now (sheet .entry)) k ⌝ }
+{
+    let Found::Present(r) = sheet_reader::read(sheet, directory, 7, k) else {
+        return false;
+    };
     let Found::Present(c) = sheet_reader::read(sheet, directory, 4, r.f0 as usize) else {
         return false;
     };
-    constants_fit(sheet, directory, c, r)
+    records_fit(sheet, directory, k, r, c)
+}
+
+// The whole section, element by element.
+pub fn bindings_fit(sheet: &[u8], directory: &[usize; 16]) -> bool
+    requires { ⌜ now directory ≡ directoryOf (now sheet) ⌝ }
+    ensures { λ b. ⌜ b ≡ bindingsShape (now (sheet .entry)) ⌝ }
+{
+    let count = sheet_reader::count_in(directory, 7);
+    let mut k: usize = 0;
+    while k < count {
+        if !binding_fits(sheet, directory, k) {
+            return false;
+        }
+        k = sheet_bindings::record_behind(sheet, directory, k);
+    }
+    true
 }

@@ -26,7 +26,7 @@ pub fn chart_fits(sheet: &[u8], directory: &[usize; 16], k: usize, r: Record) ->
     if !sheet_fields::in_section(sheet, directory, 2, r.f0, r.f1) {
         return false;
     }
-    if 7 < r.f1 {
+    if 14 < r.f1 {
         return false;
     }
     if !sheet_fields::in_section(sheet, directory, 2, r.f2, r.f3) {

@@ -1,4 +1,4 @@
-// Marks of nodes: what names a node, a body as its root, a binding as a constant or a node as an operand, adds to its mark.
+// Marks of nodes: what names a node, a body as its root or a node as an operand, adds to its mark.
 use sheet::Found;
 use sheet::Record;
 use sheet_rules::Operands;
@@ -10,7 +10,7 @@ ghost use Rattle.sheet.specs.Names.{root};
 ghost use Rattle.sheet.specs.Sheet.{recordOf, directoryOf};
 ghost use Rattle.sheet_rules.specs.Fields.{oneIf, numberOr0};
 ghost use Rattle.sheet_rules.specs.Forms.{operandsOf};
-ghost use Rattle.sheet_rules.specs.Uses.{overBodies, homeChart, operandUses, rootUses, constantUses};
+ghost use Rattle.sheet_rules.specs.Uses.{overBodies, homeChart, operandUses, rootUses};
 ghost use Rattle.sheet_fields.specs.Small.{Small};
 ghost use Rattle.checker_pass.specs.Marks.{named, marked, Marked};
 
@@ -37,7 +37,7 @@ fn with_home(v: u16, k: u16) -> u16
 }
 
 // Node n is named with home k; one that is not below `top` is passed over.
-fn mark(marks: &mut [u16], top: usize, n: usize, k: u16)
+pub fn mark(marks: &mut [u16], top: usize, n: usize, k: u16)
     requires { ⌜ top ≤ length (now marks) ⌝ }
     requires { ⌜ k < 16384 ⌝ }
     ensures { λ _. ⌜ Marked top k (now (marks .entry)) (now (marks .exit)) (λ i. oneIf (eqb n i)) ⌝ }
@@ -94,30 +94,6 @@ pub fn mark_chart(
         j += 1;
     }
     gone
-}
-
-// Binding i names its constants, which have no operands and so need no home. How many records were gone over.
-pub fn mark_binding(
-    sheet: &[u8],
-    directory: &[usize; 16],
-    marks: &mut [u16],
-    count: usize,
-    i: usize,
-) -> usize
-    requires { ⌜ now directory ≡ directoryOf (now sheet) ⌝ }
-    requires { ⌜ count ≤ length (now marks) ⌝ }
-    ensures { λ x. ⌜ (x ≡ numberOr0 (recordOf (now (sheet .entry)) 7 i) (λ b. 1)) × (x ≤ 1) × Marked count 0 (now (marks .entry)) (now (marks .exit)) (λ n. numberOr0 (recordOf (now (sheet .entry)) 7 i) (constantUses (now (sheet .entry)) n)) ⌝ }
-{
-    let Found::Present(r) = sheet_reader::read(sheet, directory, 7, i) else {
-        return 0;
-    };
-    let total = sheet_fields::field_at(sheet, directory, 4, r.f0 as usize, 1);
-    let mut j: usize = 0;
-    while j < total {
-        mark(marks, count, sheet_fields::field(r, 1 + j), 0);
-        j += 1;
-    }
-    1
 }
 
 // The chart of a home, one without bodies for none.

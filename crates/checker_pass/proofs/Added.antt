@@ -2,21 +2,28 @@
 use Prim.Native.Nat.{ℕ, zero, suc, _+_, _-_, _≤_, _<_}
 use mathlib.Core.Path.{_≡_, refl, sym, ap, _∙_}
 use mathlib.Core.List.{List}
+use mathlib.Core.Bool.{Bool, true, false}
 use native.Mathlib.Omega.{arith}
+use native.Mathlib.Decide.{decLt}
 use lib.Dec.{eqb}
+use borrow.Author.Tests.{le-leb, lt-leb}
 use Rattle.sheet.specs.declared.Record.{Record}
 use Rattle.sheet.specs.declared.Found.{Found}
 use Rattle.sheet.specs.declared.Found.the-variants.{Present, Absent}
 use Rattle.sheet.specs.Names.{charts, bodies, nodes, bindings, root, chartBodies, chartParameters, boundChart}
-use Rattle.sheet.specs.Sheet.{recordOf}
+use Rattle.sheet.specs.Sheet.{countOf, recordOf}
+use Rattle.sheet.proofs.Sheet.{record-present, record-absent, present-below}
 use Rattle.sheet_rules.specs.declared.Operands.{Operands}
-use Rattle.sheet_rules.specs.Fields.{oneIf, fieldOf, fieldAt, numberOr0, sumBelow, countBelow}
+use Rattle.sheet_rules.specs.Fields.{oneIf, fieldOf, fieldAt, holds, numberOr0, sumBelow, countBelow}
+use Rattle.sheet_rules.specs.Bindings.{constantsInRecord, recordsFor, chartBound, behind, firstBinding, constantBinding, constantField, constantOf}
 use Rattle.sheet_rules.specs.Forms.{operandsOf, operandCount, operandAt}
 use Rattle.sheet_rules.specs.Uses.{overBodies, noChart, chartOr, homeChart, operandUses, rootUses, constantUses}
-use Rattle.sheet_rules.proofs.Fields.{number-present, number-absent}
+use Rattle.sheet_rules.proofs.Fields.{holds-present, holds-absent, number-present, number-absent}
+use Rattle.sheet_rules.proofs.Bindings.{one-record, two-records, bound-chart, constant-first, constant-second}
+use Rattle.sheet_rules.proofs.Sums.{sum-same, sum-zero, sum-split}
 use Rattle.sheet_uses.proofs.Trees.{no-operands, uses-are}
-use Rattle.checker_pass.specs.Marks.{Marked}
-use Rattle.checker_pass.proofs.Marking.{marked-as, marked-none}
+use Rattle.checker_pass.specs.Marks.{Marked, constantsNamed, goneTo}
+use Rattle.checker_pass.proofs.Marking.{marked-as, marked-none, marked-then}
 
 -- ---- the chart of a home
 
@@ -57,7 +64,7 @@ module _ (s : List ℕ) where
   chartTurn i = numberOr0 (recordOf s charts i) (overBodies s (λ b. 1))
 
   abbrev pub bindingTurn : ℕ → ℕ → ℕ
-  bindingTurn n i = numberOr0 (recordOf s bindings i) (constantUses s n)
+  bindingTurn n i = constantUses s n (firstBinding s i)
 
 abbrev pub constantTurn : Record → ℕ → ℕ → ℕ
 constantTurn r n j = oneIf (eqb (fieldOf r (1 + j)) n)
@@ -73,14 +80,90 @@ module _ (s : List ℕ) (top k : ℕ) (a : List ℕ) where
   unfolding overBodies rootUses
   chart-added d i x c p e l h = (e ∙ sym (number-present _ c (overBodies s (λ b. 1)) p), l, marked-as top k a d _ _ (λ n _. sym (number-present _ c (rootUses s n) p)) h)
 
-  -- a binding's constants are as many as its chart has parameters, none where there is no such chart
-  pub constants-added : (d : List ℕ) (r : Record) (total : ℕ) → total ≡ fieldAt s charts (boundChart r) 1 → Marked top k a d (λ n. sumBelow total (constantTurn r n)) → Marked top k a d (λ n. constantUses s n r)
-  unfolding fieldAt fieldOf constantUses countBelow numberOr0 sumBelow
-  constants-added d r total e h = marked-as top k a d _ _ (λ n _. ap (λ (x : ℕ). sumBelow x (constantTurn r n)) e ∙ go n (recordOf s charts (boundChart r))) h
+-- ---- the constants of the element whose first binding record is k
+
+module _ (s : List ℕ) (k : ℕ) (b : Record) (here : recordOf s bindings k ≡ Present b) (total : ℕ) (total-is : total ≡ fieldAt s charts (boundChart b) 1) where
+  parameters-are : numberOr0 (chartBound s k) (λ c. chartParameters c .count) ≡ total
+  unfolding fieldAt fieldOf
+  parameters-are = ap (λ f. numberOr0 f (λ c. chartParameters c .count)) (bound-chart s k b here) ∙ sym total-is
+
+  -- as many as its chart has parameters, none where there is no such chart
+  uses-total : (n : ℕ) → constantUses s n k ≡ sumBelow total (λ j. oneIf (holds (constantBinding s k j) (λ b. eqb (constantOf b j) n)))
+  unfolding constantUses countBelow numberOr0 sumBelow
+  uses-total n = go (chartBound s k) ∙ ap (λ (x : ℕ). sumBelow x (λ j. oneIf (holds (constantBinding s k j) (λ b. eqb (constantOf b j) n)))) parameters-are
     where
-      go : (n : ℕ) (f : Found) → sumBelow (numberOr0 f (λ c. fieldOf c 1)) (constantTurn r n) ≡ numberOr0 f (λ c. sumBelow (chartParameters c .count) (constantTurn r n))
-      go n (Present c) = refl
-      go n Absent = refl
+      go : (f : Found) → numberOr0 f (λ c. sumBelow (chartParameters c .count) (λ j. oneIf (holds (constantBinding s k j) (λ b. eqb (constantOf b j) n)))) ≡ sumBelow (numberOr0 f (λ c. chartParameters c .count)) (λ j. oneIf (holds (constantBinding s k j) (λ b. eqb (constantOf b j) n)))
+      go (Present c) = refl
+      go Absent = refl
+
+  -- a constant in the first record, and in the second
+  first-turn : (n j : ℕ) → j < constantsInRecord → oneIf (holds (constantBinding s k j) (λ b. eqb (constantOf b j) n)) ≡ constantTurn b n j
+  first-turn n j l = let e = constant-first k j l in ap oneIf (holds-present _ b _ (ap (recordOf s bindings) (e .0) ∙ here)) ∙ ap (λ (x : ℕ). oneIf (eqb (fieldOf b x) n)) (e .1)
+
+  second-turn : (n j : ℕ) → oneIf (holds (constantBinding s k (constantsInRecord + j)) (λ b. eqb (constantOf b (constantsInRecord + j)) n)) ≡ numberOr0 (recordOf s bindings (k + 1)) (λ d. constantTurn d n j)
+  unfolding numberOr0
+  second-turn n j = let e = constant-second k (constantsInRecord + j) (omega arith) in go (recordOf s bindings (k + 1)) (ap (recordOf s bindings) (e .0)) (e .1 ∙ (let z : 1 + (constantsInRecord + j - constantsInRecord) ≡ 1 + j = omega arith in z))
+    where
+      go : (f : Found) → constantBinding s k (constantsInRecord + j) ≡ f → constantField (constantsInRecord + j) ≡ 1 + j → oneIf (holds (constantBinding s k (constantsInRecord + j)) (λ b. eqb (constantOf b (constantsInRecord + j)) n)) ≡ numberOr0 f (λ d. constantTurn d n j)
+      go (Present d) p q = ap oneIf (holds-present _ d _ p) ∙ ap (λ (x : ℕ). oneIf (eqb (fieldOf d x) n)) q
+      go Absent p q = ap oneIf (holds-absent _ _ p)
+
+  inside : k < countOf s bindings
+  inside = present-below s bindings k b here
+
+  module _ (top : ℕ) (a d : List ℕ) where
+    -- one record
+    pub few-added : total ≤ constantsInRecord → Marked top 0 a d (constantsNamed b total) → (k + 1 ≡ goneTo s k) × (1 ≤ 2) × Marked top 0 a d (λ n. constantUses s n k)
+    unfolding goneTo behind constantsNamed countBelow
+    few-added l h =
+        (sym (ap (λ (x : Bool). elim x [ true ↦ behind s k | false ↦ countOf s bindings ]) (le-leb _ _ (let z : behind s k ≤ countOf s bindings = omega (arith, next, inside) in z)) ∙ next), omega arith, marked-as top 0 a d _ _ (λ n _. sym (uses-total n ∙ sum-same total _ _ (λ j m. first-turn n j (omega arith)))) h)
+      where
+        next : behind s k ≡ k + 1
+        next = ap (λ (n : ℕ). k + recordsFor n) parameters-are ∙ ap (λ (n : ℕ). k + n) (one-record total l)
+
+  module _ (many : constantsInRecord < total) where
+    next-but-one : behind s k ≡ k + 2
+    unfolding behind
+    next-but-one = ap (λ (n : ℕ). k + recordsFor n) parameters-are ∙ ap (λ (n : ℕ). k + n) (two-records total many)
+
+    gone-two : (x : ℕ) → x ≡ numberOr0 (recordOf s bindings (k + 1)) (λ b. 1) → k + (1 + x) ≡ goneTo s k
+    unfolding goneTo
+    gone-two x x-is = elim (decLt (k + 1) (countOf s bindings)) [
+      | yes q ↦ (let z : k + (1 + x) ≡ behind s k = omega (arith, next-but-one, x-is ∙ number-present _ _ (λ b. 1) (record-present s bindings (k + 1) q)) in z) ∙ sym (ap (λ (x : Bool). elim x [ true ↦ behind s k | false ↦ countOf s bindings ]) (le-leb (behind s k) (countOf s bindings) (omega (arith, next-but-one))))
+      | no q ↦ (let z : k + (1 + x) ≡ countOf s bindings = omega (arith, inside, x-is ∙ number-absent _ (λ b. 1) (record-absent s bindings (k + 1) (omega arith))) in z) ∙ sym (ap (λ (x : Bool). elim x [ true ↦ behind s k | false ↦ countOf s bindings ]) (lt-leb (behind s k) (countOf s bindings) (omega (arith, next-but-one))))
+    ]
+
+    uses-two : (n : ℕ) → constantUses s n k ≡ constantsNamed b constantsInRecord n + numberOr0 (recordOf s bindings (k + 1)) (λ d. constantsNamed d (total - constantsInRecord) n)
+    unfolding constantsNamed countBelow numberOr0
+    uses-two n =
+        uses-total n
+        ∙ ap (λ (x : ℕ). sumBelow x (λ j. oneIf (holds (constantBinding s k j) (λ b. eqb (constantOf b j) n)))) (let z : total ≡ constantsInRecord + (total - constantsInRecord) = omega arith in z)
+        ∙ sum-split constantsInRecord (total - constantsInRecord) _
+        ∙ both (sum-same constantsInRecord _ _ (first-turn n)) (sum-same (total - constantsInRecord) _ _ (λ j m. second-turn n j) ∙ absorbed (recordOf s bindings (k + 1)))
+      where
+        both : {a b c d : ℕ} → a ≡ b → c ≡ d → a + c ≡ b + d
+        both p q = omega (arith, p, q)
+
+        absorbed : (f : Found) → sumBelow (total - constantsInRecord) (λ j. numberOr0 f (λ d. constantTurn d n j)) ≡ numberOr0 f (λ d. sumBelow (total - constantsInRecord) (constantTurn d n))
+        absorbed (Present r) = refl
+        absorbed Absent = sum-zero (total - constantsInRecord) _ (λ j m. refl)
+
+    -- two records
+    pub many-added : (top x : ℕ) (a e d : List ℕ) → x ≡ numberOr0 (recordOf s bindings (k + 1)) (λ b. 1) → x ≤ 1 → Marked top 0 a e (constantsNamed b constantsInRecord) → Marked top 0 e d (λ m. numberOr0 (recordOf s bindings (k + 1)) (λ b. constantsNamed b (total - constantsInRecord) m)) → (k + (1 + x) ≡ goneTo s k) × (1 + x ≤ 2) × Marked top 0 a d (λ n. constantUses s n k)
+    many-added top x a e d x-is l g h = (gone-two x x-is, omega arith, marked-as top 0 a d _ _ (λ n _. sym (uses-two n)) (marked-then top 0 a e d _ _ g h))
+
+-- all records of the section are gone over: so many when record n is next, the one behind those of the element whose first one is k
+module _ (s : List ℕ) (k x n gone : ℕ) (p : k + x ≡ goneTo s k) (q : n ≡ behind s k) (g : gone ≡ k) where
+  pub gone-near : n ≤ countOf s bindings → gone + x ≡ n
+  unfolding goneTo
+  gone-near l = omega (arith, p ∙ ap (λ (b : Bool). elim b as (λ b. ℕ) [ true ↦ behind s k | false ↦ countOf s bindings ]) (le-leb (behind s k) (countOf s bindings) (omega arith)))
+
+  pub gone-all : countOf s bindings ≤ n → gone + x ≡ countOf s bindings
+  unfolding goneTo
+  gone-all l = elim (decLt (countOf s bindings) n) [
+    | yes m ↦ omega (arith, p ∙ ap (λ (b : Bool). elim b as (λ b. ℕ) [ true ↦ behind s k | false ↦ countOf s bindings ]) (lt-leb (behind s k) (countOf s bindings) (omega arith)))
+    | no m ↦ omega (arith, gone-near (omega arith))
+  ]
 
 module _ (s : List ℕ) (m k : ℕ) (a : List ℕ) where
   pub operands-absent : (c : Record) → recordOf s nodes m ≡ Absent → (0 ≡ numberOr0 (recordOf s nodes m) (λ r. 1)) × (0 ≤ 1) × Marked m k a a (operandUses s c m)

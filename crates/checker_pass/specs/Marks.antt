@@ -4,10 +4,12 @@ use mathlib.Core.Path.{_≡_}
 use mathlib.Core.List.{List}
 use mathlib.Core.Bool.{true, false}
 use lib.ListN.{length, getD}
-use lib.Dec.{ltb}
-use Rattle.sheet.specs.Names.{charts}
-use Rattle.sheet.specs.Sheet.{recordOf}
-use Rattle.sheet_rules.specs.Fields.{numberOr0, sumBelow}
+use lib.Dec.{ltb, leb, eqb}
+use Rattle.sheet.specs.declared.Record.{Record}
+use Rattle.sheet.specs.Names.{charts, bindings}
+use Rattle.sheet.specs.Sheet.{countOf, recordOf}
+use Rattle.sheet_rules.specs.Fields.{fieldOf, numberOr0, sumBelow, countBelow}
+use Rattle.sheet_rules.specs.Bindings.{behind}
 use Rattle.sheet_rules.specs.Uses.{standsInBodies, rootUses, markOf}
 
 -- named once more
@@ -47,3 +49,13 @@ pub record Rooted (s : List ℕ) (n u v : ℕ) : Type 0 where
 pub record RootsMarked (s : List ℕ) (i top : ℕ) (before after : List ℕ) : Type 0 where
   pub kept : Kept top before after
   pub inside : (n : ℕ) → n < top → Rooted s n (sumBelow i (λ k. numberOr0 (recordOf s charts k) (rootUses s n))) (getD after n 0)
+
+-- ---- binding records
+
+-- how many of the first n fields of record b from f1 on name node m
+unfoldable pub constantsNamed : Record → ℕ → ℕ → ℕ
+constantsNamed b n m = countBelow n (λ j. eqb (fieldOf b (1 + j)) m)
+
+-- the record that is next when those of the element whose first one is k have been gone over, as far as they are there
+unfoldable pub goneTo : List ℕ → ℕ → ℕ
+goneTo s k = elim (leb (behind s k) (countOf s bindings)) [ true ↦ behind s k | false ↦ countOf s bindings ]

@@ -3,7 +3,7 @@ use sheet::Found;
 use sheet::Record;
 ghost use mathlib.Core.Path.{_≡_};
 ghost use Rattle.sheet.specs.Sheet.{directoryOf};
-ghost use Rattle.sheet_rules.specs.Shape.{recordShape, sectionShape};
+ghost use Rattle.sheet_rules.specs.Shape.{recordShape, eachShape, sectionShape};
 ghost use Rattle.sheet_rules.specs.Check.{sectionsShape};
 
 fn record_fits(sheet: &[u8], directory: &[usize; 16], k: usize, i: usize, r: Record) -> bool
@@ -17,14 +17,13 @@ fn record_fits(sheet: &[u8], directory: &[usize; 16], k: usize, i: usize, r: Rec
         3 => checker_declarations::name_fits(sheet, directory, r),
         4 => checker_charts::chart_fits(sheet, directory, i, r),
         5 => checker_charts::body_fits(sheet, directory, r),
-        7 => checker_bindings::binding_fits(sheet, directory, r),
         _ => true,
     }
 }
 
 fn records_fit(sheet: &[u8], directory: &[usize; 16], k: usize) -> bool
     requires { ⌜ now directory ≡ directoryOf (now sheet) ⌝ }
-    ensures { λ b. ⌜ b ≡ sectionShape (now (sheet .entry)) k ⌝ }
+    ensures { λ b. ⌜ b ≡ eachShape (now (sheet .entry)) k ⌝ }
 {
     let count = sheet_reader::count_in(directory, k);
     let mut i: usize = 0;
@@ -40,13 +39,16 @@ fn records_fit(sheet: &[u8], directory: &[usize; 16], k: usize) -> bool
     true
 }
 
-// Nodes are judged in the tree that they stand in, and not one by one.
+// Nodes are judged in the tree that they stand in, bindings element by element.
 fn section_fits(sheet: &[u8], directory: &[usize; 16], k: usize) -> bool
     requires { ⌜ now directory ≡ directoryOf (now sheet) ⌝ }
     ensures { λ b. ⌜ b ≡ sectionShape (now (sheet .entry)) k ⌝ }
 {
     if k == 6 {
         return true;
+    }
+    if k == 7 {
+        return checker_bindings::bindings_fit(sheet, directory);
     }
     records_fit(sheet, directory, k)
 }

@@ -6,7 +6,7 @@ ghost use mathlib.Core.Path.{_≡_};
 ghost use mathlib.Core.List.{List};
 ghost use Prim.Native.Nat.{ℕ};
 ghost use Rattle.sheet.specs.Sheet.{directoryOf};
-ghost use Rattle.sheet_rules.specs.Static.{declarationStatic, nameStatic, recordStatic, sectionStatic, static};
+ghost use Rattle.sheet_rules.specs.Static.{declarationStatic, nameStatic, recordStatic, eachStatic, sectionStatic, static};
 ghost use Rattle.checker_reactions.specs.Entries.{Ready};
 
 // "An array .. of clocks, gets 2", wherever it stands.
@@ -47,7 +47,6 @@ fn record_static(
         2 => declaration_static(r),
         3 => name_static(sheet, directory, r),
         4 => checker_chart_rules::chart_static(sheet, directory, table, last, previous, r),
-        7 => checker_constants::binding_static(sheet, directory, r),
         _ => true,
     }
 }
@@ -62,7 +61,7 @@ fn records_static(
 ) -> bool
     requires { ⌜ now directory ≡ directoryOf (now sheet) ⌝ }
     requires { ⌜ Ready (now sheet) (now table) (now last) (now previous) ⌝ }
-    ensures { λ x. ⌜ (x ≡ sectionStatic (now (sheet .entry)) k) × Ready (now (sheet .entry)) (now (table .exit)) (now (last .exit)) (now (previous .exit)) ⌝ }
+    ensures { λ x. ⌜ (x ≡ eachStatic (now (sheet .entry)) k) × Ready (now (sheet .entry)) (now (table .exit)) (now (last .exit)) (now (previous .exit)) ⌝ }
 {
     let count = sheet_reader::count_in(directory, k);
     let mut i: usize = 0;
@@ -78,7 +77,7 @@ fn records_static(
     true
 }
 
-// The rules for nodes go by trees; none is for a node by itself.
+// The rules for nodes go by trees; none is for a node by itself. Those for bindings go element by element.
 fn section_static(
     sheet: &[u8],
     directory: &[usize; 16],
@@ -93,6 +92,9 @@ fn section_static(
 {
     if k == 6 {
         return true;
+    }
+    if k == 7 {
+        return checker_constants::bindings_static(sheet, directory);
     }
     records_static(sheet, directory, table, last, previous, k)
 }

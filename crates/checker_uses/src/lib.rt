@@ -39,7 +39,7 @@ fn mark_charts(sheet: &[u8], directory: &[usize; 16], marks: &mut [u16], count: 
     gone
 }
 
-// All bindings name their constants. How many bindings were gone over.
+// All bindings name their constants. How many binding records were gone over.
 fn mark_bindings(sheet: &[u8], directory: &[usize; 16], marks: &mut [u16], count: usize) -> usize
     requires { ⌜ now directory ≡ directoryOf (now sheet) ⌝ }
     requires { ⌜ count ≤ length (now marks) ⌝ }
@@ -47,10 +47,10 @@ fn mark_bindings(sheet: &[u8], directory: &[usize; 16], marks: &mut [u16], count
 {
     let total = sheet_reader::count_in(directory, 7);
     let mut gone: usize = 0;
-    let mut i: usize = 0;
-    while i < total {
-        gone += checker_marks::mark_binding(sheet, directory, marks, count, i);
-        i += 1;
+    let mut k: usize = 0;
+    while k < total {
+        gone += checker_constant_marks::mark_binding(sheet, directory, marks, count, k);
+        k = sheet_bindings::record_behind(sheet, directory, k);
     }
     gone
 }

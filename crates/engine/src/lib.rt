@@ -17,7 +17,7 @@ ghost use Rattle.engine_cells.specs.Cells.{CellTable};
 pub fn next(
     sheet: &[u8],
     directory: &[usize; 16],
-    cells: &[usize; 2112],
+    cells: &[usize; 2176],
     st: &mut [i32],
     spare: &mut [i32],
     ev: &[i32],
@@ -59,7 +59,7 @@ fn on_passed(
     requires { ⌜ (now directory ≡ directoryOf (now sheet)) × (checkOf (now sheet) ≡ Passed) ⌝ }
     ensures { λ a. ⌜ EventGives (now (sheet .entry)) (now (old .entry)) (now (result .entry)) (now (ev .entry)) a (now (result .exit)) ⌝ }
 {
-    let mut cells = [0usize; 2112];
+    let mut cells = [0usize; 2176];
     let count = engine_cells::fill(sheet, directory, &mut cells);
     let length = engine_valid_state::state_length(count);
     if old.len() != length {
@@ -80,7 +80,7 @@ fn on_passed(
 }
 
 // Start on a passed sheet.
-pub fn begin(sheet: &[u8], directory: &[usize; 16], cells: &[usize; 2112], st: &mut [i32]) -> Answer
+pub fn begin(sheet: &[u8], directory: &[usize; 16], cells: &[usize; 2176], st: &mut [i32]) -> Answer
     requires { ⌜ (now directory ≡ directoryOf (now sheet)) × (checkOf (now sheet) ≡ Passed) × (length (now st) ≡ stateLength (now sheet)) × CellTable (now sheet) (now cells) ⌝ }
     ensures { λ a. ⌜ StartGives (now (sheet .entry)) (now (st .entry)) a (now (st .exit)) ⌝ }
 {
@@ -105,7 +105,7 @@ fn start_passed(sheet: &[u8], directory: &[usize; 16], result: &mut [i32]) -> An
     requires { ⌜ (now directory ≡ directoryOf (now sheet)) × (checkOf (now sheet) ≡ Passed) ⌝ }
     ensures { λ a. ⌜ StartGives (now (sheet .entry)) (now (result .entry)) a (now (result .exit)) ⌝ }
 {
-    let mut cells = [0usize; 2112];
+    let mut cells = [0usize; 2176];
     let count = engine_cells::fill(sheet, directory, &mut cells);
     if result.len() != engine_valid_state::state_length(count) {
         return answered(3, 0);

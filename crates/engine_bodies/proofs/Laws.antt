@@ -17,12 +17,12 @@ use Rattle.machine.specs.declared.Ran.{Ran}
 use Rattle.machine.specs.declared.Ran.the-variants.{Done, Refused, Stuck}
 use Rattle.machine.specs.declared.Handed.the-variants.{Nothing}
 use Rattle.sheet_rules.specs.declared.Checked.the-variants.{Passed}
-use Rattle.sheet_rules.specs.Fields.{fieldOf, fieldAt, externalsOf, componentsOf, typeAt}
+use Rattle.sheet_rules.specs.Fields.{externalsOf, componentsOf, typeAt}
 use Rattle.sheet_rules.specs.Indices.{cellsBefore}
 use Rattle.sheet_rules.specs.Shape.{chartShape, treeShape, bodyShape}
 use Rattle.sheet_rules.specs.Types.{typeOf}
 use Rattle.sheet_rules.specs.Static.{bodyStatic}
-use Rattle.machine.specs.Values.{inType, isBound, firstCell}
+use Rattle.machine.specs.Values.{inType, isBound, bindingAt, firstCell}
 use Rattle.machine.specs.Valid.{OfSheet}
 use Rattle.machine.specs.Eval.{Context}
 use Rattle.machine.specs.Run.{World, world, datum, localsOf, runOf}
@@ -40,10 +40,6 @@ use Rattle.engine_ready.specs.Ready.{recordOr0, contextAt, Running, Ready, IsSt
 use Rattle.machine_events.specs.Called.{Called}
 use Rattle.engine_cells.specs.Cells.{CellTable}
 
-pub externals-is : (s : List ℕ) (x : ℕ) → x ≡ fieldAt s 0 0 1 → x ≡ externalsOf s
-unfolding fieldAt fieldOf externalsOf
-externals-is s x h = h
-
 module _ (s : List ℕ) (ok : checkOf s ≡ Passed) (e number : ℕ) (zs : List ℤ) (k : Called s e number zs) where
   pub not-external : externalsOf s ≤ e
   unfolding isBound
@@ -56,30 +52,34 @@ module _ (s : List ℕ) (ok : checkOf s ≡ Passed) (e number : ℕ) (zs : List 
   pub body-there : recordOf s bodies number ≡ Present (k .body)
   body-there = ap (recordOf s bodies) (k .at) ∙ k .inside .there
 
-  module _ (i : ℕ) (at : i ≡ e - externalsOf s) where
-    pub binding-there : recordOf s bindings i ≡ Present (k .binding)
-    binding-there = ap (recordOf s bindings) at ∙ k .element .binding
+  -- the element's row in the table
+  module _ (t : List ℕ) (table : CellTable s t) (i : ℕ) (at : i ≡ e - externalsOf s) (n : ℕ) (n-is : n ≡ getD t (34 * i + 33) 0) where
+    bound-at : n ≡ bindingAt s e
+    bound-at = n-is ∙ ap (λ i. getD t (34 * i + 33) 0) at ∙ table .binding e (k .chart) (element-chart s e (k .binding) (k .chart) (k .element))
+
+    pub binding-there : recordOf s bindings n ≡ Present (k .binding)
+    binding-there = ap (recordOf s bindings) bound-at ∙ k .element .binding
 
     -- the records that are read
-    module _ (b : Record) (is-b : recordOf s bindings i ≡ Present b) where
+    module _ (b : Record) (is-b : recordOf s bindings n ≡ Present b) where
       pub chart-there : recordOf s charts (boundChart b) ≡ Present (k .chart)
       chart-there = ap (λ b. recordOf s charts (boundChart b)) (one-record _ _ (sym is-b ∙ binding-there)) ∙ k .element .chart
 
       module _ (c d : Record) (is-c : recordOf s charts (boundChart b) ≡ Present c) (is-d : recordOf s bodies number ≡ Present d) where
         abbrev x : Context
-        x = record { element = e; chart = c; binding = b; body = d }
+        x = record { element = e; chart = c; binding = n; body = d }
 
         same-body : k .body ≡ d
         same-body = one-record _ _ (sym body-there ∙ is-d)
 
         element : Element s e b c
-        element = record { bound = k .element .bound; binding = ap (recordOf s bindings) (sym at) ∙ is-b; chart = is-c }
+        element = record { bound = k .element .bound; binding = ap (recordOf s bindings) (sym bound-at) ∙ is-b; chart = is-c }
 
         inside : InChart s c d
         inside = subst (λ c. InChart s c d) (one-record _ _ (sym chart-there ∙ is-c)) (subst (λ d. InChart s (k .chart) d) same-body (k .inside))
 
         placed : Placed s x
-        placed = record { element = element; body = inside }
+        placed = record { bound = b; element = element; binding = bound-at; body = inside }
 
         parameters : (j : ℕ) → j < bodyParameters d .count → inType s (typeAt s (bodyParameters d .first + j)) (datum zs j) ≡ true
         parameters = subst (λ d. (j : ℕ) → j < bodyParameters d .count → inType s (typeAt s (bodyParameters d .first + j)) (datum zs j) ≡ true) same-body (k .parameters)
@@ -96,16 +96,16 @@ module _ (s : List ℕ) (ok : checkOf s ≡ Passed) (e number : ℕ) (zs : List 
         few-cells = leb-true _ _ (and-first _ _ (and-second _ _ (and-second _ _ (and-second _ _ (chart-shape s ok _ c is-c)))))
 
         -- where the body runs, by its numbers
-        module _ (t : List ℕ) (table : CellTable s t) (w : List ℕ) (is : (length w ≡ 38) × (getD w 0 0 ≡ e) × (getD w 1 0 ≡ i) × (getD w 2 0 ≡ boundChart b) × (getD w 3 0 ≡ chartBodies c .first) × (getD w 4 0 ≡ number) × ((n : ℕ) → n ≤ chartVariables c .count → getD w (5 + n) 0 ≡ getD t (33 * i + n) 0)) where
+        module _ (w : List ℕ) (is : (length w ≡ 38) × (getD w 0 0 ≡ e) × (getD w 1 0 ≡ n) × (getD w 2 0 ≡ boundChart b) × (getD w 3 0 ≡ chartBodies c .first) × (getD w 4 0 ≡ number) × ((m : ℕ) → m ≤ chartVariables c .count → getD w (5 + m) 0 ≡ getD t (34 * i + m) 0)) where
           context-is : contextAt s w ≡ x
           unfolding contextAt recordOr0
-          context-is = rw (contextAt, is .1, is .2, is .3, is .5, is-b, is-c, is-d) refl
+          context-is = rw (contextAt, is .1, is .2, is .3, is .5, is-c, is-d) refl
 
           abbrev chart-is : contextAt s w .chart ≡ c
           chart-is = ap (λ x. x .chart) context-is
 
-          cells : (n : ℕ) → n ≤ chartVariables c .count → getD w (5 + n) 0 ≡ firstCell s e + cellsBefore s c n
-          cells n h = is .6 n h ∙ ap (λ i. getD t (33 * i + n) 0) at ∙ table .right e c (element-chart s e b c element) n h
+          cells : (m : ℕ) → m ≤ chartVariables c .count → getD w (5 + m) 0 ≡ firstCell s e + cellsBefore s c m
+          cells m h = is .6 m h ∙ ap (λ i. getD t (34 * i + m) 0) at ∙ table .right e c (element-chart s e b c element) m h
 
           running : Running s w
           running = record {
@@ -113,7 +113,6 @@ module _ (s : List ℕ) (ok : checkOf s ≡ Passed) (e number : ℕ) (zs : List 
             passed = ok;
             placed = subst (Placed s) (sym context-is) placed;
             cells = λ n h. cells n (subst (λ c. n ≤ chartVariables c .count) chart-is h) ∙ sym (ap (λ e. firstCell s e + cellsBefore s (contextAt s w .chart) n) (is .1) ∙ ap (λ c. firstCell s e + cellsBefore s c n) chart-is);
-            binding = ap (recordOf s bindings) (is .2) ∙ is-b ∙ sym (ap (λ x. Present (x .binding)) context-is);
             first = is .4 ∙ sym (ap (λ c. chartBodies c .first) chart-is);
           }
 
@@ -131,8 +130,14 @@ module _ (s : List ℕ) (ok : checkOf s ≡ Passed) (e number : ℕ) (zs : List 
           pub body-ran : (st st′ lo lo′ : List ℤ) (limit : ℕ) (r : Ran) → lo ≡ localsOf s d zs → limit ≡ limitOf s → world r st′ lo′ ≡ runOf s 0 (contextAt s w) (root d) limit st lo → (r ≡ ranBody s e (recordOf s bodies number) zs st .ran) × (st′ ≡ ranBody s e (recordOf s bodies number) zs st .st)
           body-ran st st′ lo lo′ limit r l m h = (ap (λ w. w .ran) whole, ap (λ w. w .st) whole)
             where
+              y : Context
+              y = record { element = e; chart = c; binding = bindingAt s e; body = d }
+
+              here : x ≡ y
+              here = ap (λ n. record { element = e; chart = c; binding = n; body = d }) bound-at
+
               whole : world r st′ lo′ ≡ ranBody s e (recordOf s bodies number) zs st
-              whole = h ∙ ap (λ x. runOf s 0 x (root d) limit st lo) context-is ∙ ap (λ n. runOf s 0 x (root d) n st lo) m ∙ ap (runOf s 0 x (root d) (limitOf s) st) l ∙ sym (ran-is s ok e b c element d inside zs st) ∙ sym (ap (λ f. ranBody s e f zs st) is-d)
+              whole = h ∙ ap (λ x. runOf s 0 x (root d) limit st lo) context-is ∙ ap (λ x. runOf s 0 x (root d) limit st lo) here ∙ ap (λ n. runOf s 0 y (root d) n st lo) m ∙ ap (runOf s 0 y (root d) (limitOf s) st) l ∙ sym (ran-is s ok e b c element d inside zs st) ∙ sym (ap (λ f. ranBody s e f zs st) is-d)
 
   -- how a run of the body ends
   module _ (st : List ℤ) (o : OfSheet s st) where
@@ -140,7 +145,7 @@ module _ (s : List ℕ) (ok : checkOf s ≡ Passed) (e number : ℕ) (zs : List 
     ranWorld = ranBody s e (recordOf s bodies number) zs st
 
     abbrev y : Context
-    y = record { element = e; chart = k .chart; binding = k .binding; body = k .body }
+    y = record { element = e; chart = k .chart; binding = bindingAt s e; body = k .body }
 
     ends : {r : Ran} → ranWorld .ran ≡ r → Ends s y r (ranBody s e (Present (k .body)) zs st .st) (ranBody s e (Present (k .body)) zs st .lo)
     ends h = subst (λ r. Ends s y r (ranBody s e (Present (k .body)) zs st .st) (ranBody s e (Present (k .body)) zs st .lo)) (sym (ap (λ f. ranBody s e f zs st .ran) body-there) ∙ h) (ran-ends s ok e (k .binding) (k .chart) (k .element) (k .body) (k .inside) zs st o (k .parameters))

@@ -1,4 +1,5 @@
 // Runs a body of an element, for start and for events.
+use engine_cells::BINDING;
 use machine::Answer;
 use machine::Handed;
 use machine::Ran;
@@ -18,7 +19,7 @@ ghost use Rattle.engine_cells.specs.Cells.{CellTable};
 pub fn run_body(
     sheet: &[u8],
     directory: &[usize; 16],
-    cells: &[usize; 2112],
+    cells: &[usize; 2176],
     st: &mut [i32],
     e: usize,
     number: usize,
@@ -28,7 +29,8 @@ pub fn run_body(
     ensures { λ r. ⌜ (r ≡ ranBody (now (sheet .entry)) e (recordOf (now (sheet .entry)) 5 number) (now (d .entry)) (now (st .entry)) .ran) × (now (st .exit) ≡ ranBody (now (sheet .entry)) e (recordOf (now (sheet .entry)) 5 number) (now (d .entry)) (now (st .entry)) .st) ⌝ }
 {
     let i = e - sheet_fields::field_at(sheet, directory, 0, 0, 1);
-    let Found::Present(binding) = sheet_reader::read(sheet, directory, 7, i) else {
+    let k = cells[34 * i + BINDING];
+    let Found::Present(binding) = sheet_reader::read(sheet, directory, 7, k) else {
         return Ran::Stuck;
     };
     let Found::Present(chart) = sheet_reader::read(sheet, directory, 4, binding.f0 as usize) else {
@@ -41,13 +43,14 @@ pub fn run_body(
         cells,
         e,
         i,
+        k,
         binding.f0 as usize,
         chart.f4 as usize,
         number,
         chart.f3 as usize,
     );
     let mut locals = engine_defaults::fresh_locals(sheet, directory, body, d);
-    let limit = engine_defaults::limit(sheet, directory);
+    let limit = engine_limit::limit(sheet, directory);
     engine_statements::run(
         sheet,
         directory,
@@ -87,7 +90,7 @@ fn answer(old: &[i32], st: &mut [i32], number: u8, steps: u32) -> Answer
 pub fn event_body(
     sheet: &[u8],
     directory: &[usize; 16],
-    cells: &[usize; 2112],
+    cells: &[usize; 2176],
     old: &[i32],
     st: &mut [i32],
     e: usize,
@@ -97,7 +100,7 @@ pub fn event_body(
     requires { ⌜ (now directory ≡ directoryOf (now sheet)) × (checkOf (now sheet) ≡ Passed) × OfSheet (now sheet) (now st) × Called (now sheet) e number (now d) × CellTable (now sheet) (now cells) × (length (now old) ≡ length (now st)) ⌝ }
     ensures { λ a. ⌜ ended a (now (st .exit)) ≡ bodyEvent (now (sheet .entry)) (now (old .entry)) e (recordOf (now (sheet .entry)) 5 number) (now (d .entry)) (now (st .entry)) ⌝ }
 {
-    let limit = engine_defaults::limit(sheet, directory);
+    let limit = engine_limit::limit(sheet, directory);
     let r = run_body(sheet, directory, cells, st, e, number, d);
     match r {
         Ran::Done { left } => answer(old, st, 0, limit - left),

@@ -1,27 +1,40 @@
-// Where the cells of every element's variables begin: a table, filled once for a call or a list.
+// Where the cells of every element's variables begin and where its binding stands: a table, filled once
+// for a call or a list.
 use sheet::Found;
 use sheet::Record;
 ghost use mathlib.Core.Path.{_≡_};
-ghost use Prim.Native.Nat.{_+_, _≤_};
+ghost use mathlib.Core.Bool.{true};
+ghost use Prim.Native.Nat.{_+_, _<_, _≤_};
 ghost use lib.ListN.{length};
 ghost use Rattle.sheet.specs.Names.{chartVariables};
 ghost use Rattle.sheet.specs.Sheet.{directoryOf};
 ghost use Rattle.sheet_rules.specs.declared.Checked.the-variants.{Passed};
+ghost use Rattle.sheet_rules.specs.Fields.{elementsOf};
 ghost use Rattle.sheet_rules.specs.Indices.{cellsBefore};
 ghost use Rattle.sheet_rules.specs.Shape.{cellsOf};
 ghost use Rattle.sheet_rules.specs.Check.{checkOf};
-ghost use Rattle.engine_cells.specs.Bound.{chartBound};
+ghost use Rattle.machine.specs.Values.{isBound, chartOf};
 ghost use Rattle.engine_cells.specs.Cells.{CellTable, Row};
 
-// The chart that a binding names.
-pub fn chart_bound(sheet: &[u8], directory: &[usize; 16], i: usize) -> Found
-    requires { ⌜ now directory ≡ directoryOf (now sheet) ⌝ }
-    ensures { λ c. ⌜ c ≡ chartBound (now (sheet .entry)) i ⌝ }
+// How many bound elements there are.
+pub fn elements(sheet: &[u8], directory: &[usize; 16]) -> usize
+    requires { ⌜ (now directory ≡ directoryOf (now sheet)) × (checkOf (now sheet) ≡ Passed) ⌝ }
+    ensures { λ n. ⌜ (n ≡ elementsOf (now (sheet .entry))) × (n < 64) ⌝ }
 {
-    let Found::Present(b) = sheet_reader::read(sheet, directory, 7, i) else {
-        return Found::Absent;
-    };
-    sheet_reader::read(sheet, directory, 4, b.f0 as usize)
+    let components = sheet_fields::field_at(sheet, directory, 0, 0, 0);
+    components - sheet_fields::field_at(sheet, directory, 0, 0, 1)
+}
+
+// Where in a row the number of the element's first binding record stands.
+pub const BINDING: usize = 33;
+
+// The chart of bound element e, by its row.
+pub fn chart_of(sheet: &[u8], directory: &[usize; 16], cells: &[usize; 2176], e: usize) -> Found
+    requires { ⌜ (now directory ≡ directoryOf (now sheet)) × (checkOf (now sheet) ≡ Passed) × CellTable (now sheet) (now cells) × (isBound (now sheet) e ≡ true) ⌝ }
+    ensures { λ c. ⌜ c ≡ chartOf (now (sheet .entry)) e ⌝ }
+{
+    let i = e - sheet_fields::field_at(sheet, directory, 0, 0, 1);
+    sheet_bindings::chart_bound(sheet, directory, cells[34 * i + BINDING])
 }
 
 // Enters the cells of chart c's variables from place `at` on, the first one's being given, and gives
@@ -29,12 +42,12 @@ pub fn chart_bound(sheet: &[u8], directory: &[usize; 16], i: usize) -> Found
 fn fill_row(
     sheet: &[u8],
     directory: &[usize; 16],
-    cells: &mut [usize; 2112],
+    cells: &mut [usize; 2176],
     c: Record,
     at: usize,
     cell: usize,
 ) -> usize
-    requires { ⌜ (now directory ≡ directoryOf (now sheet)) × (length (now cells) ≡ 2112) × (chartVariables c .count ≤ 32) × (at + 33 ≤ 2112) × (cell + cellsBefore (now sheet) c (chartVariables c .count) ≤ 512) ⌝ }
+    requires { ⌜ (now directory ≡ directoryOf (now sheet)) × (length (now cells) ≡ 2176) × (chartVariables c .count ≤ 32) × (at + 34 ≤ 2176) × (cell + cellsBefore (now sheet) c (chartVariables c .count) ≤ 512) ⌝ }
     ensures { λ n. ⌜ (n ≡ cell + cellsBefore (now (sheet .entry)) c (chartVariables c .count)) × Row (now (sheet .entry)) c at cell (chartVariables c .count + 1) (now (cells .entry)) (now (cells .exit)) ⌝ }
 {
     let count = c.f3 as usize;
@@ -50,19 +63,23 @@ fn fill_row(
     next
 }
 
-// Fills the table, and gives how many cells there are. A passed sheet has at most 64 components.
-pub fn fill(sheet: &[u8], directory: &[usize; 16], cells: &mut [usize; 2112]) -> usize
-    requires { ⌜ (now directory ≡ directoryOf (now sheet)) × (checkOf (now sheet) ≡ Passed) × (length (now cells) ≡ 2112) ⌝ }
+// Fills the table, and gives how many cells there are. A passed sheet has at most 64 components. Each
+// element's records stand behind those of the elements before it.
+pub fn fill(sheet: &[u8], directory: &[usize; 16], cells: &mut [usize; 2176]) -> usize
+    requires { ⌜ (now directory ≡ directoryOf (now sheet)) × (checkOf (now sheet) ≡ Passed) × (length (now cells) ≡ 2176) ⌝ }
     ensures { λ n. ⌜ (n ≡ cellsOf (now (sheet .entry))) × CellTable (now (sheet .entry)) (now (cells .exit)) ⌝ }
 {
-    let count = sheet_reader::count_in(directory, 7);
+    let count = elements(sheet, directory);
     let mut cell: usize = 0;
+    let mut k: usize = 0;
     let mut i: usize = 0;
     while i < count {
-        let Found::Present(c) = chart_bound(sheet, directory, i) else {
+        let Found::Present(c) = sheet_bindings::chart_bound(sheet, directory, k) else {
             return cell;
         };
-        cell = fill_row(sheet, directory, cells, c, 33 * i, cell);
+        cell = fill_row(sheet, directory, cells, c, 34 * i, cell);
+        cells[34 * i + BINDING] = k;
+        k += sheet_bindings::records_for(c.f1);
         i += 1;
     }
     cell

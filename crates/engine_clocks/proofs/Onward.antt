@@ -329,5 +329,5 @@ module _ (s : List ℕ) where
         rw (sym first-next) (after-more s _ _ old st st′ (cell-rises s _ _ (omega arith)) a (cells-after s (externalsOf s + i) c st st′ (a .whole) (a .head) (element-cells s (externalsOf s + i) c p) q′))
 
     -- what the table has of it
-    pub element-row : (t : List ℕ) → CellTable s t → (n : ℕ) → n ≤ chartVariables c .count → getD t (33 * i + n) 0 ≡ firstCell s (x + i) + cellsBefore s c n
+    pub element-row : (t : List ℕ) → CellTable s t → (n : ℕ) → n ≤ chartVariables c .count → getD t (34 * i + n) 0 ≡ firstCell s (x + i) + cellsBefore s c n
     element-row t h n l = let a : externalsOf s + i - externalsOf s ≡ i = omega arith in rw head (rw a at (h .right (externalsOf s + i) c p n l))

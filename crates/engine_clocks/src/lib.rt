@@ -1,13 +1,14 @@
 // A time slice: clocks in state order, one pass.
+use engine_cells::BINDING;
 use sheet::Found;
 use sheet::Record;
 ghost use mathlib.Core.Path.{_≡_};
 ghost use Prim.Native.Nat.{ℕ, _+_, _<_, _≤_};
 ghost use lib.ListN.{getD};
-ghost use Rattle.sheet.specs.Names.{bindings, chartVariables};
-ghost use Rattle.sheet.specs.Sheet.{directoryOf, countOf};
+ghost use Rattle.sheet.specs.Names.{chartVariables};
+ghost use Rattle.sheet.specs.Sheet.{directoryOf};
 ghost use Rattle.sheet_rules.specs.declared.Checked.the-variants.{Passed};
-ghost use Rattle.sheet_rules.specs.Fields.{typeAt, externalsOf};
+ghost use Rattle.sheet_rules.specs.Fields.{typeAt, externalsOf, elementsOf};
 ghost use Rattle.sheet_rules.specs.Indices.{cellsBefore};
 ghost use Rattle.sheet_rules.specs.Shape.{cellsOf};
 ghost use Rattle.sheet_rules.specs.Check.{checkOf};
@@ -53,13 +54,13 @@ fn slice_cell(
 fn slice_cells(
     sheet: &[u8],
     directory: &[usize; 16],
-    cells: &[usize; 2112],
+    cells: &[usize; 2176],
     st: &mut [i32],
     e: usize,
     c: Record,
     row: usize,
 ) -> u8
-    requires { ⌜ (now directory ≡ directoryOf (now sheet)) × (e < 64) × (row + chartVariables c .count ≤ 2112) × (cellsOf (now sheet) ≤ 512) × Cells (now sheet) e c (now st) × ((n : ℕ) → n ≤ chartVariables c .count → getD (now cells) (row + n) 0 ≡ firstCell (now sheet) e + cellsBefore (now sheet) c n) ⌝ }
+    requires { ⌜ (now directory ≡ directoryOf (now sheet)) × (e < 64) × (row + chartVariables c .count ≤ 2176) × (cellsOf (now sheet) ≤ 512) × Cells (now sheet) e c (now st) × ((n : ℕ) → n ≤ chartVariables c .count → getD (now cells) (row + n) 0 ≡ firstCell (now sheet) e + cellsBefore (now sheet) c n) ⌝ }
     ensures { λ n. ⌜ slicedCells (now (sheet .entry)) e (chartVariables c .count) (chartVariables c .first) (firstCell (now (sheet .entry)) e) (now (st .entry)) ≡ changedTo n (now (st .exit)) ⌝ }
 {
     let count = c.f3 as usize;
@@ -75,18 +76,19 @@ fn slice_cells(
 }
 
 // A slice: 0 with the state after it, or 6 or 8 with a state that is of no use.
-pub fn slice(sheet: &[u8], directory: &[usize; 16], cells: &[usize; 2112], st: &mut [i32]) -> u8
+pub fn slice(sheet: &[u8], directory: &[usize; 16], cells: &[usize; 2176], st: &mut [i32]) -> u8
     requires { ⌜ (now directory ≡ directoryOf (now sheet)) × (checkOf (now sheet) ≡ Passed) × CellTable (now sheet) (now cells) × OfSheet (now sheet) (now st) ⌝ }
-    ensures { λ n. ⌜ slicedFrom (now (sheet .entry)) (countOf (now (sheet .entry)) bindings) (externalsOf (now (sheet .entry))) (now (st .entry)) ≡ changedTo n (now (st .exit)) ⌝ }
+    ensures { λ n. ⌜ slicedFrom (now (sheet .entry)) (elementsOf (now (sheet .entry))) (externalsOf (now (sheet .entry))) (now (st .entry)) ≡ changedTo n (now (st .exit)) ⌝ }
 {
     let first = sheet_fields::field_at(sheet, directory, 0, 0, 1);
-    let count = sheet_reader::count_in(directory, 7);
+    let count = engine_cells::elements(sheet, directory);
     let mut i: usize = 0;
     while i < count {
-        let Found::Present(c) = engine_cells::chart_bound(sheet, directory, i) else {
+        let k = cells[34 * i + BINDING];
+        let Found::Present(c) = sheet_bindings::chart_bound(sheet, directory, k) else {
             return 4;
         };
-        let n = slice_cells(sheet, directory, cells, st, first + i, c, 33 * i);
+        let n = slice_cells(sheet, directory, cells, st, first + i, c, 34 * i);
         if n != 0 {
             return n;
         }

@@ -1,4 +1,4 @@
--- Where a body runs, as 38 numbers: the element, its binding's number, its chart's, its chart's first body's, the body's; then the first cell of each of its chart's variables, and one behind the last of them.
+-- Where a body runs, as 38 numbers: the element, its first binding record's number, its chart's, its chart's first body's, the body's; then the first cell of each of its chart's variables, and one behind the last of them.
 use Prim.Native.Nat.{ℕ, _+_, _-_, _<_, _≤_}
 use mathlib.Core.Path.{_≡_}
 use mathlib.Core.List.{List}

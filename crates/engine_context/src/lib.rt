@@ -7,7 +7,7 @@ ghost use Rattle.engine_context.specs.Context.{elementIn, bindingIn, cha
 
 pub const ELEMENT: usize = 0;
 
-// The numbers of the records in sections 7 and 4: the element's binding and its chart.
+// The numbers of the records in sections 7 and 4: the element's first binding record and its chart.
 pub const BINDING: usize = 1;
 
 pub const CHART: usize = 2;
@@ -27,28 +27,30 @@ pub enum Place {
     Outside,
 }
 
-// The numbers of a running body. Its element's part of the table of cells is taken along.
+// The numbers of a running body of element e, bound by record k. Its row of the table of cells, number i,
+// is taken along.
 pub fn context(
-    cells: &[usize; 2112],
+    cells: &[usize; 2176],
     e: usize,
     i: usize,
+    k: usize,
     chart: usize,
     first: usize,
     body: usize,
     count: usize,
 ) -> [usize; 38]
     requires { ⌜ (i < 64) × (count ≤ 32) ⌝ }
-    ensures { λ w. ⌜ (length w ≡ 38) × (elementIn w ≡ e) × (bindingIn w ≡ i) × (chartIn w ≡ chart) × (firstBodyIn w ≡ first) × (bodyIn w ≡ body) × ((n : ℕ) → n ≤ count → cellIn w n ≡ getD (now (cells .entry)) (33 * i + n) 0) ⌝ }
+    ensures { λ w. ⌜ (length w ≡ 38) × (elementIn w ≡ e) × (bindingIn w ≡ k) × (chartIn w ≡ chart) × (firstBodyIn w ≡ first) × (bodyIn w ≡ body) × ((n : ℕ) → n ≤ count → cellIn w n ≡ getD (now (cells .entry)) (34 * i + n) 0) ⌝ }
 {
     let mut w = [0usize; 38];
     w[ELEMENT] = e;
-    w[BINDING] = i;
+    w[BINDING] = k;
     w[CHART] = chart;
     w[FIRST_BODY] = first;
     w[BODY] = body;
     let mut n: usize = 0;
     while n <= count {
-        w[CELLS + n] = cells[33 * i + n];
+        w[CELLS + n] = cells[34 * i + n];
         n += 1;
     }
     w

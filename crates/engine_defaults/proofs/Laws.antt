@@ -15,8 +15,6 @@ use Rattle.sheet_rules.specs.DataTypes.{dataTypeOf}
 use Rattle.sheet_rules.proofs.DataTypes.{type-no-data, type-enumerated}
 use Rattle.machine.specs.Values.{defaultIn, defaultOf}
 use Rattle.machine.specs.Run.{localAt, listFrom, localsOf}
-use Rattle.machine.specs.Play.{defaultLimit, limitOf}
-use Rattle.machine_limits.proofs.Limit.{limit-zero, limit-given}
 
 -- ---- defaults
 
@@ -87,13 +85,3 @@ module _ (s : List ℕ) (b : Record) (zs : List ℤ) where
         | yes q ↦ h .done k q
         | no q ↦ h .rest k (omega arith) n ∙ local-none k (omega arith)
       ]
-
--- ---- the limit
-
-pub field-zero : (s : List ℕ) (x : ℕ) → x ≡ fieldAt s 0 0 3 → x ≡ 0 → defaultLimit ≡ limitOf s
-unfolding fieldAt fieldOf
-field-zero s x e z = sym (limit-zero defaultLimit s (sym e ∙ z))
-
-pub field-given : (s : List ℕ) (x : ℕ) → x ≡ fieldAt s 0 0 3 → (x ≡ 0 → ⊥) → x ≡ limitOf s
-unfolding fieldAt fieldOf
-field-given s x e z = e ∙ sym (limit-given defaultLimit s (λ q. z (e ∙ q)))

@@ -9,19 +9,17 @@ use lib.Seq.{set-append-seam}
 use lib.IntN.{ℤ, pos}
 use Rattle.sheet.specs.declared.Record.{Record}
 use Rattle.sheet.specs.declared.Found.the-variants.{Present}
-use Rattle.sheet.specs.Names.{bindings, chartVariables}
-use Rattle.sheet.specs.Sheet.{countOf}
+use Rattle.sheet.specs.Names.{chartVariables}
 use Rattle.sheet_rules.specs.declared.Checked.the-variants.{Passed}
 use Rattle.sheet_rules.specs.Fields.{sumBelow, typeAt, externalsOf, elementsOf}
 use Rattle.sheet_rules.specs.Indices.{cellsTaken, cellsBefore}
+use Rattle.sheet_rules.specs.Bindings.{chartBound, firstBinding}
 use Rattle.sheet_rules.specs.Shape.{cellsBound, cellsOf}
 use Rattle.sheet_rules.specs.Check.{checkOf}
 use Rattle.machine.specs.Values.{defaultOf}
 use Rattle.machine.specs.State.{cellAt, placeAt, stateLength}
 use Rattle.machine.specs.Play.{defaultCell, alike, defaultCells, elementCells, cellsFrom, defaultState}
-use Rattle.machine_passed.proofs.Records.{elements-are}
 use Rattle.machine_states.proofs.Elements.{cells-none, cells-next}
-use Rattle.engine_cells.specs.Bound.{chartBound}
 use Rattle.engine_cells.proofs.Laws.{bound-chart, bound-inside}
 use Rattle.engine_defaults.specs.Blank.{Blank}
 
@@ -131,20 +129,20 @@ module _ (s : List ℕ) (ok : checkOf s ≡ Passed) where
     before = refl;
   }
 
-  pub filled-more : (st st′ : List ℤ) (cell next i : ℕ) (c : Record) → i < countOf s bindings → chartBound s i ≡ Present c → cell ≡ sumBelow i (cellsBound s) → ((done : List ℤ) (m : ℕ) → Blank st done cell (8 * cellsBefore s c (chartVariables c .count) + m) → Blank st′ (done ++ defaultCells s (chartVariables c .count) (chartVariables c .first)) (cell + cellsBefore s c (chartVariables c .count)) m) → next ≡ cell + cellsBefore s c (chartVariables c .count) → Filled s st cell i → Filled s st′ next (i + 1)
+  pub filled-more : (st st′ : List ℤ) (cell next i k : ℕ) (c : Record) → i < elementsOf s → k ≡ firstBinding s i → chartBound s k ≡ Present c → cell ≡ sumBelow i (cellsBound s) → ((done : List ℤ) (m : ℕ) → Blank st done cell (8 * cellsBefore s c (chartVariables c .count) + m) → Blank st′ (done ++ defaultCells s (chartVariables c .count) (chartVariables c .first)) (cell + cellsBefore s c (chartVariables c .count)) m) → next ≡ cell + cellsBefore s c (chartVariables c .count) → Filled s st cell i → Filled s st′ next (i + 1)
   unfolding elementCells
-  filled-more st st′ cell next i c l p q h x b =
+  filled-more st st′ cell next i k c l at p q h x b =
       let n : ℕ = cellsBefore s c (chartVariables c .count) in
-      let inside = bound-inside s ok i c l p cell q in
+      let inside = bound-inside s ok i k l at c p cell q in
       let e : 8 * (cellsOf s - cell) + 1024 ≡ 8 * n + (8 * (cellsOf s - (cell + n)) + 1024) = omega arith in
-      let own : elementCells s (externalsOf s + i) ≡ defaultCells s (chartVariables c .count) (chartVariables c .first) = rw (elementCells, bound-chart s ok i c l p) refl in
+      let own : elementCells s (externalsOf s + i) ≡ defaultCells s (chartVariables c .count) (chartVariables c .first) = rw (elementCells, bound-chart s ok i k l at c p) refl in
       let f : replicate 8 (pos 0) ++ cellsFrom s (i + 1) (externalsOf s) ≡ replicate 8 (pos 0) ++ cellsFrom s i (externalsOf s) ++ defaultCells s (chartVariables c .count) (chartVariables c .first) =
       ap (λ (r : List ℤ). replicate 8 (pos 0) ++ r) (rw add-one (elements-more i (externalsOf s)) ∙ ap (λ (r : List ℤ). cellsFrom s i (externalsOf s) ++ r) own) in
       rw (f, x) (h (replicate 8 (pos 0) ++ cellsFrom s i (externalsOf s)) (8 * (cellsOf s - (cell + n)) + 1024) (rw e at b))
 
-  pub filled-all : (st : List ℤ) (cell i : ℕ) → i ≤ countOf s bindings → countOf s bindings ≤ i → cell ≡ sumBelow i (cellsBound s) → Filled s st cell i → st ≡ defaultState s
+  pub filled-all : (st : List ℤ) (cell i : ℕ) → i ≤ elementsOf s → elementsOf s ≤ i → cell ≡ sumBelow i (cellsBound s) → Filled s st cell i → st ≡ defaultState s
   unfolding defaultState cellsOf
   filled-all st cell i l m q b =
-      let e : elementsOf s ≡ i = omega (arith, elements-are s ok) in
+      let e : elementsOf s ≡ i = omega arith in
       let f : 8 * (cellsOf s - cell) + 1024 ≡ 1024 = omega (arith, ap (λ (k : ℕ). sumBelow k (cellsBound s)) e) in
       rw e ((rw f at (b .words)))

@@ -1,5 +1,4 @@
-// What runs begin with: default values, a body's fresh variables, the state of start; and the limit
-// that each run needs.
+// What runs begin with: default values, a body's fresh variables, the state of start.
 use sheet::Found;
 use sheet::Record;
 ghost use mathlib.Core.Path.{_≡_};
@@ -14,7 +13,7 @@ ghost use Rattle.sheet_rules.specs.Indices.{cellsBefore};
 ghost use Rattle.machine.specs.Values.{defaultOf};
 ghost use Rattle.machine.specs.Run.{localAt, localsOf};
 ghost use Rattle.machine.specs.State.{cellAt, stateLength};
-ghost use Rattle.machine.specs.Play.{limitOf, alike, defaultCells, defaultState};
+ghost use Rattle.machine.specs.Play.{alike, defaultCells, defaultState};
 ghost use Rattle.sheet_rules.specs.Check.{checkOf};
 ghost use Rattle.engine_defaults.specs.Blank.{Blank};
 
@@ -56,18 +55,6 @@ pub fn fresh_locals(sheet: &[u8], directory: &[usize; 16], b: Record, d: &[i32; 
         i += 1;
     }
     locals
-}
-
-// "f3 step limit (0 means 2,000)", which is a 16-bit number.
-pub fn limit(sheet: &[u8], directory: &[usize; 16]) -> u32
-    requires { ⌜ now directory ≡ directoryOf (now sheet) ⌝ }
-    ensures { λ n. ⌜ (n ≡ limitOf (now (sheet .entry))) × (n < 65536) ⌝ }
-{
-    let steps = sheet_fields::field_at(sheet, directory, 0, 0, 3);
-    if steps == 0 {
-        return 2000;
-    }
-    steps as u32
 }
 
 // n cells alike, from a cell on: word z and seven zeros each. Where z is 0 they are so already.
@@ -117,14 +104,16 @@ pub fn default_state(sheet: &[u8], directory: &[usize; 16], st: &mut [i32])
     ensures { λ _. ⌜ now (st .exit) ≡ defaultState (now (sheet .entry)) ⌝ }
 {
     engine_store::zero(st);
-    let count = sheet_reader::count_in(directory, 7);
+    let count = engine_cells::elements(sheet, directory);
     let mut cell: usize = 0;
+    let mut k: usize = 0;
     let mut i: usize = 0;
     while i < count {
-        let Found::Present(c) = engine_cells::chart_bound(sheet, directory, i) else {
+        let Found::Present(c) = sheet_bindings::chart_bound(sheet, directory, k) else {
             return;
         };
         cell = default_cells(sheet, directory, st, c, cell);
+        k += sheet_bindings::records_for(c.f1);
         i += 1;
     }
 }

@@ -23,7 +23,7 @@ ghost use Rattle.engine_cells.specs.Cells.{CellTable};
 pub fn panicked(
     sheet: &[u8],
     directory: &[usize; 16],
-    cells: &[usize; 2112],
+    cells: &[usize; 2176],
     old: &[i32],
     st: &mut [i32],
     e: usize,
@@ -31,7 +31,7 @@ pub fn panicked(
     requires { ⌜ Playing (now sheet) (now directory) (now st) × (length (now old) ≡ length (now st)) × (isBound (now sheet) e ≡ true) × CellTable (now sheet) (now cells) ⌝ }
     ensures { λ a. ⌜ ended a (now (st .exit)) ≡ panicking (now (sheet .entry)) (now (old .entry)) e (now (st .entry)) ⌝ }
 {
-    let Found::Present(c) = engine_valid_values::chart_of(sheet, directory, e) else {
+    let Found::Present(c) = engine_cells::chart_of(sheet, directory, cells, e) else {
         return answered(4, 0);
     };
     let j = engine_finders::with_role(sheet, directory, c, 1);
@@ -52,7 +52,7 @@ pub fn panicked(
 fn received(
     sheet: &[u8],
     directory: &[usize; 16],
-    cells: &[usize; 2112],
+    cells: &[usize; 2176],
     old: &[i32],
     st: &mut [i32],
     t: Telegram,
@@ -61,7 +61,7 @@ fn received(
     ensures { λ a. ⌜ ended a (now (st .exit)) ≡ delivered (now (sheet .entry)) (now (old .entry)) t (now (st .entry)) ⌝ }
 {
     let e = engine_valid_words::number(t.receiver);
-    let Found::Present(c) = engine_valid_values::chart_of(sheet, directory, e) else {
+    let Found::Present(c) = engine_cells::chart_of(sheet, directory, cells, e) else {
         return answered(4, 0);
     };
     let j = engine_finders::reaction_on(
@@ -103,7 +103,7 @@ fn handed(t: Telegram) -> Answer
 pub fn delivers(
     sheet: &[u8],
     directory: &[usize; 16],
-    cells: &[usize; 2112],
+    cells: &[usize; 2176],
     old: &[i32],
     st: &mut [i32],
     t: Telegram,
@@ -121,7 +121,7 @@ pub fn delivers(
 pub fn reacts(
     sheet: &[u8],
     directory: &[usize; 16],
-    cells: &[usize; 2112],
+    cells: &[usize; 2176],
     old: &[i32],
     st: &mut [i32],
     t: Telegram,
@@ -130,7 +130,7 @@ pub fn reacts(
     ensures { λ a. ⌜ ended a (now (st .exit)) ≡ reacting (now (sheet .entry)) (now (old .entry)) (natAbs (t .receiver)) (elementBody (now (sheet .entry)) (natAbs (t .receiver)) (reactsTo (natAbs (t .name)))) t (now (st .entry)) ⌝ }
 {
     let e = engine_valid_words::number(t.receiver);
-    let Found::Present(c) = engine_valid_values::chart_of(sheet, directory, e) else {
+    let Found::Present(c) = engine_cells::chart_of(sheet, directory, cells, e) else {
         return answered(4, 0);
     };
     let j = engine_finders::reaction_to(sheet, directory, c, engine_valid_words::number(t.name));

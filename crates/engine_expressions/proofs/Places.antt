@@ -17,11 +17,12 @@ use Rattle.sheet.proofs.Table.{beyond}
 use Rattle.sheet_rules.specs.Fields.{fieldOf, componentsOf}
 use Rattle.sheet.specs.Table.{lookUp}
 use Rattle.sheet_rules.specs.Forms.{literal, read, unary, binary, clock, readElement, formOf}
-use Rattle.sheet_rules.specs.Shape.{constantOf}
+use Rattle.sheet_rules.specs.Bindings.{constantRecord, constantField, constantOf}
 use Rattle.machine.specs.Values.{isBound}
 use Rattle.machine.specs.State.{cellAt, wordOf}
 use Rattle.machine.specs.Eval.{literalValue, evalOf}
-use Rattle.machine_passed.proofs.Records.{one-record, components-limit}
+use Rattle.machine_passed.proofs.Records.{components-limit}
+use Rattle.machine_passed.proofs.Charts.{element-low as binding-low}
 use Rattle.engine_ints.specs.declared.Work.{Work}
 use Rattle.engine_ints.specs.declared.Work.the-variants.{Word, Refused, Stuck}
 use Rattle.engine_ints.specs.Work.{workOf, thenWork, notWork, binaryWork}
@@ -94,6 +95,11 @@ module _ (s w : List ℕ) (st lo : List ℤ) (ready : Ready s w st lo) where
   unfolding isBound contextAt
   element-low = let h : elementIn w < componentsOf s = ltb-true _ _ (and-second _ _ (ready .running .placed .element .bound)) in omega (arith, components-limit s (ready .running .passed))
 
+  -- the number of the element's first binding record
+  pub bound-low : bindingIn w ≤ 131072
+  unfolding contextAt
+  bound-low = omega (arith, ready .running .placed .binding, binding-low s (ready .running .passed) _ _ _ (ready .running .placed .element))
+
   module _ (n : ℕ) (r : Record) (there : recordOf s nodes n ≡ Present r) (e : IsExpression s w n) where
     abbrev given : ℕ → Work
     given l = workOf (evalOf s (contextAt s w) st lo n (suc l))
@@ -110,17 +116,23 @@ module _ (s w : List ℕ) (st lo : List ℤ) (ready : Ready s w st lo) where
       unfolding wordOf
       local-at two l = sym (laws.local-word s w st lo ready n r there e q two l)
 
-      -- the constant in the binding that was read
-      module _ (none : r .f1 ≡ 0) (b : Record) (bound : recordOf s bindings (bindingIn w) ≡ Present b) (m : ℕ) (m-is : m ≡ fieldOf b (1 + r .f2)) where
-        constant : recordOf s nodes m ≡ recordOf s nodes (constantOf (contextAt s w .binding) (r .f2))
-        constant = ap (recordOf s nodes) (m-is ∙ ap (λ b. constantOf b (r .f2)) (one-record b (contextAt s w .binding) (sym bound ∙ ready .running .binding)))
-
-        pub constant-at : (c : Record) → recordOf s nodes m ≡ Present c → (l : ℕ) → Word (literalValue (elementIn w) c .word) l ≡ given l
+      -- the record that was read for the constant, and the constant in it
+      module _ (none : r .f1 ≡ 0) (k : ℕ) (k-is : k ≡ constantRecord (bindingIn w) (r .f2)) where
+        pub constant-unbound : recordOf s bindings k ≡ Absent → (l : ℕ) → Stuck ≡ given l
         unfolding contextAt
-        constant-at c h l = sym (laws.parameter-word s w st lo ready n r there e q none c (sym constant ∙ h) l)
+        constant-unbound h l = sym (laws.parameter-unbound s w st lo ready n r there e q none (ap (recordOf s bindings) (sym k-is) ∙ h) l)
 
-        pub constant-none : recordOf s nodes m ≡ Absent → (l : ℕ) → Stuck ≡ given l
-        constant-none h l = sym (laws.parameter-stuck s w st lo ready n r there e q none (sym constant ∙ h) l)
+        module _ (b : Record) (bound : recordOf s bindings k ≡ Present b) (f m : ℕ) (f-is : f ≡ constantField (r .f2)) (m-is : m ≡ fieldOf b f) where
+          constant : recordOf s nodes (constantOf b (r .f2)) ≡ recordOf s nodes m
+          constant = ap (recordOf s nodes) (sym (m-is ∙ ap (fieldOf b) f-is))
+
+          pub constant-at : (c : Record) → recordOf s nodes m ≡ Present c → (l : ℕ) → Word (literalValue (elementIn w) c .word) l ≡ given l
+          unfolding contextAt
+          constant-at c h l = sym (laws.parameter-word s w st lo ready n r there e q none b (ap (recordOf s bindings) (sym k-is) ∙ bound) c (constant ∙ h) l)
+
+          pub constant-none : recordOf s nodes m ≡ Absent → (l : ℕ) → Stuck ≡ given l
+          unfolding contextAt
+          constant-none h l = sym (laws.parameter-stuck s w st lo ready n r there e q none b (ap (recordOf s bindings) (sym k-is) ∙ bound) (constant ∙ h) l)
 
     module _ (q : formOf (operator r) ≡ clock) where
       pub running-at : operator r ≡ 17 → (l : ℕ) → Word (wordOf st (cellAt (cellIn w (r .f1)) + 0)) l ≡ given l

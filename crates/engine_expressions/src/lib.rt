@@ -105,14 +105,16 @@ fn variable(
     let number = r.f2 as usize;
     match place {
         0 => {
-            let Found::Present(b) = sheet_reader::read(sheet, directory, 7, context[BINDING]) else {
+            let k = sheet_bindings::constant_record(context[BINDING], number);
+            let Found::Present(b) = sheet_reader::read(sheet, directory, 7, k) else {
                 return Work::Stuck;
             };
+            let i = sheet_bindings::constant_field(number);
             let Found::Present(c) = sheet_reader::read(
                 sheet,
                 directory,
                 6,
-                sheet_fields::field(b, 1 + number),
+                sheet_fields::field(b, i),
             ) else {
                 return Work::Stuck;
             };

@@ -4,13 +4,11 @@ use mathlib.Core.Path.{_≡_, refl, sym, ap, _∙_}
 use mathlib.Core.List.{List}
 use lib.IntN.{ℤ}
 use native.Mathlib.Omega.{arith}
-use Rattle.sheet.specs.Names.{bindings}
-use Rattle.sheet.specs.Sheet.{countOf}
 use Rattle.sheet_rules.specs.declared.Checked.the-variants.{Passed}
 use Rattle.machine.specs.declared.Answer.{Answer}
 use Rattle.machine.specs.declared.Handed.the-variants.{Nothing}
 use Rattle.machine.specs.declared.Telegram.{Telegram}
-use Rattle.sheet_rules.specs.Fields.{externalsOf}
+use Rattle.sheet_rules.specs.Fields.{externalsOf, elementsOf}
 use Rattle.machine.specs.State.{telegramIn, Changed, appended}
 use Rattle.machine.specs.Play.{Outcome, ended, answer, outside, slice, slicedFrom, telegramOfEvent, changeEnd}
 use Rattle.sheet_rules.specs.Check.{checkOf}
@@ -37,9 +35,9 @@ refused-same (suc n) new back z = refl
 
 -- ---- a slice
 
-module _ (s : List ℕ) (ok : checkOf s ≡ Passed) (old st new : List ℤ) (same : old ≡ st) (n : ℕ) (h : slicedFrom s (countOf s bindings) (externalsOf s) st ≡ changedTo n new) where
-  of-old : slicedFrom s (countOf s bindings) (externalsOf s) old ≡ changedTo n new
-  of-old = ap (slicedFrom s (countOf s bindings) (externalsOf s)) same ∙ h
+module _ (s : List ℕ) (ok : checkOf s ≡ Passed) (old st new : List ℤ) (same : old ≡ st) (n : ℕ) (h : slicedFrom s (elementsOf s) (externalsOf s) st ≡ changedTo n new) where
+  of-old : slicedFrom s (elementsOf s) (externalsOf s) old ≡ changedTo n new
+  of-old = ap (slicedFrom s (elementsOf s) (externalsOf s)) same ∙ h
 
   pub slice-done : (a : Answer) → a ≡ answer 0 0 Nothing → n ≡ 0 → ended a new ≡ slice s old
   slice-done a e z = change-ends old new _ n of-old (λ no. absurd (no z)) a (e ∙ ap (λ n. answer n 0 Nothing) (sym z)) ∙ sym (slice-is s ok old)

@@ -28,7 +28,7 @@ fn sent_outside(sheet: &[u8], directory: &[usize; 16], st: &mut [i32], ev: &[i32
 fn sliced(
     sheet: &[u8],
     directory: &[usize; 16],
-    cells: &[usize; 2112],
+    cells: &[usize; 2176],
     old: &[i32],
     st: &mut [i32],
 ) -> Answer
@@ -90,7 +90,7 @@ pub fn may_undo(sheet: &[u8], directory: &[usize; 16], st: &[i32], ev: &[i32], j
 pub fn happened(
     sheet: &[u8],
     directory: &[usize; 16],
-    cells: &[usize; 2112],
+    cells: &[usize; 2176],
     old: &[i32],
     st: &mut [i32],
     ev: &[i32],

@@ -20,13 +20,15 @@ use Rattle.sheet_rules.specs.declared.Typed.{Typed}
 use Rattle.sheet_rules.specs.declared.Typed.the-variants.{Expression}
 use Rattle.sheet_rules.specs.Fields.{fieldOf, typeAt}
 use Rattle.sheet_rules.specs.Forms.{Form, literal, read, unary, binary, clock, readElement, skip, assign, externalSend, internalSend, arm, clockAct, call, choice, loop, sequence, assignElement, unknown, formOf, operandsIn, operandsOf, operandAt, operandCount, Binary, both, equal, less, plus, minus, times, div, modulo, binaryOf}
-use Rattle.sheet_rules.specs.Shape.{variablesAt, fieldsShape, treeShape, constantOf}
+use Rattle.sheet_rules.specs.Bindings.{constantBinding, constantOf}
+use Rattle.sheet_rules.specs.Shape.{variablesAt, fieldsShape, treeShape}
 use Rattle.sheet_rules.specs.Indices.{indexAt, isPlain, cellsTaken}
 use Rattle.sheet_rules.specs.Types.{variableAt, readType, clockType, indexedBy, readElementType, lowerType, typeIn, typeOf}
 use Rattle.machine.specs.Values.{isBelow, isZero, inType}
 use Rattle.machine.specs.State.{cellAt, cellOf, wordOf}
 use Rattle.machine.specs.Eval.{andThen, needs, onRecord, val, boolWord, notVal, onInts, combined, binaryVal, literalValue, within, ofType, Context, parameterVal, variableAtCell, inside, outOfRange, reached, elementAs, elementVal, readAs, readVal, clockWord, clockVal, evalIn, evalOf}
 use Rattle.sheet_rules.proofs.Fields.{holds-present}
+use Rattle.sheet_rules.proofs.Bindings.{constant-inside}
 use Rattle.sheet_rules.proofs.Forms.{isExpressionForm}
 use Rattle.sheet_rules.proofs.Types.{lower-type}
 use Rattle.machine_equations.proofs.Eval.{eval-none, eval-visit}
@@ -118,7 +120,7 @@ module _ (s w : List ℕ) (st lo : List ℤ) (ready : Ready s w st lo) where
   placed = ready .running .placed
 
   pub cells : Cells s x st
-  cells j k l m = cell-of s st (ready .state) (x .element) (x .chart) (element-chart s (x .element) (x .binding) (x .chart) (placed .element)) j l k m
+  cells j k l m = cell-of s st (ready .state) (x .element) (x .chart) (element-chart s (x .element) (placed .bound) (x .chart) (placed .element)) j l k m
 
   -- ---- a node that is there
 
@@ -222,22 +224,36 @@ module _ (s w : List ℕ) (st lo : List ℤ) (ready : Ready s w st lo) where
 
       -- a chart parameter: the constant in the element's binding
       module _ (none : r .f1 ≡ 0) where
-        parameter-as : (l : ℕ) → evalIn s x st lo (evalOf s x st lo) r l read ≡ onRecord (recordOf s nodes (constantOf (x .binding) (r .f2))) (λ r. needs (isLiteral (operator r)) (ofType declared (literalValue (x .element) r) (within s (literalValue (x .element) r) l)))
+        -- what a node gives as the constant
+        abbrev constantVal : ℕ → Record → Out
+        constantVal l c = needs (isLiteral (operator c)) (ofType declared (literalValue (x .element) c) (within s (literalValue (x .element) c) l))
+
+        parameter-as : (l : ℕ) → evalIn s x st lo (evalOf s x st lo) r l read ≡ onRecord (constantBinding s (x .binding) (r .f2)) (λ b. onRecord (recordOf s nodes (constantOf b (r .f2))) (constantVal l))
         unfolding readAs parameterVal variablesAt
         parameter-as l =
             let h : r .f2 < chartParameters (x .chart) .count = subst (λ p. r .f2 < variablesAt (x .chart) (x .body) p) none read-inside in
-            read-as l ∙ ap (λ p. readAs s x st lo p (r .f2) declared l) none ∙ needs-met _ _ (lt-ltb (1 + r .f2) 8 (omega (arith, few-parameters s (ready .running .passed) x placed st lo cells (ready .locals))))
+            read-as l ∙ ap (λ p. readAs s x st lo p (r .f2) declared l) none ∙ needs-met _ _ (constant-inside (r .f2) (omega (arith, few-parameters s (ready .running .passed) x placed st lo cells (ready .locals))))
 
-        pub parameter-word : (c : Record) → recordOf s nodes (constantOf (x .binding) (r .f2)) ≡ Present c → (l : ℕ) → workOf (evalOf s x st lo n (suc l)) ≡ Word (literalValue (x .element) c .word) l
-        unfolding onRecord ofType within workOf
-        parameter-word c h l =
-            let p = parameter-as l ∙ ap (λ f. onRecord f (λ r. needs (isLiteral (operator r)) (ofType declared (literalValue (x .element) r) (within s (literalValue (x .element) r) l)))) h in
-            ap workOf (visited read q l ∙ p) ∙ needs-three _ _ _ _ (λ z. goes read q l (ap workOf p ∙ z))
-
-        -- no such constant
-        pub parameter-stuck : recordOf s nodes (constantOf (x .binding) (r .f2)) ≡ Absent → (l : ℕ) → workOf (evalOf s x st lo n (suc l)) ≡ Stuck
+        -- no such binding record
+        pub parameter-unbound : constantBinding s (x .binding) (r .f2) ≡ Absent → (l : ℕ) → workOf (evalOf s x st lo n (suc l)) ≡ Stuck
         unfolding onRecord workOf
-        parameter-stuck h l = ap workOf (visited read q l ∙ parameter-as l ∙ ap (λ f. onRecord f (λ r. needs (isLiteral (operator r)) (ofType declared (literalValue (x .element) r) (within s (literalValue (x .element) r) l)))) h)
+        parameter-unbound b l = ap workOf (visited read q l ∙ parameter-as l ∙ ap (λ f. onRecord f (λ b. onRecord (recordOf s nodes (constantOf b (r .f2))) (constantVal l))) b)
+
+        module _ (b : Record) (bound : constantBinding s (x .binding) (r .f2) ≡ Present b) where
+          parameter-from : (l : ℕ) → evalIn s x st lo (evalOf s x st lo) r l read ≡ onRecord (recordOf s nodes (constantOf b (r .f2))) (constantVal l)
+          unfolding onRecord
+          parameter-from l = parameter-as l ∙ ap (λ f. onRecord f (λ b. onRecord (recordOf s nodes (constantOf b (r .f2))) (constantVal l))) bound
+
+          pub parameter-word : (c : Record) → recordOf s nodes (constantOf b (r .f2)) ≡ Present c → (l : ℕ) → workOf (evalOf s x st lo n (suc l)) ≡ Word (literalValue (x .element) c .word) l
+          unfolding onRecord ofType within workOf
+          parameter-word c h l =
+              let p = parameter-from l ∙ ap (λ f. onRecord f (constantVal l)) h in
+              ap workOf (visited read q l ∙ p) ∙ needs-three _ _ _ _ (λ z. goes read q l (ap workOf p ∙ z))
+
+          -- no such constant
+          pub parameter-stuck : recordOf s nodes (constantOf b (r .f2)) ≡ Absent → (l : ℕ) → workOf (evalOf s x st lo n (suc l)) ≡ Stuck
+          unfolding onRecord workOf
+          parameter-stuck h l = ap workOf (visited read q l ∙ parameter-from l ∙ ap (λ f. onRecord f (constantVal l)) h)
 
     -- ---- clocks
 

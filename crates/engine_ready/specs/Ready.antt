@@ -9,7 +9,7 @@ use Rattle.sheet.specs.declared.Record.{Record}
 use Rattle.sheet.specs.declared.Range.{Range}
 use Rattle.sheet.specs.declared.Found.{Found}
 use Rattle.sheet.specs.declared.Found.the-variants.{Present, Absent}
-use Rattle.sheet.specs.Names.{charts, bodies, bindings, chartVariables, chartBodies}
+use Rattle.sheet.specs.Names.{charts, bodies, chartVariables, chartBodies}
 use Rattle.sheet.specs.Sheet.{recordOf}
 use Rattle.sheet_rules.specs.declared.Typed.the-variants.{Expression, Statement}
 use Rattle.sheet_rules.specs.declared.Checked.the-variants.{Passed}
@@ -33,7 +33,7 @@ recordOr0 Absent = record { f0 = 0; f1 = 0; f2 = 0; f3 = 0; f4 = 0; f5 = 0; f6 =
 
 -- where a body runs, by its numbers
 unfoldable pub contextAt : List ℕ → List ℕ → Context
-contextAt s w = record { element = elementIn w; binding = recordOr0 (recordOf s bindings (bindingIn w)); chart = recordOr0 (recordOf s charts (chartIn w)); body = recordOr0 (recordOf s bodies (bodyIn w)) }
+contextAt s w = record { element = elementIn w; binding = bindingIn w; chart = recordOr0 (recordOf s charts (chartIn w)); body = recordOr0 (recordOf s bodies (bodyIn w)) }
 
 -- the numbers are those of a body of an element on a passed sheet
 pub record Running (s w : List ℕ) : Type 0 where
@@ -41,7 +41,6 @@ pub record Running (s w : List ℕ) : Type 0 where
   pub passed : checkOf s ≡ Passed
   pub placed : Placed s (contextAt s w)
   pub cells : (n : ℕ) → n ≤ chartVariables (contextAt s w .chart) .count → cellIn w n ≡ firstCell s (elementIn w) + cellsBefore s (contextAt s w .chart) n
-  pub binding : recordOf s bindings (bindingIn w) ≡ Present (contextAt s w .binding)
   pub first : firstBodyIn w ≡ chartBodies (contextAt s w .chart) .first
 
 -- a state of the sheet, and the body's variables of their types

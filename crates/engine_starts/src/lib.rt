@@ -22,14 +22,14 @@ ghost use Rattle.engine_cells.specs.Cells.{CellTable};
 fn initial(
     sheet: &[u8],
     directory: &[usize; 16],
-    cells: &[usize; 2112],
+    cells: &[usize; 2176],
     st: &mut [i32],
     e: usize,
 ) -> Ran
     requires { ⌜ Playing (now sheet) (now directory) (now st) × (isBound (now sheet) e ≡ true) × CellTable (now sheet) (now cells) ⌝ }
     ensures { λ r. ⌜ (r ≡ ranBody (now (sheet .entry)) e (alone (elementBody (now (sheet .entry)) e isInitial)) [] (now (st .entry)) .ran) × (now (st .exit) ≡ ranBody (now (sheet .entry)) e (alone (elementBody (now (sheet .entry)) e isInitial)) [] (now (st .entry)) .st) ⌝ }
 {
-    let Found::Present(c) = engine_valid_values::chart_of(sheet, directory, e) else {
+    let Found::Present(c) = engine_cells::chart_of(sheet, directory, cells, e) else {
         return Ran::Stuck;
     };
     let j = engine_finders::with_role(sheet, directory, c, 0);
@@ -49,7 +49,7 @@ fn refused(st: &mut [i32], number: u8, steps: u32) -> Answer
 pub fn from_defaults(
     sheet: &[u8],
     directory: &[usize; 16],
-    cells: &[usize; 2112],
+    cells: &[usize; 2176],
     st: &mut [i32],
 ) -> Answer
     requires { ⌜ (now directory ≡ directoryOf (now sheet)) × (checkOf (now sheet) ≡ Passed) × (length (now st) ≡ stateLength (now sheet)) × CellTable (now sheet) (now cells) ⌝ }
@@ -57,8 +57,8 @@ pub fn from_defaults(
 {
     engine_defaults::default_state(sheet, directory, st);
     let first = engine_valid_values::externals(sheet, directory);
-    let count = sheet_reader::count_in(directory, 7);
-    let most = engine_defaults::limit(sheet, directory);
+    let count = engine_cells::elements(sheet, directory);
+    let most = engine_limit::limit(sheet, directory);
     let mut steps: u32 = 0;
     let mut i: usize = 0;
     while i < count {

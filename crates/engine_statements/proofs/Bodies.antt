@@ -12,7 +12,7 @@ use borrow.Author.Tests.{lt-ltb, le-ltb, leb-true}
 use Rattle.sheet.specs.declared.Record.{Record}
 use Rattle.sheet.specs.declared.Found.{Found}
 use Rattle.sheet.specs.declared.Found.the-variants.{Present, Absent}
-use Rattle.sheet.specs.Names.{bodies, bindings, chartVariables, chartBodies, bodyParameters, bodyLocals, root}
+use Rattle.sheet.specs.Names.{bodies, chartVariables, chartBodies, bodyParameters, bodyLocals, root}
 use Rattle.sheet.specs.Sheet.{recordOf}
 use Rattle.sheet.proofs.All.{true-false, and-first, and-second}
 use Rattle.sheet.proofs.Sheet.{count-limit}
@@ -145,7 +145,7 @@ module _ (s : List ℕ) (y : Context) (depth : ℕ) (b : Record) (zs : List ℤ)
 
 module _ (s w : List ℕ) (st : List ℤ) (k : ℕ) (b : Record) (zs : List ℤ) (c : Callable s w st k b zs) where
   placed : Placed s (inBody (contextAt s w) b)
-  placed = record { element = c .running .placed .element; body = c .inside }
+  placed = record { bound = c .running .placed .bound; element = c .running .placed .element; binding = c .running .placed .binding; body = c .inside }
 
   pub fresh-there : localsThere s b ≡ true
   fresh-there = locals-there s (c .running .passed) _ _ (c .running .placed .element .chart) b (c .inside)
@@ -179,7 +179,6 @@ module _ (s w : List ℕ) (st : List ℤ) (k : ℕ) (b : Record) (zs : List ℤ)
       passed = c .running .passed;
       placed = subst (Placed s) (sym inner-context) placed;
       cells = λ n h. same (5 + n) (λ q. omega arith) ∙ c .running .cells n (subst (λ c. n ≤ chartVariables c .count) chart-same h) ∙ sym (ap (λ e. firstCell s e + cellsBefore s (contextAt s w′ .chart) n) (same 0 (λ q. omega arith)) ∙ ap (λ c. firstCell s (elementIn w) + cellsBefore s c n) chart-same);
-      binding = ap (recordOf s bindings) (same 1 (λ q. omega arith)) ∙ c .running .binding ∙ ap (λ y. Present (y .binding)) (sym inner-context);
       first = same 3 (λ q. omega arith) ∙ c .running .first ∙ ap (λ c. chartBodies c .first) (sym chart-same);
     }
 

@@ -16,7 +16,8 @@ use Rattle.sheet.proofs.All.{and-true, and-false, false-and}
 use Rattle.sheet_rules.specs.Fields.{componentsOf, externalsOf, portsOf, membersOf}
 use Rattle.sheet_rules.specs.DataTypes.{dataTypeOf}
 use Rattle.sheet_rules.proofs.DataTypes.{type-no-data, type-enumerated}
-use Rattle.machine.specs.Values.{fits32, isBelow, inDataType, inType, isBound, bindingOf, chartOf}
+use Rattle.sheet_rules.specs.Bindings.{firstBinding}
+use Rattle.machine.specs.Values.{fits32, isBelow, inDataType, inType, isBound, bindingAt, bindingOf, chartOf}
 
 -- ---- bound elements
 
@@ -29,9 +30,9 @@ module _ (s : List ℕ) (e : ℕ) where
   unfolding bindingOf isBound
   too-high n p h = rw (bindingOf, and-false (leb (externalsOf s) e) (ltb e (componentsOf s)) (le-ltb _ _ (rw p at h))) refl
 
-  pub binding-there : (n m : ℕ) → n ≡ externalsOf s → m ≡ componentsOf s → n ≤ e → e < m → recordOf s 7 (e - n) ≡ bindingOf s e
-  unfolding bindingOf isBound
-  binding-there n m p q h k = rw (bindingOf, p, and-true (leb (externalsOf s) e) (ltb e (componentsOf s)) (le-leb _ _ (rw p at h)) (lt-ltb _ _ (rw q at k))) refl
+  pub binding-there : (n m : ℕ) → n ≡ externalsOf s → m ≡ componentsOf s → n ≤ e → e < m → (k : ℕ) → k ≡ firstBinding s (e - n) → recordOf s 7 k ≡ bindingOf s e
+  unfolding bindingOf bindingAt isBound
+  binding-there n m p q h k i at = rw (bindingOf, at, p, and-true (leb (externalsOf s) e) (ltb e (componentsOf s)) (le-leb _ _ (rw p at h)) (lt-ltb _ _ (rw q at k))) refl
 
   pub no-chart : bindingOf s e ≡ Absent → Absent ≡ chartOf s e
   unfolding chartOf

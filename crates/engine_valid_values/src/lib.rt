@@ -52,6 +52,7 @@ pub fn is_bound(sheet: &[u8], directory: &[usize; 16], e: usize) -> bool
     e < components(sheet, directory)
 }
 
+// Found by a search over the elements before it; a run of bodies has a table instead.
 fn binding_of(sheet: &[u8], directory: &[usize; 16], e: usize) -> Found
     requires { ⌜ now directory ≡ directoryOf (now sheet) ⌝ }
     ensures { λ f. ⌜ f ≡ bindingOf (now (sheet .entry)) e ⌝ }
@@ -63,7 +64,8 @@ fn binding_of(sheet: &[u8], directory: &[usize; 16], e: usize) -> Found
     if components(sheet, directory) <= e {
         return Found::Absent;
     }
-    sheet_reader::read(sheet, directory, 7, e - first)
+    let k = sheet_bindings::first_binding(sheet, directory, e - first);
+    sheet_reader::read(sheet, directory, 7, k)
 }
 
 pub fn chart_of(sheet: &[u8], directory: &[usize; 16], e: usize) -> Found

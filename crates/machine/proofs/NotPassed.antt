@@ -191,10 +191,28 @@ send-five = refl
 abbrev pub holding : ℕ → ℕ → List ℕ → List (List ℕ)
 holding parameters locals nodes = one 0 [] declared [] (rec6 0 parameters 0 0 0 1) (ranged 0 0 0 locals (last nodes)) nodes
 
--- 7 read of a chart's seventh parameter, and of the eighth, for which a binding has no field
+-- 7 read of a chart's eighth parameter, whose binding record is absent
 parameter-eighth : begun (holding 8 0 (reading 0 7)) ≡ stuck
 unfolding begun
 parameter-eighth = refl
+
+-- the same with two binding records: the constants of the first are node 0, Int 1, and the first one of the second is node 1, Int 0
+abbrev pub boundTwice : ℕ → List ℕ → List (List ℕ)
+boundTwice parameters nodes = rec3 3 2 2 ∷ [] ∷ declared ∷ [] ∷ rec6 0 parameters 0 0 0 1 ∷ ranged 0 0 0 0 (last nodes) ∷ (tools ++ nodes) ∷ (rec3 0 0 0 ++ rec3 65535 1 0) ∷ []
+
+-- 1 div a parameter
+abbrev pub dividing : ℕ → List ℕ
+dividing n = testing (rec3 7 0 n ++ rec3 15 0 7 ++ rec3 10 8 8)
+
+-- the seventh, and the eighth, which is 0
+eighth-second : told (begun (boundTwice 8 (dividing 7))) ≡ row 6 5 0
+unfolding told begun
+eighth-second = refl
+
+-- the fourteenth, and the fifteenth, for which the second record has no field
+parameter-fifteenth : begun (boundTwice 15 (reading 0 14)) ≡ stuck
+unfolding begun
+parameter-fifteenth = refl
 
 -- "Parameters and locals together at most 16": 7 read, and 33 assign, of the sixteenth and the seventeenth
 read-seventeenth : begun (holding 0 17 (reading 2 16)) ≡ stuck

@@ -9,7 +9,7 @@ use Rattle.sheet.specs.Table.{lookUp}
 use Rattle.sheet_rules.specs.Forms.{binaryOf}
 use Rattle.sheet_rules.proofs.Samples.{sheetOf, rec3, rec6, body, check, assigning}
 use Rattle.machine_division.specs.Division.{quotient, remainder}
-use Rattle.machine.specs.Values.{fits32, isBelow, recordBy, isZero, inDataType, inType, defaultIn, defaultOf, hasDefault, isBound, bindingOf, chartOf, firstCell}
+use Rattle.machine.specs.Values.{fits32, isBelow, recordBy, isZero, inDataType, inType, defaultIn, defaultOf, hasDefault, isBound, bindingAt, bindingOf, chartOf, firstCell}
 use Rattle.machine.specs.State.{cellAt, cellOf, placeAt, stateLength, wordOf, waiting, setWaiting, telegramIn, telegramOf, putWords, withTelegram, classOf, sameClass, waitingLike, appended, withoutTelegram}
 use Rattle.machine.specs.Valid.{dataFit, nameFits, reactionAwaits, zeroWords, runningClock, clockCell, cellFits, variableFits, elementFits, internalFits, externalFits, telegramFits, headFits, cellsFit, waitingFit, unusedZero, classesFit, contentFits}
 use Rattle.machine.specs.Eval.{val, isVariable, isPlainVariable, andThen, needs, onRecord, intOut, dividing, notVal, onInts, combined, binaryVal, written, literalValue, within, ofType, parameterVal, variableAtCell, reached, elementAs, elementVal, readAs, readVal, clockWord, clockVal, evalIn, evalStep, evalF, evalOf}
@@ -53,7 +53,7 @@ mod-zero l = refl
 -- ---- start and events, with every definition open
 
 unfoldable pub start : List (List ℕ) → Outcome
-unfolding check fits32 isBelow recordBy isZero inDataType inType defaultIn defaultOf hasDefault isBound bindingOf chartOf firstCell cellAt cellOf placeAt stateLength wordOf waiting setWaiting telegramIn telegramOf putWords withTelegram classOf sameClass waitingLike appended withoutTelegram dataFit nameFits reactionAwaits zeroWords runningClock clockCell cellFits variableFits elementFits internalFits externalFits telegramFits headFits cellsFit waitingFit unusedZero classesFit contentFits andThen needs onRecord intOut quotient remainder dividing notVal onInts combined binaryVal written literalValue within ofType parameterVal variableAtCell reached elementAs elementVal readAs readVal clockWord clockVal evalIn evalStep evalF evalOf goOn thenOperand withRecord provided before nextValue valuesFrom thenValues areOf wordsIn localAt listFrom localsOf localsThere append armed clockSet fewer assigned hasVariable assignOf elementAssigned assignElementOf nameValues externalSendOf internalSendOf isVariable isPlainVariable armOf clockActOf entered callOf choiceOf runIn runStep runF runOf limitBy bodyFrom bodyWhere ranBodyWithin elementBody alone eventEndWithin defaultCell alike defaultCells elementCells cellsFrom defaultState hasHead elementThere elementsThere startNextWithin startFromWithin startedWithin oldestFrom oldest taking sameDeclared brought reactingWithin panickingWithin withNumber outside bodiesThere receivedWithin deliveredWithin deliverWithin corruptWithin innerWithin thenSlice fires ticks slicedCell slicedEach slicedVariable slicedCells slicedElement slicedFrom changeEnd slice restZero wellFormed kindOf isEvent happensAsWithin happensWithin ifPassed startCallBy eventCallBy
+unfolding check fits32 isBelow recordBy isZero inDataType inType defaultIn defaultOf hasDefault isBound bindingAt bindingOf chartOf firstCell cellAt cellOf placeAt stateLength wordOf waiting setWaiting telegramIn telegramOf putWords withTelegram classOf sameClass waitingLike appended withoutTelegram dataFit nameFits reactionAwaits zeroWords runningClock clockCell cellFits variableFits elementFits internalFits externalFits telegramFits headFits cellsFit waitingFit unusedZero classesFit contentFits andThen needs onRecord intOut quotient remainder dividing notVal onInts combined binaryVal written literalValue within ofType parameterVal variableAtCell reached elementAs elementVal readAs readVal clockWord clockVal evalIn evalStep evalF evalOf goOn thenOperand withRecord provided before nextValue valuesFrom thenValues areOf wordsIn localAt listFrom localsOf localsThere append armed clockSet fewer assigned hasVariable assignOf elementAssigned assignElementOf nameValues externalSendOf internalSendOf isVariable isPlainVariable armOf clockActOf entered callOf choiceOf runIn runStep runF runOf limitBy bodyFrom bodyWhere ranBodyWithin elementBody alone eventEndWithin defaultCell alike defaultCells elementCells cellsFrom defaultState hasHead elementThere elementsThere startNextWithin startFromWithin startedWithin oldestFrom oldest taking sameDeclared brought reactingWithin panickingWithin withNumber outside bodiesThere receivedWithin deliveredWithin deliverWithin corruptWithin innerWithin thenSlice fires ticks slicedCell slicedEach slicedVariable slicedCells slicedElement slicedFrom changeEnd slice restZero wellFormed kindOf isEvent happensAsWithin happensWithin ifPassed startCallBy eventCallBy
 start ss = startCall (sheetOf ss) (replicate (stateLength (sheetOf ss)) (pos 0))
 
 -- the machine alone, without the tests of sheet, state and event that a call makes before

@@ -20,7 +20,8 @@ use Rattle.machine.specs.declared.Out.the-variants.{Val, Refused, Stuck}
 use Rattle.sheet_rules.specs.Fields.{isField, declaredSo}
 use Rattle.sheet_rules.specs.Forms.{Form, literal, read, unary, binary, clock, readElement, skip, assign, externalSend, internalSend, arm, clockAct, call, choice, loop, sequence, assignElement, unknown, formOf, Literal, bool, int, member, component, port, self, literalOf, Binary, both, equal, less, plus, minus, times, div, modulo, binaryOf}
 use Rattle.sheet_rules.specs.Indices.{Index, plain, over, noIndex, indexAt, isPlain}
-use Rattle.sheet_rules.specs.Shape.{variablesAt, constantOf}
+use Rattle.sheet_rules.specs.Bindings.{constantBinding, constantField, constantOf}
+use Rattle.sheet_rules.specs.Shape.{variablesAt}
 use Rattle.sheet_rules.specs.Types.{variableAt, chartVariableIndex}
 use Rattle.machine_division.specs.Division.{quotient, remainder}
 use Rattle.machine.specs.Values.{fits32, isBelow, isZero, sameWord, inType}
@@ -102,11 +103,11 @@ literalValue e r = written e r (literalOf (operator r))
 unfoldable pub within : List ℕ → Value → ℕ → Out
 within s x l = needs (inType s (x .kind) (x .word)) (Val x l)
 
--- Where a body runs: the element, its chart and binding, the body.
+-- Where a body runs: the element, its chart, the number of its first binding record, the body.
 pub record Context : Type 0 where
   pub element : ℕ
   pub chart : Record
-  pub binding : Record
+  pub binding : ℕ
   pub body : Record
 
 -- variable n of the element's chart is there, and its type meets a test
@@ -127,7 +128,7 @@ onType s d K = onRecord (recordOf s declarations d) (λ r. K (declaredType r))
 
 -- "Reading a chart parameter doesn't visit its binding's node": the constant in the element's binding, a field from f1 on
 unfoldable pub parameterVal : List ℕ → Context → ℕ → ℕ → ℕ → Out
-parameterVal s x n t l = needs (isField (1 + n)) (onRecord (recordOf s nodes (constantOf (x .binding) n)) (λ r. needs (isLiteral (operator r)) (ofType t (literalValue (x .element) r) (within s (literalValue (x .element) r) l))))
+parameterVal s x n t l = needs (isField (constantField n)) (onRecord (constantBinding s (x .binding) n) (λ b. onRecord (recordOf s nodes (constantOf b n)) (λ r. needs (isLiteral (operator r)) (ofType t (literalValue (x .element) r) (within s (literalValue (x .element) r) l)))))
 
 -- "Parameters and locals together at most 16": a body's variables have that many words
 abbrev pub bodyWords : ℕ

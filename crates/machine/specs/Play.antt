@@ -22,7 +22,7 @@ use Rattle.machine.specs.declared.Ran.the-variants.{Done, Refused, Stuck
 use Rattle.sheet_rules.specs.Fields.{holds, numberOr0, declaredSo, typeAt, componentsOf, externalsOf, portsOf, elementsOf, inSection}
 use Rattle.sheet_rules.specs.Indices.{cellsTaken}
 use Rattle.sheet_rules.specs.Types.{reactsTo}
-use Rattle.machine.specs.Values.{isBelow, recordBy, isZero, sameWord, defaultOf, hasDefault, bindingOf, chartOf, firstCell}
+use Rattle.machine.specs.Values.{isBelow, recordBy, isZero, sameWord, defaultOf, hasDefault, bindingAt, chartOf, firstCell}
 use Rattle.machine.specs.State.{places, cellAt, stateLength, wordOf, waiting, telegramOf, putWords, Changed, on, off, lost, counted, appended, withoutTelegram, isInternal}
 use Rattle.machine.specs.Valid.{dataFit, nameFits, datumOf, contentFits}
 use Rattle.machine.specs.Run.{World, withRecord, provided, localsOf, localsThere, telegram, runOf}
@@ -77,11 +77,10 @@ reactsOn p n b = eqb (role b) externalReaction and eqb (reactionPort b) p and eq
 -- a body of element e runs, with data for its parameters: what is left of the limit, and the state
 unfoldable pub ranBodyWithin : List ℕ → ℕ → ℕ → Found → List ℤ → List ℤ → World
 ranBodyWithin s limit e f zs st =
-    withRecord (bindingOf s e) st [] (λ b.
     withRecord (chartOf s e) st [] (λ c.
     withRecord f st [] (λ d.
     provided (localsThere s d) st []
-    (runOf s 0 (record { element = e; chart = c; binding = b; body = d }) (root d) limit st (localsOf s d zs)))))
+    (runOf s 0 (record { element = e; chart = c; binding = bindingAt s e; body = d }) (root d) limit st (localsOf s d zs))))
 
 -- the body of element e's chart that meets a test
 unfoldable pub elementBody : List ℕ → ℕ → (Record → Bool) → Found

@@ -12,6 +12,7 @@ use Rattle.sheet.specs.All.{_and_}
 use Rattle.sheet.specs.Sheet.{recordOf}
 use Rattle.sheet_rules.specs.Fields.{numberOr0, declaredSo, sumBelow, componentsOf, externalsOf, portsOf, membersOf}
 use Rattle.sheet_rules.specs.DataTypes.{DataType, bool, int, component, port, enumeratedType, noData, dataTypeOf}
+use Rattle.sheet_rules.specs.Bindings.{firstBinding}
 use Rattle.sheet_rules.specs.Shape.{cellsBound}
 
 -- ---- words: 32-bit signed numbers
@@ -73,9 +74,12 @@ hasDefault s d = declaredSo s d (λ t. elim (isClock t) [ true ↦ true | false 
 unfoldable pub isBound : List ℕ → ℕ → Bool
 isBound s e = leb (externalsOf s) e and ltb e (componentsOf s)
 
--- "record i binds component f1+i of the head"
+-- the number of the first record that binds element e
+unfoldable pub bindingAt : List ℕ → ℕ → ℕ
+bindingAt s e = firstBinding s (e - externalsOf s)
+
 unfoldable pub bindingOf : List ℕ → ℕ → Found
-bindingOf s e = elim (isBound s e) [ true ↦ recordOf s bindings (e - externalsOf s) | false ↦ Absent ]
+bindingOf s e = elim (isBound s e) [ true ↦ recordOf s bindings (bindingAt s e) | false ↦ Absent ]
 
 unfoldable pub chartOf : List ℕ → ℕ → Found
 chartOf s e = elim (bindingOf s e) [ Present b ↦ recordOf s charts (boundChart b) | Absent ↦ Absent ]

@@ -22,7 +22,8 @@ use Rattle.machine.specs.declared.Telegram.{Telegram}
 use Rattle.sheet_rules.specs.Fields.{isField, fieldOf}
 use Rattle.sheet_rules.specs.Forms.{Form, literal, read, unary, binary, clock, readElement, skip, assign, externalSend, internalSend, arm, clockAct, call, choice, loop, sequence, assignElement, unknown, formOf, calledBody, Binary, both, equal, less, plus, minus, times, div, modulo, binaryOf}
 use Rattle.sheet_rules.specs.Indices.{indexAt, isPlain}
-use Rattle.sheet_rules.specs.Shape.{variablesAt, constantOf}
+use Rattle.sheet_rules.specs.Bindings.{constantBinding, constantField, constantOf}
+use Rattle.sheet_rules.specs.Shape.{variablesAt}
 use Rattle.sheet_rules.specs.Types.{variableAt, chartVariableIndex, clockOf}
 use Rattle.machine.specs.Values.{fits32, isZero, inType}
 use Rattle.machine.specs.State.{Changed, on, off, lost, appended}
@@ -105,9 +106,10 @@ within-in s v l = needs-in (inType s (v .kind) (v .word)) _ (suc l) (le-refl (su
 parameter-in : (s : List ℕ) (x : Context) (n t l : ℕ) → Within (suc l) (parameterVal s x n t l)
 unfolding parameterVal ofType
 parameter-in s x n t l =
-    needs-in (isField (1 + n)) _ (suc l)
-    (record-in (recordOf s nodes (constantOf (x .binding) n)) _ (suc l) (λ r.
-    needs-in (isLiteral (operator r)) _ (suc l) (needs-in (eqb (literalValue (x .element) r .kind) t) _ (suc l) (within-in s (literalValue (x .element) r) l))))
+    needs-in (isField (constantField n)) _ (suc l)
+    (record-in (constantBinding s (x .binding) n) _ (suc l) (λ b.
+    record-in (recordOf s nodes (constantOf b n)) _ (suc l) (λ r.
+    needs-in (isLiteral (operator r)) _ (suc l) (needs-in (eqb (literalValue (x .element) r .kind) t) _ (suc l) (within-in s (literalValue (x .element) r) l)))))
 
 module _ (s : List ℕ) (x : Context) (st lo : List ℤ) where
   read-in : (place n l : ℕ) → Within (suc l) (readVal s x st lo place n l)

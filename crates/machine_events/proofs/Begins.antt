@@ -7,8 +7,7 @@ use native.Mathlib.Omega.{arith}
 use lib.ListN.{replicate}
 use lib.IntN.{ℤ, pos}
 use borrow.Author.Tests.{eqb-true, lt-ltb, le-leb}
-use Rattle.sheet.specs.Names.{bindings, role, initial, root}
-use Rattle.sheet.specs.Sheet.{countOf}
+use Rattle.sheet.specs.Names.{role, initial, root}
 use Rattle.sheet.proofs.All.{and-true}
 use Rattle.sheet_rules.specs.declared.Checked.the-variants.{Passed}
 use Rattle.machine.specs.declared.Handed.the-variants.{Nothing}
@@ -24,15 +23,15 @@ use Rattle.machine.specs.Run.{World, localsOf}
 use Rattle.machine.specs.Play.{Outcome, ended, stuck, answer, limitOf, isInitial, elementBody, alone, ranBody, startNext, startNextWithin, startFrom, startFromWithin, started, startedWithin, defaultState}
 use Rattle.sheet_rules.specs.Check.{checkOf}
 use Rattle.machine_equations.proofs.Left.{RanWithin, run-left}
-use Rattle.machine_passed.proofs.Records.{elements-bound, elements-are, components-limit}
+use Rattle.machine_passed.proofs.Records.{elements-rest, components-limit}
 use Rattle.machine_passed.proofs.Charts.{bound-element, where-found, initial-there}
 use Rattle.machine_passed.proofs.Declared.{elements-there}
 use Rattle.machine_sound.specs.Gives.{Ends}
 use Rattle.machine_promise.proofs.Bodies.{body-of, ran-is, ran-ends, no-parameters, runs-alone}
 
-pub begins : (s : List ℕ) → checkOf s ≡ Passed → (n e : ℕ) (st : List ℤ) → n ≡ countOf s bindings → e ≡ externalsOf s → st ≡ defaultState s → started s ≡ startFrom s n e 0 st
+pub begins : (s : List ℕ) → checkOf s ≡ Passed → (n e : ℕ) (st : List ℤ) → n ≡ elementsOf s → e ≡ externalsOf s → st ≡ defaultState s → started s ≡ startFrom s n e 0 st
 unfolding startedWithin
-begins s ok n e st p q r = ap (λ b. elim b as (λ b. Outcome) [ true ↦ startFrom s (elementsOf s) (externalsOf s) 0 (defaultState s) | false ↦ stuck ]) (elements-there s ok) ∙ ap (λ n. startFrom s n (externalsOf s) 0 (defaultState s)) (elements-are s ok ∙ sym p) ∙ ap (λ e. startFrom s n e 0 (defaultState s)) (sym q) ∙ ap (startFrom s n e 0) (sym r)
+begins s ok n e st p q r = ap (λ b. elim b as (λ b. Outcome) [ true ↦ startFrom s (elementsOf s) (externalsOf s) 0 (defaultState s) | false ↦ stuck ]) (elements-there s ok) ∙ ap (λ n. startFrom s n (externalsOf s) 0 (defaultState s)) (sym p) ∙ ap (λ e. startFrom s n e 0 (defaultState s)) (sym q) ∙ ap (startFrom s n e 0) (sym r)
 
 pub ends : (s : List ℕ) (n e k : ℕ) (st : List ℤ) (a : Answer) → n ≡ 0 → a ≡ answer 0 k Nothing → ended a st ≡ startFrom s n e k st
 unfolding startFromWithin
@@ -68,13 +67,13 @@ module _ (s : List ℕ) (ok : checkOf s ≡ Passed) where
       )
 
   -- the body of element number i among those bound
-  module _ (first count most i : ℕ) (p : first ≡ externalsOf s) (q : count ≡ countOf s bindings) (m : most ≡ limitOf s) (l : i < count) where
+  module _ (first count most i : ℕ) (p : first ≡ externalsOf s) (q : count ≡ elementsOf s) (m : most ≡ limitOf s) (l : i < count) where
     pub few : first + count ≤ 64
-    few = omega (arith, elements-bound s ok, components-limit s ok)
+    few = omega (arith, elements-rest s ok, components-limit s ok)
 
     pub here-bound : isBound s (first + i) ≡ true
     unfolding isBound
-    here-bound = and-true _ _ (le-leb (externalsOf s) (first + i) (omega arith)) (lt-ltb (first + i) (componentsOf s) (omega (arith, elements-bound s ok)))
+    here-bound = and-true _ _ (le-leb (externalsOf s) (first + i) (omega arith)) (lt-ltb (first + i) (componentsOf s) (omega (arith, elements-rest s ok)))
 
     module _ (st : List ℤ) (o : OfSheet s st) (r : Ran) (st′ : List ℤ) (a : r ≡ first-run s (first + i) st .ran) (b : st′ ≡ first-run s (first + i) st .st) where
       context : Context

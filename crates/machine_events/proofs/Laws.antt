@@ -11,21 +11,19 @@ use Rattle.sheet.specs.declared.Record.{Record}
 use Rattle.sheet.specs.declared.Found.the-variants.{Present, Absent}
 use Rattle.sheet.specs.All.{_and_}
 use Rattle.sheet.specs.Table.{lookUp}
-use Rattle.sheet.specs.Names.{bindings, bodyParameters, root}
-use Rattle.sheet.specs.Sheet.{countOf}
+use Rattle.sheet.specs.Names.{bodyParameters, root}
 use Rattle.sheet.proofs.All.{and-first, and-second, and-true, false-and, and-false}
 use Rattle.sheet_rules.specs.declared.Checked.the-variants.{Passed, Shape, Static}
 use Rattle.machine.specs.declared.Telegram.{Telegram}
 use Rattle.machine.specs.declared.Handed.the-variants.{Nothing, Outside}
 use Rattle.sheet_rules.specs.Fields.{holds, externalsOf, elementsOf}
-use Rattle.machine.specs.Values.{isBelow, bindingOf, chartOf}
+use Rattle.machine.specs.Values.{isBelow, bindingAt, chartOf}
 use Rattle.machine.specs.State.{stateLength, wordOf, waiting, Changed, lost, counted, telegramOf, withoutTelegram}
 use Rattle.machine.specs.Valid.{nameFits, externalFits, telegramFits, contentFits}
 use Rattle.machine.specs.Kinds.{kindOf}
 use Rattle.machine.specs.Run.{withRecord, provided, runOf, datum, localAt, listFrom, localsOf, localsThere}
 use Rattle.machine.specs.Play.{Outcome, ended, answer, limitOf, bodyWhere, hasPanic, isInitial, reactsOn, ranBody, ranBodyWithin, elementBody, alone, eventEnd, bodyEvent, oldest, taking, brought, reacting, reactingWithin, panicking, panickingWithin, outside, bodiesThere, received, receivedWithin, delivered, deliveredWithin, deliver, corrupt, inner, changeEnd, isEvent, telegramOfEvent, slicedFrom, slice, happensAs, happensAsWithin, happens, happensWithin, turnedDown, ifPassed, started, startCall, startCallBy, eventCall, eventCallBy}
 use Rattle.sheet_rules.specs.Check.{checkOf}
-use Rattle.machine_passed.proofs.Records.{elements-are}
 use Rattle.machine_passed.proofs.Declared.{has-head}
 use Rattle.machine_promise.proofs.Events.{number-is}
 
@@ -92,7 +90,7 @@ no-data s b = ap (listFrom 16 0) (fun-ext (λ i. each i (ltb i (bodyParameters b
 
 ran-without : (s : List ℕ) (e : ℕ) (b : Record) (st : List ℤ) → ranBody s e (Present b) [] st ≡ ranBody s e (Present b) (pos 0 ∷ pos 0 ∷ pos 0 ∷ pos 0 ∷ []) st
 unfolding ranBodyWithin withRecord
-ran-without s e b st = ap (λ lo. withRecord (bindingOf s e) st [] (λ a. withRecord (chartOf s e) st [] (λ c. provided (localsThere s b) st [] (runOf s 0 (record { element = e; chart = c; binding = a; body = b }) (root b) (limitOf s) st lo)))) (no-data s b)
+ran-without s e b st = ap (λ lo. withRecord (chartOf s e) st [] (λ c. provided (localsThere s b) st [] (runOf s 0 (record { element = e; chart = c; binding = bindingAt s e; body = b }) (root b) (limitOf s) st lo))) (no-data s b)
 
 -- the panic body runs without data
 pub panicking-is : (s : List ℕ) (old : List ℤ) (e : ℕ) (st : List ℤ) (b : Record) → alone (elementBody s e hasPanic) ≡ Present b → panicking s old e st ≡ bodyEvent s old e (Present b) (pos 0 ∷ pos 0 ∷ pos 0 ∷ pos 0 ∷ []) st
@@ -168,9 +166,9 @@ module _ (s : List ℕ) (old result ev : List ℤ) where
 -- ---- the five kinds
 
 -- a slice goes over the bound elements
-pub slice-is : (s : List ℕ) → checkOf s ≡ Passed → (st : List ℤ) → slice s st ≡ changeEnd st (slicedFrom s (countOf s bindings) (externalsOf s) st)
+pub slice-is : (s : List ℕ) → checkOf s ≡ Passed → (st : List ℤ) → slice s st ≡ changeEnd st (slicedFrom s (elementsOf s) (externalsOf s) st)
 unfolding slice
-slice-is s ok st = ap (λ b. changeEnd st (elim b as (λ b. Changed) [ true ↦ slicedFrom s (elementsOf s) (externalsOf s) st | false ↦ lost ])) (has-head s ok) ∙ ap (λ n. changeEnd st (slicedFrom s n (externalsOf s) st)) (elements-are s ok)
+slice-is s ok st = ap (λ b. changeEnd st (elim b as (λ b. Changed) [ true ↦ slicedFrom s (elementsOf s) (externalsOf s) st | false ↦ lost ])) (has-head s ok)
 
 module _ (s : List ℕ) (st ev : List ℤ) where
   -- an event whose first word is so much

@@ -12,7 +12,8 @@ use Rattle.sheet.specs.Names
 use Rattle.sheet_rules.specs.Fields.{isField}
 use Rattle.sheet_rules.specs.Forms.{Form, literal, read, unary, binary, clock, readElement, skip, assign, externalSend, internalSend, arm, clockAct, call, choice, loop, sequence, assignElement, unknown, formOf}
 use Rattle.sheet_rules.specs.Indices.{isPlain}
-use Rattle.sheet_rules.specs.Shape.{variablesAt, constantOf}
+use Rattle.sheet_rules.specs.Bindings.{constantField, constantOf}
+use Rattle.sheet_rules.specs.Shape.{variablesAt}
 use Rattle.sheet_rules.specs.Types.{variableAt}
 use Rattle.machine.specs.declared.Out.{Out}
 use Rattle.machine.specs.declared.Out.the-variants.{Val, Refused, Stuck}
@@ -22,6 +23,7 @@ use Rattle.machine.specs.Eval.{andThen, needs, onRecord, val, literalValue, wit
 use Rattle.sheet_limits.specs.ButLimit.{ButLimit}
 use Rattle.sheet_limits.proofs.Fields.{same-declaredSo}
 use Rattle.sheet_limits.proofs.Indices.{same-indexAt}
+use Rattle.sheet_limits.proofs.Bindings.{same-constantBinding}
 use Rattle.sheet_limits.proofs.Records.{same-declarations, same-nodes}
 use Rattle.sheet_limits.proofs.Types.{same-chartVariableIndex}
 use Rattle.machine_limits.proofs.State.{same-cellOf}
@@ -45,7 +47,7 @@ module _ {s s′ : List ℕ} (h : ButLimit s s′) where
 
   pub same-parameterVal : parameterVal s ≡ parameterVal s′
   unfolding parameterVal
-  same-parameterVal = λ q x n t l. needs (isField (1 + n)) (onRecord (same-nodes h q (constantOf (x .binding) n)) (λ r. needs (isLiteral (operator r)) (ofType t (literalValue (x .element) r) (same-within q (literalValue (x .element) r) l))))
+  same-parameterVal = λ q x n t l. needs (isField (constantField n)) (onRecord (same-constantBinding h q (x .binding) n) (λ b. onRecord (same-nodes h q (constantOf b n)) (λ r. needs (isLiteral (operator r)) (ofType t (literalValue (x .element) r) (same-within q (literalValue (x .element) r) l)))))
 
   pub same-variableAtCell : variableAtCell s ≡ variableAtCell s′
   unfolding variableAtCell

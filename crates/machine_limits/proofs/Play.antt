@@ -30,7 +30,7 @@ use Rattle.sheet_limits.proofs.Records.{same-bodies, same-countOf, same-declara
 use Rattle.machine_limits.proofs.Run.{same-localsOf, same-localsThere, same-runOf}
 use Rattle.machine_limits.proofs.State.{same-appended, same-stateLength, same-telegramOf, same-withoutTelegram}
 use Rattle.machine_limits.proofs.Valid.{same-dataFit, same-nameFits}
-use Rattle.machine_limits.proofs.Values.{same-bindingOf, same-chartOf, same-defaultOf, same-firstCell, same-hasDefault, same-namesBy}
+use Rattle.machine_limits.proofs.Values.{same-bindingAt, same-chartOf, same-defaultOf, same-firstCell, same-hasDefault, same-namesBy}
 
 module _ {s s′ : List ℕ} (h : ButLimit s s′) where
   pub same-hasHead : hasHead s ≡ hasHead s′
@@ -52,11 +52,10 @@ module _ {s s′ : List ℕ} (h : ButLimit s s′) where
   pub same-ranBodyWithin : ranBodyWithin s ≡ ranBodyWithin s′
   unfolding ranBodyWithin
   same-ranBodyWithin = λ q limit e f zs st.
-      withRecord (same-bindingOf h q e) st [] (λ b.
       withRecord (same-chartOf h q e) st [] (λ c.
       withRecord f st [] (λ d.
       provided (same-localsThere h q d) st []
-      (same-runOf h q 0 (record { element = e; chart = c; binding = b; body = d }) (root d) limit st (same-localsOf h q d zs)))))
+      (same-runOf h q 0 (record { element = e; chart = c; binding = same-bindingAt h q e; body = d }) (root d) limit st (same-localsOf h q d zs))))
 
   pub same-elementBody : elementBody s ≡ elementBody s′
   unfolding elementBody

@@ -10,10 +10,11 @@ use Rattle.sheet.specs.Names.{defaultMember, boundChart, isClock, names}
 use Rattle.sheet.specs.All.{_and_}
 use Rattle.sheet_rules.specs.Fields.{numberOr0, sumBelow}
 use Rattle.sheet_rules.specs.DataTypes.{DataType, bool, int, component, port, enumeratedType, noData, dataTypeOf}
-use Rattle.machine.specs.Values.{fits32, isBelow, recordBy, inDataType, inType, defaultIn, defaultOf, hasDefault, isBound, bindingOf, chartOf, firstCell}
+use Rattle.machine.specs.Values.{fits32, isBelow, recordBy, inDataType, inType, defaultIn, defaultOf, hasDefault, isBound, bindingAt, bindingOf, chartOf, firstCell}
 use Rattle.sheet_limits.specs.ButLimit.{ButLimit}
 use Rattle.sheet_limits.proofs.Fields.{same-componentsOf, same-declaredSo, same-externalsOf, same-membersOf, same-portsOf}
 use Rattle.sheet_limits.proofs.Records.{same-bindings, same-charts, same-enumeratedTypes, same-recordOf}
+use Rattle.sheet_limits.proofs.Bindings.{same-firstBinding}
 use Rattle.sheet_limits.proofs.Shape.{same-cellsBound}
 
 module _ {s s′ : List ℕ} (h : ButLimit s s′) where
@@ -69,9 +70,13 @@ module _ {s s′ : List ℕ} (h : ButLimit s s′) where
   unfolding isBound
   same-isBound = λ q e. leb (same-externalsOf h q) e and ltb e (same-componentsOf h q)
 
+  pub same-bindingAt : bindingAt s ≡ bindingAt s′
+  unfolding bindingAt
+  same-bindingAt = λ q e. same-firstBinding h q (e - same-externalsOf h q)
+
   pub same-bindingOf : bindingOf s ≡ bindingOf s′
   unfolding bindingOf
-  same-bindingOf = λ q e. elim (same-isBound q e) [ true ↦ same-bindings h q (e - same-externalsOf h q) | false ↦ Absent ]
+  same-bindingOf = λ q e. elim (same-isBound q e) [ true ↦ same-bindings h q (same-bindingAt q e) | false ↦ Absent ]
 
   pub same-chartOf : chartOf s ≡ chartOf s′
   unfolding chartOf

@@ -13,18 +13,19 @@ use Rattle.sheet.specs.All.{_and_, allBelow}
 use Rattle.sheet.specs.Names.{charts, bodies, bindings, chartBodies, role, initial, panic, root, boundChart}
 use Rattle.sheet.specs.Sheet.{recordOf}
 use Rattle.sheet.proofs.All.{true-false, not-so, and-true, and-first, and-second, all-at}
-use Rattle.sheet.proofs.Sheet.{record-present}
 use Rattle.sheet_rules.specs.declared.Checked.the-variants.{Passed}
 use Rattle.sheet_rules.specs.Fields.{holds, oneIf, sumBelow, countBelow, externalsOf, componentsOf, elementsOf}
-use Rattle.sheet_rules.specs.Shape.{treeShape, treesShape, bindingShape}
+use Rattle.sheet_rules.specs.Bindings.{chartBound}
+use Rattle.sheet_rules.specs.Shape.{treeShape, treesShape, constantsShape, recordsShape, bindingShape}
 use Rattle.sheet_rules.specs.Types.{reactsTo, hasReaction}
-use Rattle.sheet_rules.specs.Static.{bodyOf, hasRole, bodiesWith, bodyStatic, bodiesStatic, chartStatic, noTwin}
-use Rattle.machine.specs.Values.{isBound, bindingOf, chartOf}
+use Rattle.sheet_rules.specs.Static.{bodyOf, hasRole, bodiesWith, bodyStatic, bodiesStatic, chartStatic, noTwin, constantsStatic, bindingStatic}
+use Rattle.machine.specs.Values.{isBound, bindingAt, bindingOf, chartOf}
 use Rattle.machine.specs.Play.{bodyFrom, bodyWhere, isInitial, hasPanic}
 use Rattle.sheet_rules.specs.Check.{checkOf}
 use Rattle.sheet_rules.proofs.Fields.{holds-present}
+use Rattle.sheet_rules.proofs.Bindings.{bound-chart, first-most}
 use Rattle.machine_passed.specs.Places.{InChart, Element}
-use Rattle.machine_passed.proofs.Records.{held, one-record, elements-bound, binding-shape, chart-static, trees-shape}
+use Rattle.machine_passed.proofs.Records.{held, one-record, elements-rest, components-limit, binding-shape, binding-static, chart-static, trees-shape}
 
 -- ---- elements
 
@@ -44,11 +45,11 @@ module _ (s : List ℕ) (e : ℕ) where
   unfolding chartOf
   element-chart b c x = rw (chartOf, element-binding b c x) (x .chart)
 
-  binding-element : (b : Record) → bindingOf s e ≡ Present b → (isBound s e ≡ true) × (recordOf s bindings (e - externalsOf s) ≡ Present b)
+  binding-element : (b : Record) → bindingOf s e ≡ Present b → (isBound s e ≡ true) × (recordOf s bindings (bindingAt s e) ≡ Present b)
   unfolding bindingOf
   binding-element b h = go (isBound s e) refl h
     where
-      go : (t : Bool) → isBound s e ≡ t → _≡_ {A = Found} (elim t [ true ↦ recordOf s bindings (e - externalsOf s) | false ↦ Absent ]) (Present b) → (isBound s e ≡ true) × (recordOf s bindings (e - externalsOf s) ≡ Present b)
+      go : (t : Bool) → isBound s e ≡ t → _≡_ {A = Found} (elim t [ true ↦ recordOf s bindings (bindingAt s e) | false ↦ Absent ]) (Present b) → (isBound s e ≡ true) × (recordOf s bindings (bindingAt s e) ≡ Present b)
       go true q h = (q, h)
       go false q h = no-record h
 
@@ -59,6 +60,11 @@ module _ (s : List ℕ) (e : ℕ) where
       go : (f : Found) → bindingOf s e ≡ f → _≡_ {A = Found} (elim f [ Present b ↦ recordOf s charts (boundChart b) | Absent ↦ Absent ]) (Present c) → (b : Record) × Element s e b c
       go (Present b) q h = let p = binding-element b q in (b, record { bound = p .0; binding = p .1; chart = h })
       go Absent q h = no-record h
+
+  -- the chart of a bound element is the one that its first record names
+  pub chart-of : isBound s e ≡ true → chartBound s (bindingAt s e) ≡ chartOf s e
+  unfolding chartBound chartOf bindingOf
+  chart-of h = rw (chartOf, bindingOf, h) refl
 
 -- the elements are the components from the first bound one on
 pub number-bound : (s : List ℕ) (i : ℕ) → i < elementsOf s → isBound s (externalsOf s + i) ≡ true
@@ -140,14 +146,38 @@ reaction-there s c n e = let m = some-reacts s c n e in where-some s (reactsTo n
 -- ---- a passed sheet
 
 module _ (s : List ℕ) (ok : checkOf s ≡ Passed) where
-  pub bound-element : (e : ℕ) → isBound s e ≡ true → (b : Record) × (c : Record) × Element s e b c
-  unfolding isBound bindingShape bindingOf
-  bound-element e h =
+  -- the number of an element among those bound
+  bound-number : (e : ℕ) → isBound s e ≡ true → e - externalsOf s < elementsOf s
+  unfolding isBound elementsOf
+  bound-number e h =
       let low : externalsOf s ≤ e = leb-true _ _ (and-first _ _ h) in
       let high : e < componentsOf s = ltb-true _ _ (and-second _ _ h) in
-      let p = record-present s bindings (e - externalsOf s) (omega (arith, elements-bound s ok)) in
-      let q = held _ _ (binding-shape s ok _ _ p) in
-      (_, q .0, record { bound = h; binding = p; chart = q .1 })
+      omega arith
+
+  pub bound-element : (e : ℕ) → isBound s e ≡ true → (b : Record) × (c : Record) × Element s e b c
+  unfolding bindingShape bindingAt
+  bound-element e h =
+      let p = held _ _ (binding-shape s ok (e - externalsOf s) (bound-number e h)) in
+      let q = held _ _ (p .2) in
+      (p .0, q .0, record { bound = h; binding = p .1; chart = q .1 })
+
+  module _ (e : ℕ) (b c : Record) (x : Element s e b c) where
+    element-bound-to : chartBound s (bindingAt s e) ≡ Present c
+    element-bound-to = bound-chart s (bindingAt s e) b (x .binding) ∙ x .chart
+
+    -- an element's constants
+    pub element-constants : constantsShape s (bindingAt s e) c ≡ true
+    unfolding bindingShape recordsShape bindingAt
+    element-constants = and-first _ _ (sym (holds-present _ c _ (x .chart)) ∙ sym (holds-present _ b _ (x .binding)) ∙ binding-shape s ok (e - externalsOf s) (bound-number e (x .bound)))
+
+    pub element-types : constantsStatic s (bindingAt s e) c ≡ true
+    unfolding bindingStatic bindingAt
+    element-types = sym (holds-present _ c _ element-bound-to) ∙ binding-static s ok (e - externalsOf s) (bound-number e (x .bound))
+
+    -- the numbers of binding records are small
+    pub element-low : bindingAt s e ≤ 128
+    unfolding bindingAt
+    element-low = omega (arith, first-most s (e - externalsOf s) .1, bound-number e (x .bound), elements-rest s ok, components-limit s ok)
 
   module _ (k : ℕ) (c : Record) (chart : recordOf s charts k ≡ Present c) where
     bodies-static : bodiesStatic s c ≡ true

@@ -17,10 +17,11 @@ pub use Rattle.sheet.proofs.Sheet.{present-below}
 use Rattle.sheet_rules.specs.declared.Checked.{Checked}
 use Rattle.sheet_rules.specs.declared.Checked.the-variants.{Passed, Shape, Static}
 use Rattle.sheet_rules.specs.Fields.{holds, numberOr0, typeAt, componentsOf, externalsOf, portsOf, elementsOf}
+use Rattle.sheet_rules.specs.Bindings.{firstBinding, elementsBoundIn}
 use Rattle.sheet_rules.specs.Shape.{headShape, enumeratedShape, typeExists, declarationShape, nameShape, chartShape, bodyShape, bindingShape, elementsBound, cellsOf, treesShape, recordShape}
-use Rattle.sheet_rules.specs.Static.{declarationStatic, nameStatic, chartStatic, bindingStatic, recordStatic, sectionStatic, static}
+use Rattle.sheet_rules.specs.Static.{declarationStatic, nameStatic, chartStatic, bindingStatic, recordStatic, static}
 use Rattle.sheet_rules.specs.Check.{nodesShape, sectionsShape, shapeWith, shape, checkOf, checkNumber}
-use Rattle.sheet_rules.proofs.Shape.{record-shaped}
+use Rattle.sheet_rules.proofs.Shape.{record-shaped, binding-shaped, record-ruled, binding-ruled}
 use Rattle.sheet_rules.proofs.Fields.{holds-present, number-present}
 
 -- ---- a record that is there
@@ -68,13 +69,17 @@ module _ (s : List ℕ) (ok : checkOf s ≡ Passed) where
   unfolding shape shapeWith
   sections = and-first _ _ (and-second _ _ (and-second _ _ shaped))
 
-  pub elements-bound : externalsOf s + countOf s bindings ≡ componentsOf s
+  elements-bound : externalsOf s + elementsBoundIn s ≡ componentsOf s
   unfolding shape shapeWith elementsBound
   elements-bound = eqb-true _ _ (and-first _ _ (and-second _ _ (and-second _ _ (and-second _ _ (and-second _ _ shaped)))))
 
-  pub elements-are : elementsOf s ≡ countOf s bindings
+  elements-are : elementsOf s ≡ elementsBoundIn s
   unfolding elementsOf
   elements-are = omega (arith, elements-bound)
+
+  -- "The rest are bound elements"
+  pub elements-rest : externalsOf s + elementsOf s ≡ componentsOf s
+  elements-rest = omega (arith, elements-bound, elements-are)
 
   pub cells-limit : cellsOf s ≤ 512
   unfolding shape shapeWith
@@ -86,13 +91,12 @@ module _ (s : List ℕ) (ok : checkOf s ≡ Passed) where
 
   -- ---- each record
 
-  module _ (k n : ℕ) (r : Record) (below : k < 8) (e : recordOf s k n ≡ Present r) where
+  module _ (k n : ℕ) (r : Record) (below : k < bindings) (e : recordOf s k n ≡ Present r) where
     record-shape : recordShape s k n r ≡ true
     record-shape = record-shaped s sections k n r below e
 
     record-static : recordStatic s k r ≡ true
-    unfolding static sectionStatic
-    record-static = sym (holds-present (recordOf s k n) r (recordStatic s k) e) ∙ all-at (countOf s k) _ (all-at 8 (sectionStatic s) ruled k below) n (present-below s k n r e)
+    record-static = record-ruled s ruled k n r below e
 
   module _ (n : ℕ) (r : Record) where
     pub type-shape : recordOf s enumeratedTypes n ≡ Present r → enumeratedShape r ≡ true
@@ -115,10 +119,6 @@ module _ (s : List ℕ) (ok : checkOf s ≡ Passed) where
     unfolding recordShape lookUp
     body-shape e = record-shape 5 n r (omega arith) e
 
-    pub binding-shape : recordOf s bindings n ≡ Present r → bindingShape s r ≡ true
-    unfolding recordShape lookUp
-    binding-shape e = record-shape 7 n r (omega arith) e
-
     pub trees-shape : recordOf s charts n ≡ Present r → treesShape s r ≡ true
     unfolding nodesShape
     trees-shape e = sym (holds-present (recordOf s charts n) r (treesShape s) e) ∙ all-at (countOf s charts) _ trees n (present-below s charts n r e)
@@ -135,9 +135,12 @@ module _ (s : List ℕ) (ok : checkOf s ≡ Passed) where
     unfolding recordStatic lookUp
     chart-static e = record-static 4 n r (omega arith) e
 
-    pub binding-static : recordOf s bindings n ≡ Present r → bindingStatic s r ≡ true
-    unfolding recordStatic lookUp
-    binding-static e = record-static 7 n r (omega arith) e
+  -- an element's binding
+  pub binding-shape : (i : ℕ) → i < elementsOf s → bindingShape s (firstBinding s i) ≡ true
+  binding-shape i l = binding-shaped s sections i (omega (arith, elements-are))
+
+  pub binding-static : (i : ℕ) → i < elementsOf s → bindingStatic s (firstBinding s i) ≡ true
+  binding-static i l = binding-ruled s ruled i (omega (arith, elements-are))
 
   -- ---- the head
 

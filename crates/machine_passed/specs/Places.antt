@@ -1,5 +1,5 @@
 -- Where a body runs on a passed sheet, and what its variables hold.
-use Prim.Native.Nat.{ℕ, _+_, _-_, _<_, _≤_}
+use Prim.Native.Nat.{ℕ, _+_, _<_, _≤_}
 use mathlib.Core.Path.{_≡_}
 use mathlib.Core.List.{List}
 use mathlib.Core.Bool.{Bool, true, false}
@@ -10,11 +10,11 @@ use Rattle.sheet.specs.declared.Record.{Record}
 use Rattle.sheet.specs.declared.Found.the-variants.{Present, Absent}
 use Rattle.sheet.specs.Names.{charts, bodies, bindings, chartVariables, chartBodies, bodyParameters, bodyLocals, boundChart, bodyVariable}
 use Rattle.sheet.specs.Sheet.{recordOf}
-use Rattle.sheet_rules.specs.Fields.{typeAt, externalsOf}
+use Rattle.sheet_rules.specs.Fields.{typeAt}
 use Rattle.sheet_rules.specs.Indices.{cellsTaken}
 use Rattle.sheet_rules.specs.Types.{variableAt}
 use Rattle.sheet_rules.specs.Static.{bodyOf}
-use Rattle.machine.specs.Values.{inType, isBound}
+use Rattle.machine.specs.Values.{inType, isBound, bindingAt}
 use Rattle.machine.specs.State.{cellOf, wordOf}
 use Rattle.machine.specs.Valid.{cellFits}
 use Rattle.machine.specs.Eval.{Context}
@@ -26,15 +26,17 @@ pub record InChart (s : List ℕ) (c b : Record) : Type 0 where
   pub below : number < chartBodies c .count
   pub there : bodyOf s c number ≡ Present b
 
--- element e with its binding and its chart
+-- element e with its first binding record and its chart
 pub record Element (s : List ℕ) (e : ℕ) (b c : Record) : Type 0 where
   pub bound : isBound s e ≡ true
-  pub binding : recordOf s bindings (e - externalsOf s) ≡ Present b
+  pub binding : recordOf s bindings (bindingAt s e) ≡ Present b
   pub chart : recordOf s charts (boundChart b) ≡ Present c
 
 -- a body of an element's chart
 pub record Placed (s : List ℕ) (x : Context) : Type 0 where
-  pub element : Element s (x .element) (x .binding) (x .chart)
+  pub bound : Record
+  pub element : Element s (x .element) bound (x .chart)
+  pub binding : x .binding ≡ bindingAt s (x .element)
   pub body : InChart s (x .chart) (x .body)
 
 -- the body's variables, parameters first, each of its declared type; they have 16 words

@@ -23,7 +23,7 @@ use Rattle.sheet_rules.specs.Fields.{holds, typeAt}
 use Rattle.sheet_rules.specs.Shape.{isReaction}
 use Rattle.sheet_rules.specs.Types.{nameRange}
 use Rattle.sheet_rules.specs.Static.{sameTypes, reactionStatic, roleStatic, bodyStatic}
-use Rattle.machine.specs.Values.{isBelow, recordBy, inType}
+use Rattle.machine.specs.Values.{isBelow, recordBy, inType, bindingAt}
 use Rattle.machine.specs.Valid.{dataFit, datumOf, OfSheet}
 use Rattle.machine.specs.Eval.{Context}
 use Rattle.machine.specs.Run.{withRecord, provided, localsOf, datum, runOf}
@@ -31,7 +31,7 @@ use Rattle.machine.specs.Play.{limitOf, bodyWhere, hasPanic, ranBody, ranBodyWi
 use Rattle.sheet_rules.specs.Check.{checkOf}
 use Rattle.sheet_rules.proofs.Fields.{holds-present}
 use Rattle.machine_passed.specs.Places.{InChart, Element, Placed}
-use Rattle.machine_passed.proofs.Charts.{element-binding, element-chart, where-found, body-static, panic-there}
+use Rattle.machine_passed.proofs.Charts.{element-chart, where-found, body-static, panic-there}
 use Rattle.machine_passed.proofs.Declared.{all-true, declared-so, declared-true, name-declared, parameter-declared, locals-there}
 use Rattle.machine_sound.specs.Gives.{Ends}
 use Rattle.machine_sound.proofs.Data.{range-of, few-data}
@@ -49,17 +49,17 @@ module _ (s : List ℕ) (ok : checkOf s ≡ Passed) (e : ℕ) (b c : Record) (x 
   -- a body of the element's chart
   module _ (d : Record) (i : InChart s c d) where
     abbrev context : Context
-    context = record { element = e; chart = c; binding = b; body = d }
+    context = record { element = e; chart = c; binding = bindingAt s e; body = d }
 
     placed : Placed s context
-    placed = record { element = x; body = i }
+    placed = record { bound = b; element = x; binding = refl; body = i }
 
     abbrev Parameters : List ℤ → Type 0
     Parameters zs = (j : ℕ) → j < bodyParameters d .count → inType s (typeAt s (bodyParameters d .first + j)) (datum zs j) ≡ true
 
     pub ran-is : (zs st : List ℤ) → ranBody s e (Present d) zs st ≡ runOf s 0 context (root d) (limitOf s) st (localsOf s d zs)
     unfolding ranBodyWithin withRecord provided
-    ran-is zs st = rw (ranBodyWithin, element-binding s e b c x, element-chart s e b c x, locals-there s ok _ c (x .chart) d i) refl
+    ran-is zs st = rw (ranBodyWithin, element-chart s e b c x, locals-there s ok _ c (x .chart) d i) refl
 
     pub ran-ends : (zs st : List ℤ) → OfSheet s st → Parameters zs → Ends s context (ranBody s e (Present d) zs st .ran) (ranBody s e (Present d) zs st .st) (ranBody s e (Present d) zs st .lo)
     ran-ends zs st o p = subst (λ w. Ends s context (w .ran) (w .st) (w .lo)) (sym (ran-is zs st)) (body-ends s ok 0 context (limitOf s) st (localsOf s d zs) placed o (fresh-locals s ok context placed zs p))

@@ -22,7 +22,7 @@ use Rattle.machine.specs.Valid.{OfSheet}
 use Rattle.machine.specs.Eval.{Context}
 use Rattle.machine.specs.Play.{Outcome, stuck, isInitial, ranBody, alone, defaultState, startNext, startNextWithin, startFrom, startFromWithin, started, startedWithin, turnedDown, ifPassed, startCall, startCallBy}
 use Rattle.sheet_rules.specs.Check.{checkOf}
-use Rattle.machine_passed.proofs.Records.{elements-bound, elements-are}
+use Rattle.machine_passed.proofs.Records.{elements-rest}
 use Rattle.machine_passed.proofs.Charts.{bound-element, where-found, initial-there}
 use Rattle.machine_passed.proofs.Declared.{elements-there}
 use Rattle.machine_states.proofs.Default.{default-of-sheet}
@@ -59,4 +59,4 @@ module _ (s : List ℕ) (ok : checkOf s ≡ Passed) where
   unfolding startedWithin
   start-kept lent h =
       subst (StartKept s) (sym (called lent h ∙ ap (λ b. elim b as (λ b. Outcome) [ true ↦ startFrom s (elementsOf s) (externalsOf s) 0 (defaultState s) | false ↦ stuck ]) (elements-there s ok)))
-      (from-kept (elementsOf s) (externalsOf s) 0 (defaultState s) (omega arith) (omega (arith, elements-bound s ok, elements-are s ok)) (default-of-sheet s ok))
+      (from-kept (elementsOf s) (externalsOf s) 0 (defaultState s) (omega arith) (omega (arith, elements-rest s ok)) (default-of-sheet s ok))

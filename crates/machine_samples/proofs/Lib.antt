@@ -3,3 +3,4 @@ pub mod Leftward
 pub mod NotPassed
 pub mod Classes
 pub mod Limits
+pub mod Parameters

@@ -7,7 +7,7 @@ use Rattle.machine.specs.Play.{stuck}
 use Rattle.machine.specs.declared.Ran.the-variants.{Done, Stuck}
 use Rattle.sheet_rules.proofs.Samples.{rec3, rec6, body}
 use Rattle.machine.proofs.Samples.{answered, row, waits, sent}
-use Rattle.machine.proofs.NotPassed.{ranged, testing, reading, begun, happened, meets, sliced, cell, told, declaring, bodied, reacting, telegram, internal, doing, holding, limited, both, half, headless, corrupted, firing, sends}
+use Rattle.machine.proofs.NotPassed.{ranged, testing, reading, begun, happened, meets, sliced, cell, told, declaring, bodied, reacting, telegram, internal, doing, holding, boundTwice, dividing, limited, both, half, headless, corrupted, firing, sends}
 
 -- ---- declarations that are absent, or whose type has no default
 
@@ -189,10 +189,20 @@ call-five-refused : told (begun (doing 18 5 (rec6 40 2 0 0 2 0))) ≡ row 6 4 0
 unfolding told begun
 call-five-refused = refl
 
--- 7 read of a chart's seventh parameter, and of the eighth, for which a binding has no field
+-- 7 read of a chart's seventh parameter, where the eighth's binding record is absent
 parameter-seventh : told (begun (holding 8 0 (reading 0 6))) ≡ row 0 5 0
 unfolding told begun
 parameter-seventh = refl
+
+-- with two binding records 1 div the seventh parameter, and the eighth, which is 0
+seventh-first : told (begun (boundTwice 8 (dividing 6))) ≡ row 0 9 0
+unfolding told begun
+seventh-first = refl
+
+-- the fourteenth, and the fifteenth, for which the second record has no field
+parameter-fourteenth : told (begun (boundTwice 14 (reading 0 13))) ≡ row 0 5 0
+unfolding told begun
+parameter-fourteenth = refl
 
 -- "Parameters and locals together at most 16": 7 read, and 33 assign, of the sixteenth and the seventeenth
 read-sixteenth : told (begun (holding 0 17 (reading 2 15))) ≡ row 0 5 0

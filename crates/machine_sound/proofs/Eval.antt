@@ -24,21 +24,24 @@ use Rattle.sheet_rules.specs.declared.Checked.the-variants.{Passed}
 use Rattle.sheet_rules.specs.declared.Operands.{Operands}
 use Rattle.sheet_rules.specs.Fields.{fieldOf, typeAt, componentsOf}
 use Rattle.sheet_rules.specs.Forms.{Form, literal, read, unary, binary, clock, readElement, skip, assign, externalSend, internalSend, arm, clockAct, call, choice, loop, sequence, assignElement, unknown, formOf, operandsIn, operandsOf, operandAt, operandCount}
-use Rattle.sheet_rules.specs.Shape.{chartShape, variablesAt, fieldsShape, treeShape, constantShape, constantsShape, bindingShape}
+use Rattle.sheet_rules.specs.Shape.{chartShape, variablesAt, fieldsShape, treeShape, constantShape, constantsShape}
 use Rattle.sheet_rules.specs.DataTypes.{dataTypeOf}
 use Rattle.sheet_rules.specs.Indices.{indexAt, isPlain, cellsTaken}
 use Rattle.sheet_rules.specs.Types.{literalType, variableAt, chartVariableIndex, readElementType, assignElementType, readType, clockType, lowerType, typeIn, typeStep, typeOf, assignType, externalType, internalType, armType, clockActType, callType, choiceType, loopType, sequenceType}
-use Rattle.sheet_rules.specs.Static.{constantStatic, constantsStatic, bindingStatic}
+use Rattle.sheet_rules.specs.Static.{constantStatic, constantsStatic}
 use Rattle.machine.specs.Values.{fits32, isBelow, isZero, inDataType, inType, isBound}
 use Rattle.machine.specs.State.{cellOf, wordOf}
 use Rattle.machine.specs.Valid.{zeroWords, runningClock, clockCell, cellFits}
 use Rattle.machine.specs.Eval.{needs, onRecord, val, notVal, literalValue, within, ofType, Context, isVariable, isPlainVariable, Reached, inside, outOfRange, unfit, reached, elementAs, elementVal, onType, bodyWords, parameterVal, variableAtCell, readAs, readVal, clockWord, clockVal, evalIn, evalOf}
 use Rattle.sheet_rules.specs.Check.{checkOf}
+use Rattle.sheet_rules.specs.Bindings.{constantBinding}
 use Rattle.sheet_rules.proofs.Fields.{holds-present}
+use Rattle.sheet_rules.proofs.Bindings.{constant-inside}
 use Rattle.sheet_rules.proofs.Types.{type-step, lower-type}
 use Rattle.machine_equations.proofs.Eval.{eval-none, eval-visit}
 use Rattle.machine_passed.specs.Places.{Placed, Locals, Cells}
-use Rattle.machine_passed.proofs.Records.{held, chart-shape, binding-shape, binding-static}
+use Rattle.machine_passed.proofs.Records.{held, chart-shape}
+use Rattle.machine_passed.proofs.Charts.{element-constants, element-types}
 use Rattle.machine_passed.proofs.Declared.{declared-record, declared-so, chart-variable-declared, variable-declared}
 use Rattle.machine_sound.specs.Gives.{Gives}
 use Rattle.machine_passed.proofs.Indices.{has-cell, clock-plain}
@@ -61,7 +64,7 @@ module _ (s : List ℕ) (ok : checkOf s ≡ Passed) (x : Context) (placed : Plac
   unfolding isBound
   below-components = ltb-true _ _ (and-second _ _ (placed .element .bound))
 
-  pub few-parameters : chartParameters (x .chart) .count ≤ 7
+  pub few-parameters : chartParameters (x .chart) .count ≤ 14
   unfolding chartShape
   few-parameters = leb-true _ _ (and-first _ _ (and-second _ _ (chart-shape s ok _ _ (placed .element .chart))))
 
@@ -70,17 +73,16 @@ module _ (s : List ℕ) (ok : checkOf s ≡ Passed) (x : Context) (placed : Plac
   module _ (n t l : ℕ) where
     -- a chart parameter is the constant in the element's binding
     parameter-gives : n < chartParameters (x .chart) .count → typeAt s (chartParameters (x .chart) .first + n) ≡ t → Gives s t (parameterVal s x n t l)
-    unfolding parameterVal ofType bindingShape constantsShape constantShape bindingStatic constantsStatic constantStatic
+    unfolding parameterVal ofType constantsShape constantShape constantsStatic constantStatic
     parameter-gives h e =
-        let c = placed .element .chart in
-        let shapes = and-first _ _ (sym (holds-present _ _ _ c) ∙ binding-shape s ok _ _ (placed .element .binding)) in
-        let types = sym (holds-present _ _ _ c) ∙ binding-static s ok _ _ (placed .element .binding) in
-        let k = held _ _ (all-at _ _ shapes n h) in
-        let q = sym (holds-present _ _ _ (k .1)) ∙ all-at _ _ types n h in
+        let b = held _ _ (all-at _ _ (element-constants s ok _ _ _ (placed .element)) n h) in
+        let types = sym (holds-present _ _ _ (b .1)) ∙ all-at _ _ (element-types s ok _ _ _ (placed .element)) n h in
+        let k = held _ _ (b .2) in
+        let q = sym (holds-present _ _ _ (k .1)) ∙ types in
         let f = literal-fine s (x .element) (k .0) below-components (and-second _ _ (k .2)) in
         let same : literalType (k .0) ≡ t = eqb-true _ _ q ∙ e in
-        met s t _ _ (lt-ltb (1 + n) 8 (omega (arith, few-parameters)))
-        (subst (Gives s t) (sym (on-present _ (k .0) _ (k .1)))
+        met s t _ _ (constant-inside n (omega (arith, few-parameters)))
+        (subst (Gives s t) (sym (on-present _ (b .0) _ (ap (λ m. constantBinding s m n) (placed .binding) ∙ b .1) ∙ on-present _ (k .0) _ (k .1)))
         (met s t _ _ (and-first _ _ (k .2))
         (met s t _ _ (eq-eqb _ _ (f .0 ∙ same))
         (value-within s t _ l (f .0 ∙ same) (ap (λ u. inType s u (literalValue (x .element) (k .0) .word)) (sym same) ∙ f .1)))))

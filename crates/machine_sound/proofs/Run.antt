@@ -153,7 +153,7 @@ module _ (s : List ℕ) (ok : checkOf s ≡ Passed) where
 
   module _ (x : Context) (placed : Placed s x) (st lo : List ℤ) (o : OfSheet s st) (locals : Locals s x lo) where
     there : chartOf s (x .element) ≡ Present (x .chart)
-    there = element-chart s (x .element) (x .binding) (x .chart) (placed .element)
+    there = element-chart s (x .element) (placed .bound) (x .chart) (placed .element)
 
     cells : Cells s x st
     cells j k l m = cell-of s st o (x .element) (x .chart) there j l k m
@@ -255,7 +255,7 @@ module _ (s : List ℕ) (ok : checkOf s ≡ Passed) where
         entered-ends : (b : Record) → InChart s (x .chart) b → (zs : List ℤ) (l : ℕ) → WordsOf s (bodyParameters b) (bodyParameters b .count) 0 zs → l ≤ L → Good s x (entered s x (runOf s) depth b zs l st lo)
         unfolding entered bodyStatic
         entered-ends b i zs l v q =
-            let there : Placed s (inBody x b) = record { element = placed .element; body = i } in
+            let there : Placed s (inBody x b) = record { bound = placed .bound; element = placed .element; binding = placed .binding; body = i } in
             let w : World = runOf s (depth + 1) (inBody x b) (root b) l st (localsOf s b zs) in
             either-ends s x (ltb depth openCalls) _ _
             (λ p. provided-ends s x _ st lo _ (locals-there s ok _ (x .chart) (placed .element .chart) b i) (back s x (inBody x b) (w .ran) (w .st) lo (w .lo) (ih (depth + 1) (inBody x b) (root b) l 64 st (localsOf s b zs) q there o
@@ -299,7 +299,7 @@ module _ (s : List ℕ) (ok : checkOf s ≡ Passed) where
             provided-ends s x _ st lo _ are
             (append-ends s x _ m st lo o locals (own-telegram s (x .element) (x .chart) there (r .f3) (wordsIn vs)
             (name-fits s ok (r .f3) internal (name .0) (name .1) (and-first _ _ (and-first _ _ t)) (wordsIn vs) v)
-            (awaited s ok (r .f3) internal (name .0) (name .1) (and-first _ _ (and-first _ _ t)) (wordsIn vs) v (x .element) (x .binding) (x .chart) (placed .element) (and-second _ _ (and-first _ _ t)))))))
+            (awaited s ok (r .f3) internal (name .0) (name .1) (and-first _ _ (and-first _ _ t)) (wordsIn vs) v (x .element) (placed .bound) (x .chart) (placed .element) (and-second _ _ (and-first _ _ t)))))))
         act-ends arm l q g h low e =
             let t = stated _ e in
             let shape = and-second _ _ h in
@@ -313,7 +313,7 @@ module _ (s : List ℕ) (ok : checkOf s ≡ Passed) where
             provided-ends s x _ st lo _ (and-true _ _ (clock-there (r .f1) (eqb (clockOf (operator r))) (and-first _ _ h) (eq-eqb _ _ (sym kind)) (ap isClock kind ∙ armed-clock (operator r) g .0)) (and-true _ _ (eq-eqb _ _ k) are))
             (armed-ends (r .f1) (ltb-true _ _ (and-first _ _ h)) (operator r) g kind (period .word) w (r .f3) (wordsIn vs) m′
             (name-fits s ok (r .f3) internal (name .0) (name .1) (and-first _ _ (and-first _ _ i)) (wordsIn vs) v)
-            (awaited s ok (r .f3) internal (name .0) (name .1) (and-first _ _ (and-first _ _ i)) (wordsIn vs) v (x .element) (x .binding) (x .chart) (placed .element) (and-second _ _ (and-first _ _ i)))))))
+            (awaited s ok (r .f3) internal (name .0) (name .1) (and-first _ _ (and-first _ _ i)) (wordsIn vs) v (x .element) (placed .bound) (x .chart) (placed .element) (and-second _ _ (and-first _ _ i)))))))
         act-ends clockAct l q g h low e =
             let t = stated _ e in
             let v = and-first _ _ h in

@@ -8,14 +8,14 @@ use native.Mathlib.Decide.{decLt}
 use borrow.Author.Tests.{leb-true, ltb-true}
 use Rattle.sheet.specs.declared.Record.{Record}
 use Rattle.sheet.specs.declared.Found.the-variants.{Present}
-use Rattle.sheet.specs.Names.{charts, bindings, chartVariables, boundChart}
-use Rattle.sheet.specs.Sheet.{recordOf}
+use Rattle.sheet.specs.Names.{chartVariables}
 use Rattle.sheet.proofs.All.{and-first, and-second}
 use Rattle.sheet_rules.specs.Fields.{sumBelow, componentsOf, externalsOf, elementsOf}
 use Rattle.sheet_rules.specs.Indices.{cellsTaken, cellsBefore}
 use Rattle.sheet_rules.specs.Shape.{cellsBound, cellsOf}
-use Rattle.machine.specs.Values.{isBound, chartOf, firstCell}
+use Rattle.machine.specs.Values.{isBound, bindingAt, chartOf, firstCell}
 use Rattle.sheet_rules.proofs.Fields.{number-present}
+use Rattle.sheet_rules.proofs.Bindings.{bound-chart}
 use Rattle.sheet_rules.proofs.Sums.{sum-rises}
 use Rattle.machine_passed.proofs.Records.{one-record}
 use Rattle.machine_passed.proofs.Charts.{chart-element}
@@ -38,10 +38,8 @@ module _ (s : List ℕ) (e : ℕ) (c : Record) (p : chartOf s e ≡ Present c) w
   element-bound = chart-element s e c p .1 .bound
 
   pub element-count : cellsBound s (e - externalsOf s) ≡ cellsBefore s c (chartVariables c .count)
-  unfolding cellsBound
-  element-count =
-      let x = chart-element s e c p in
-      number-present (recordOf s bindings (e - externalsOf s)) (x .0) _ (x .1 .binding) ∙ number-present (recordOf s charts (boundChart (x .0))) c _ (x .1 .chart)
+  unfolding cellsBound bindingAt
+  element-count = let x = chart-element s e c p in number-present _ c _ (bound-chart s (bindingAt s e) (x .0) (x .1 .binding) ∙ x .1 .chart)
 
   pub element-from : externalsOf s ≤ e
   unfolding isBound

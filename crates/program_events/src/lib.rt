@@ -35,7 +35,7 @@ fn list_events(answers: &[i32], count: usize, done: u64, out: &mut [u8])
 fn round(
     sheet: &[u8],
     directory: &[usize; 16],
-    cells: &[usize; 2112],
+    cells: &[usize; 2176],
     st: &mut [i32],
     spare: &mut [i32],
     events: &[u8],
@@ -51,7 +51,7 @@ fn round(
     let n = 9 * count;
     let m = 10 * count;
     engine_words::words(events, 0, &mut words[..n]);
-    engine_lists::play_on(
+    engine_list_events::play_on(
         sheet,
         directory,
         cells,
@@ -69,7 +69,7 @@ pub fn play_events(
     fd: i32,
     sheet: &[u8],
     directory: &[usize; 16],
-    cells: &[usize; 2112],
+    cells: &[usize; 2176],
     st: &mut [i32],
     spare: &mut [i32],
     most: u64,

@@ -20,7 +20,7 @@ fn play_states(
     fd: i32,
     sheet: &[u8],
     directory: &[usize; 16],
-    cells: &[usize; 2112],
+    cells: &[usize; 2176],
     st: &mut [i32],
     spare: &mut [i32],
     most: u64,
@@ -43,7 +43,7 @@ fn play_passed(fd: i32, sheet: &[u8], directory: &[usize; 16], most: u64) -> u8
 {
     let mut st = [0i32; 5128];
     let mut spare = [0i32; 5128];
-    let mut cells = [0usize; 2112];
+    let mut cells = [0usize; 2176];
     let count = engine_cells::fill(sheet, directory, &mut cells);
     let n = engine_valid_state::state_length(count);
     play_states(

@@ -2,9 +2,10 @@
 use sheet::Found;
 use sheet::Record;
 ghost use mathlib.Core.Path.{_≡_};
-ghost use Prim.Native.Nat.{_*_, _<_};
+ghost use Prim.Native.Nat.{ℕ, _*_, _<_};
 ghost use Rattle.sheet.specs.Sheet.{directoryOf};
 ghost use Rattle.sheet_rules.specs.Indices.{cellsBefore};
+ghost use Rattle.sheet_rules.specs.Bindings.{firstBinding};
 ghost use Rattle.sheet_rules.specs.Shape.{cellsBound, cellsOf};
 
 // How many cells the first n variables of chart c take.
@@ -23,15 +24,12 @@ pub fn cells_before(sheet: &[u8], directory: &[usize; 16], c: Record, n: u16) ->
     sum
 }
 
-// How many cells the element of a binding has.
-pub fn cells_bound(sheet: &[u8], directory: &[usize; 16], i: usize) -> usize
+// How many cells the element has whose first binding record is k.
+fn cells_bound(sheet: &[u8], directory: &[usize; 16], k: usize) -> usize
     requires { ⌜ now directory ≡ directoryOf (now sheet) ⌝ }
-    ensures { λ n. ⌜ (n ≡ cellsBound (now (sheet .entry)) i) × (n < 65536 * 65536) ⌝ }
+    ensures { λ n. ⌜ ((i : ℕ) → k ≡ firstBinding (now (sheet .entry)) i → n ≡ cellsBound (now (sheet .entry)) i) × (n < 65536 * 65536) ⌝ }
 {
-    let Found::Present(b) = sheet_reader::read(sheet, directory, 7, i) else {
-        return 0;
-    };
-    let Found::Present(c) = sheet_reader::read(sheet, directory, 4, b.f0 as usize) else {
+    let Found::Present(c) = sheet_bindings::chart_bound(sheet, directory, k) else {
         return 0;
     };
     cells_before(sheet, directory, c, c.f3)
@@ -45,9 +43,11 @@ pub fn cells(sheet: &[u8], directory: &[usize; 16]) -> usize
     let components = sheet_fields::field_at(sheet, directory, 0, 0, 0);
     let externals = sheet_fields::field_at(sheet, directory, 0, 0, 1);
     let mut sum: usize = 0;
+    let mut k: usize = 0;
     let mut i: usize = 0;
     while externals + i < components {
-        sum += cells_bound(sheet, directory, i);
+        sum += cells_bound(sheet, directory, k);
+        k = sheet_bindings::record_behind(sheet, directory, k);
         i += 1;
     }
     sum

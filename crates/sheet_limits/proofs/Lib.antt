@@ -3,6 +3,7 @@ pub mod Written
 pub mod Fields
 pub mod Forms
 pub mod Indices
+pub mod Bindings
 pub mod Shape
 pub mod Types
 pub mod Uses

@@ -12,11 +12,13 @@ use Rattle.sheet.specs.Sheet.{recordOf}
 use Rattle.sheet_rules.specs.Fields.{fieldOf, zeroFrom, holds, numberOr0, sumBelow}
 use Rattle.sheet_rules.specs.Forms.{Form, literal, read, unary, binary, clock, readElement, skip, assign, externalSend, internalSend, arm, clockAct, call, choice, loop, sequence, assignElement, unknown, formOf, Literal, bool, int, member, component, port, self, literalOf, operandCount, operandAt}
 use Rattle.sheet_rules.specs.Indices.{Index, plain, over, noIndex}
-use Rattle.sheet_rules.specs.Shape.{headShape, enumeratedShape, typeExists, indexExists, declarationShape, nameShape, bodiesUpTo, chartShape, bodiesCovered, isReaction, reactionShape, bodyShape, literalFields, literalShape, sendShape, fieldsShape, treeShape, treesShape, constantOf, constantShape, constantsShape, bindingShape, elementsBound, cellsBound, cellsOf, shapeTable, recordShape, sectionShape}
+use Rattle.sheet_rules.specs.Bindings.{constantsInRecord, constantOf}
+use Rattle.sheet_rules.specs.Shape.{headShape, enumeratedShape, typeExists, indexExists, declarationShape, nameShape, bodiesUpTo, chartShape, bodiesCovered, isReaction, reactionShape, bodyShape, literalFields, literalShape, sendShape, fieldsShape, treeShape, treesShape, constantShape, secondMark, secondShape, constantsShape, recordsShape, bindingShape, bindingsShape, elementsBound, cellsBound, cellsOf, shapeTable, recordShape, eachShape, sectionShape}
 use Rattle.sheet_limits.specs.ButLimit.{ButLimit}
 use Rattle.sheet_limits.proofs.Fields.{same-componentsOf, same-elementsOf, same-externalsOf, same-inSection, same-membersOf, same-portsOf}
 use Rattle.sheet_limits.proofs.Forms.{same-callData, same-operandsOf}
 use Rattle.sheet_limits.proofs.Indices.{same-cellsBefore, same-indexOf}
+use Rattle.sheet_limits.proofs.Bindings.{same-chartBound, same-firstBinding, same-elementsBoundIn, same-constantBinding}
 use Rattle.sheet_limits.proofs.Records.{same-bindings, same-bodies, same-charts, same-countOf, same-head-test, same-names, same-nodes, same-recordOf}
 
 module _ {s s′ : List ℕ} (h : ButLimit s s′) where
@@ -53,7 +55,7 @@ module _ {s s′ : List ℕ} (h : ButLimit s s′) where
   unfolding chartShape
   same-chartShape = λ q k r.
       same-inSection h q declarations (chartParameters r)
-      and leb (chartParameters r .count) 7
+      and leb (chartParameters r .count) 14
       and same-inSection h q declarations (chartVariables r)
       and leb (chartVariables r .count) 32
       and eqb (chartBodies r .first) (same-bodiesUpTo q k)
@@ -141,21 +143,36 @@ module _ {s s′ : List ℕ} (h : ButLimit s s′) where
   unfolding constantShape
   same-constantShape = λ q n. holds (same-nodes h q n) (λ r. isLiteral (operator r) and same-literalShape q r)
 
+  pub same-secondShape : secondShape s ≡ secondShape s′
+  unfolding secondShape
+  same-secondShape = λ q k n. holds (same-bindings h q k) (λ r. eqb (boundChart r) secondMark and zeroFrom (1 + n) r)
+
   pub same-constantsShape : constantsShape s ≡ constantsShape s′
   unfolding constantsShape
-  same-constantsShape = λ q r c. allBelow (chartParameters c .count) (λ j. same-constantShape q (constantOf r j)) and zeroFrom (1 + chartParameters c .count) r
+  same-constantsShape = λ q k c. allBelow (chartParameters c .count) (λ j. holds (same-constantBinding h q k j) (λ b. same-constantShape q (constantOf b j)))
+
+  pub same-recordsShape : recordsShape s ≡ recordsShape s′
+  unfolding recordsShape
+  same-recordsShape = λ q k r c.
+      same-constantsShape q k c
+      and zeroFrom (1 + chartParameters c .count) r
+      and elim (leb (chartParameters c .count) constantsInRecord) [ true ↦ true | false ↦ same-secondShape q (k + 1) (chartParameters c .count - constantsInRecord) ]
 
   pub same-bindingShape : bindingShape s ≡ bindingShape s′
   unfolding bindingShape
-  same-bindingShape = λ q r. holds (same-charts h q (boundChart r)) (same-constantsShape q r)
+  same-bindingShape = λ q k. holds (same-bindings h q k) (λ r. holds (same-charts h q (boundChart r)) (same-recordsShape q k r))
+
+  pub same-bindingsShape : bindingsShape s ≡ bindingsShape s′
+  unfolding bindingsShape
+  same-bindingsShape = λ q. allBelow (same-elementsBoundIn h q) (λ i. same-bindingShape q (same-firstBinding h q i))
 
   pub same-elementsBound : elementsBound s ≡ elementsBound s′
   unfolding elementsBound
-  same-elementsBound = λ q. eqb (same-externalsOf h q + same-countOf h q bindings) (same-componentsOf h q)
+  same-elementsBound = λ q. eqb (same-externalsOf h q + same-elementsBoundIn h q) (same-componentsOf h q)
 
   pub same-cellsBound : cellsBound s ≡ cellsBound s′
   unfolding cellsBound
-  same-cellsBound = λ q i. numberOr0 (same-bindings h q i) (λ b. numberOr0 (same-charts h q (boundChart b)) (λ c. same-cellsBefore h q c (chartVariables c .count)))
+  same-cellsBound = λ q i. numberOr0 (same-chartBound h q (same-firstBinding h q i)) (λ c. same-cellsBefore h q c (chartVariables c .count))
 
   pub same-cellsOf : cellsOf s ≡ cellsOf s′
   unfolding cellsOf
@@ -169,8 +186,6 @@ module _ {s s′ : List ℕ} (h : ButLimit s s′) where
       ∷ upTo names (same-nameShape q r)
       ∷ upTo charts (same-chartShape q i r)
       ∷ upTo bodies (same-bodyShape q r)
-      ∷ upTo nodes true
-      ∷ upTo bindings (same-bindingShape q r)
       ∷ []
 
   pub same-recordShape : recordShape s ≡ recordShape s′
@@ -178,10 +193,14 @@ module _ {s s′ : List ℕ} (h : ButLimit s s′) where
   same-recordShape = λ q k i r. lookUp (same-shapeTable q i r) true k
 
   -- a head's shape has no rule for its limit
-  sectionShape-at : (k : ℕ) → sectionShape s k ≡ sectionShape s′ k
-  unfolding sectionShape recordShape lookUp headShape zeroFrom fieldOf allBelow
-  sectionShape-at zero = λ q. allBelow (same-countOf h q head) (λ i. ((λ q. holds (recordOf s head i) (same-recordShape q head i)) ∙ same-head-test h (recordShape s′ head i) (λ r. refl) i) q)
-  sectionShape-at (suc k) = λ q. allBelow (same-countOf h q (suc k)) (λ i. holds (same-recordOf h k q i) (same-recordShape q (suc k) i))
+  eachShape-at : (k : ℕ) → eachShape s k ≡ eachShape s′ k
+  unfolding eachShape recordShape lookUp headShape zeroFrom fieldOf allBelow
+  eachShape-at zero = λ q. allBelow (same-countOf h q head) (λ i. ((λ q. holds (recordOf s head i) (same-recordShape q head i)) ∙ same-head-test h (recordShape s′ head i) (λ r. refl) i) q)
+  eachShape-at (suc k) = λ q. allBelow (same-countOf h q (suc k)) (λ i. holds (same-recordOf h k q i) (same-recordShape q (suc k) i))
+
+  pub same-eachShape : eachShape s ≡ eachShape s′
+  same-eachShape = λ q k. eachShape-at k q
 
   pub same-sectionShape : sectionShape s ≡ sectionShape s′
-  same-sectionShape = λ q k. sectionShape-at k q
+  unfolding sectionShape
+  same-sectionShape = λ q k. elim (eqb k bindings) [ true ↦ same-bindingsShape q | false ↦ same-eachShape q k ]

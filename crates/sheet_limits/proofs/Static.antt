@@ -6,17 +6,19 @@ use mathlib.Core.Path.{_≡_, refl, _∙_}
 use lib.Dec.{leb, eqb}
 use Rattle.sheet.specs.All.{_and_, allBelow}
 use Rattle.sheet.specs.Table.{upTo, lookUp}
-use Rattle.sheet.specs.Names.{enumeratedTypes, declarations, names, charts, nodes, bindings, declaredType, declaredIndex, dataOf, external, internal, chartParameters, chartBodies, role, initial, panic, externalReaction, reactionName, bodyParameters, bodyLocals, root, boundChart, isClock, head}
+use Rattle.sheet.specs.Names.{enumeratedTypes, declarations, names, charts, bindings, declaredType, declaredIndex, dataOf, external, internal, chartParameters, chartBodies, role, initial, panic, externalReaction, reactionName, bodyParameters, bodyLocals, root, isClock, head}
 use Rattle.sheet.specs.Sheet.{recordOf}
 use Rattle.sheet_rules.specs.Fields.{holds, countBelow}
 use Rattle.sheet_rules.specs.Indices.{isPlain}
-use Rattle.sheet_rules.specs.Shape.{isReaction, constantOf}
+use Rattle.sheet_rules.specs.Bindings.{constantOf}
+use Rattle.sheet_rules.specs.Shape.{isReaction}
 use Rattle.sheet_rules.specs.Types.{isStatement, literalType}
-use Rattle.sheet_rules.specs.Static.{declarationStatic, plainData, nameStatic, sameTypes, reactionStatic, roleStatic, bodyStatic, bodyOf, hasRole, bodiesWith, sameReaction, noTwin, bodiesStatic, chartStatic, constantStatic, constantsStatic, bindingStatic, staticTable, recordStatic, sectionStatic, static}
+use Rattle.sheet_rules.specs.Static.{declarationStatic, plainData, nameStatic, sameTypes, reactionStatic, roleStatic, bodyStatic, bodyOf, hasRole, bodiesWith, sameReaction, noTwin, bodiesStatic, chartStatic, constantStatic, constantsStatic, bindingStatic, bindingsStatic, staticTable, recordStatic, eachStatic, sectionStatic, static}
 use Rattle.sheet_limits.specs.ButLimit.{ButLimit}
 use Rattle.sheet_limits.proofs.Fields.{same-typeAt}
 use Rattle.sheet_limits.proofs.Indices.{same-indexAt, same-indexOf}
-use Rattle.sheet_limits.proofs.Records.{same-bodies, same-charts, same-countOf, same-head-test, same-nodes, same-recordOf}
+use Rattle.sheet_limits.proofs.Bindings.{same-chartBound, same-firstBinding, same-elementsBoundIn, same-constantBinding}
+use Rattle.sheet_limits.proofs.Records.{same-bodies, same-countOf, same-head-test, same-nodes, same-recordOf}
 use Rattle.sheet_limits.proofs.Types.{same-hasClass, same-nameRange, same-typeOf}
 
 module _ {s s′ : List ℕ} (h : ButLimit s s′) where
@@ -81,11 +83,15 @@ module _ {s s′ : List ℕ} (h : ButLimit s s′) where
 
   pub same-constantsStatic : constantsStatic s ≡ constantsStatic s′
   unfolding constantsStatic
-  same-constantsStatic = λ q r c. allBelow (chartParameters c .count) (λ j. same-constantStatic q (constantOf r j) (same-typeAt h q (chartParameters c .first + j)))
+  same-constantsStatic = λ q k c. allBelow (chartParameters c .count) (λ j. holds (same-constantBinding h q k j) (λ b. same-constantStatic q (constantOf b j) (same-typeAt h q (chartParameters c .first + j))))
 
   pub same-bindingStatic : bindingStatic s ≡ bindingStatic s′
   unfolding bindingStatic
-  same-bindingStatic = λ q r. holds (same-charts h q (boundChart r)) (same-constantsStatic q r)
+  same-bindingStatic = λ q k. holds (same-chartBound h q k) (same-constantsStatic q k)
+
+  pub same-bindingsStatic : bindingsStatic s ≡ bindingsStatic s′
+  unfolding bindingsStatic
+  same-bindingsStatic = λ q. allBelow (same-elementsBoundIn h q) (λ i. same-bindingStatic q (same-firstBinding h q i))
 
   pub same-staticTable : staticTable s ≡ staticTable s′
   same-staticTable = λ q r.
@@ -93,8 +99,6 @@ module _ {s s′ : List ℕ} (h : ButLimit s s′) where
       ∷ upTo declarations (same-declarationStatic q r)
       ∷ upTo names (same-nameStatic q r)
       ∷ upTo charts (same-chartStatic q r)
-      ∷ upTo nodes true
-      ∷ upTo bindings (same-bindingStatic q r)
       ∷ []
 
   pub same-recordStatic : recordStatic s ≡ recordStatic s′
@@ -102,13 +106,17 @@ module _ {s s′ : List ℕ} (h : ButLimit s s′) where
   same-recordStatic = λ q k r. lookUp (same-staticTable q r) true k
 
   -- there is no static rule for a head
-  sectionStatic-at : (k : ℕ) → sectionStatic s k ≡ sectionStatic s′ k
-  unfolding sectionStatic recordStatic lookUp
-  sectionStatic-at zero = λ q. allBelow (same-countOf h q head) (λ i. ((λ q. holds (recordOf s head i) (same-recordStatic q head)) ∙ same-head-test h (recordStatic s′ head) (λ r. refl) i) q)
-  sectionStatic-at (suc k) = λ q. allBelow (same-countOf h q (suc k)) (λ i. holds (same-recordOf h k q i) (same-recordStatic q (suc k)))
+  eachStatic-at : (k : ℕ) → eachStatic s k ≡ eachStatic s′ k
+  unfolding eachStatic recordStatic lookUp
+  eachStatic-at zero = λ q. allBelow (same-countOf h q head) (λ i. ((λ q. holds (recordOf s head i) (same-recordStatic q head)) ∙ same-head-test h (recordStatic s′ head) (λ r. refl) i) q)
+  eachStatic-at (suc k) = λ q. allBelow (same-countOf h q (suc k)) (λ i. holds (same-recordOf h k q i) (same-recordStatic q (suc k)))
+
+  pub same-eachStatic : eachStatic s ≡ eachStatic s′
+  same-eachStatic = λ q k. eachStatic-at k q
 
   pub same-sectionStatic : sectionStatic s ≡ sectionStatic s′
-  same-sectionStatic = λ q k. sectionStatic-at k q
+  unfolding sectionStatic
+  same-sectionStatic = λ q k. elim (eqb k bindings) [ true ↦ same-bindingsStatic q | false ↦ same-eachStatic q k ]
 
   pub same-static : static s ≡ static s′
   unfolding static

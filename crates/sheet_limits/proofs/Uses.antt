@@ -6,14 +6,15 @@ use mathlib.Core.Path.{_≡_, refl}
 use lib.Dec.{ltb, eqb}
 use Rattle.sheet.specs.declared.Record.{Record}
 use Rattle.sheet.specs.All.{allBelow}
-use Rattle.sheet.specs.Names.{charts, nodes, bindings, chartParameters, chartBodies, root, boundChart}
+use Rattle.sheet.specs.Names.{charts, nodes, bindings, chartParameters, chartBodies, root}
 use Rattle.sheet_rules.specs.Fields.{holds, numberOr0, oneIf, sumBelow, countBelow}
 use Rattle.sheet_rules.specs.Forms.{operandCount, operandAt}
-use Rattle.sheet_rules.specs.Shape.{constantOf}
+use Rattle.sheet_rules.specs.Bindings.{constantOf}
 use Rattle.sheet_rules.specs.Uses.{lowerOnly, standsStep, standsF, standsIn, overBodies, overCharts, overBindings, standsInBodies, homeBelow, homeOf, noChart, chartOr, homeChart, operandFields, operandUses, rootUses, constantUses, usesOf, usedOnce, bodiesHolding, isCall, callsInOneBody, goneOver}
 use Rattle.sheet_limits.specs.ButLimit.{ButLimit}
 use Rattle.sheet_limits.proofs.Forms.{same-operandsOf}
-use Rattle.sheet_limits.proofs.Records.{same-bindings, same-bodies, same-charts, same-countOf, same-nodes}
+use Rattle.sheet_limits.proofs.Records.{same-bodies, same-charts, same-countOf, same-nodes}
+use Rattle.sheet_limits.proofs.Bindings.{same-chartBound, same-firstBinding, same-elementsBoundIn, same-constantBinding}
 
 module _ {s s′ : List ℕ} (h : ButLimit s s′) where
   pub same-standsStep : standsStep s ≡ standsStep s′
@@ -41,7 +42,7 @@ module _ {s s′ : List ℕ} (h : ButLimit s s′) where
   same-overCharts = λ q f. sumBelow (same-countOf h q charts) (λ k. numberOr0 (same-charts h q k) f)
 
   pub same-overBindings : overBindings s ≡ overBindings s′
-  same-overBindings = λ q f. sumBelow (same-countOf h q bindings) (λ i. numberOr0 (same-bindings h q i) f)
+  same-overBindings = λ q f. sumBelow (same-elementsBoundIn h q) (λ i. f (same-firstBinding h q i))
 
   pub same-standsInBodies : standsInBodies s ≡ standsInBodies s′
   unfolding standsInBodies
@@ -81,7 +82,7 @@ module _ {s s′ : List ℕ} (h : ButLimit s s′) where
 
   pub same-constantUses : constantUses s ≡ constantUses s′
   unfolding constantUses
-  same-constantUses = λ q n b. numberOr0 (same-charts h q (boundChart b)) (λ c. countBelow (chartParameters c .count) (λ j. eqb (constantOf b j) n))
+  same-constantUses = λ q n k. numberOr0 (same-chartBound h q k) (λ c. countBelow (chartParameters c .count) (λ j. holds (same-constantBinding h q k j) (λ b. eqb (constantOf b j) n)))
 
   pub same-usesOf : usesOf s ≡ usesOf s′
   unfolding usesOf

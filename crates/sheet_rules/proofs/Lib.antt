@@ -2,8 +2,10 @@ pub mod Forms
 pub mod DataTypes
 pub mod Fields
 pub mod Sums
+pub mod Bindings
 pub mod Types
 pub mod Samples
 pub mod Arrays
 pub mod Uses
+pub mod Parameters
 pub mod Shape

@@ -62,6 +62,12 @@ unfolding sumBelow
 sum-times zero f c = sym (zero-mul c)
 sum-times (suc n) f c = ap (λ (x : ℕ). x + f n * c) (sum-times n f c) ∙ sym (add-mul (sumBelow n f) (f n) c)
 
+-- a sum in two parts
+pub sum-split : (a b : ℕ) (f : ℕ → ℕ) → sumBelow (a + b) f ≡ sumBelow a f + sumBelow b (λ j. f (a + j))
+unfolding sumBelow
+sum-split a zero f = omega (arith, ap (λ (x : ℕ). sumBelow x f) (let e : a + zero ≡ a = omega arith in e))
+sum-split a (suc b) f = omega (arith, ap (λ (x : ℕ). sumBelow x f) (let e : a + suc b ≡ suc (a + b) = omega arith in e), sum-split a b f)
+
 -- terms that are each a number and a weighted sum, together
 pub sum-both : (a b : ℕ) (v f : ℕ → ℕ) (g : ℕ → ℕ → ℕ) (d : ℕ → ℕ) → ((i : ℕ) → v i ≡ f i + sumBelow b (λ m. g i m * d m)) → sumBelow a v ≡ sumBelow a f + sumBelow b (λ m. sumBelow a (λ i. g i m) * d m)
 sum-both a b v f g d h =

@@ -2,6 +2,7 @@ pub mod Fields
 pub mod Forms
 pub mod DataTypes
 pub mod Indices
+pub mod Bindings
 pub mod Shape
 pub mod Uses
 pub mod Types

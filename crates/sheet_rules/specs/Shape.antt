@@ -9,9 +9,10 @@ use Rattle.sheet.specs.Table.{Line, upTo, lookUp}
 use Rattle.sheet.specs.Names
 use Rattle.sheet.specs.Names.{head, enumeratedTypes, declarations, names, charts, bodies, nodes, bindings, components, externals, ports, size, defaultMember, declaredType, declaredIndex, dataOf, class, chartParameters, chartVariables, chartBodies, role, externalReaction, internalReaction, procedure, reactionPort, reactionName, bodyParameters, bodyLocals, root, boundChart, operator, isLiteral}
 use Rattle.sheet.specs.Sheet.{countOf, recordOf}
-use Rattle.sheet_rules.specs.Fields.{fieldOf, zeroFrom, holds, numberOr0, sumBelow, componentsOf, externalsOf, portsOf, membersOf, elementsOf, inSection}
+use Rattle.sheet_rules.specs.Fields.{zeroFrom, holds, numberOr0, sumBelow, componentsOf, externalsOf, portsOf, membersOf, elementsOf, inSection}
 use Rattle.sheet_rules.specs.Forms.{Form, literal, read, unary, binary, clock, readElement, skip, assign, externalSend, internalSend, arm, clockAct, call, choice, loop, sequence, assignElement, unknown, formOf, Literal, bool, int, member, component, port, self, literalOf, callData, operandsOf, operandCount, operandAt}
 use Rattle.sheet_rules.specs.Indices.{Index, plain, over, noIndex, indexOf, cellsBefore}
+use Rattle.sheet_rules.specs.Bindings.{constantsInRecord, chartBound, firstBinding, elementsBoundIn, constantBinding, constantOf}
 
 -- a number of a record of section k
 abbrev exists : List ℕ → ℕ → ℕ → Bool
@@ -46,7 +47,7 @@ declarationShape s r = typeExists s (declaredType r) and indexExists s (indexOf 
 unfoldable pub nameShape : List ℕ → Record → Bool
 nameShape s r = inSection s declarations (dataOf r) and leb (dataOf r .count) 4 and leb (class r) 1 and zeroFrom 3 r
 
--- ---- 4 Charts: parameters (up to 7), variables (up to 32), bodies
+-- ---- 4 Charts: parameters (up to 14), variables (up to 32), bodies
 
 -- "Body ranges follow each other and cover section 5."
 unfoldable pub bodiesUpTo : List ℕ → ℕ → ℕ
@@ -56,7 +57,7 @@ bodiesUpTo s (suc k) = numberOr0 (recordOf s charts k) (λ c. chartBodies c .fir
 unfoldable pub chartShape : List ℕ → ℕ → Record → Bool
 chartShape s k r =
     inSection s declarations (chartParameters r)
-    and leb (chartParameters r .count) 7
+    and leb (chartParameters r .count) 14
     and inSection s declarations (chartVariables r)
     and leb (chartVariables r .count) 32
     and eqb (chartBodies r .first) (bodiesUpTo s k)
@@ -146,33 +147,49 @@ module _ (s : List ℕ) (c b : Record) where
 unfoldable pub treesShape : List ℕ → Record → Bool
 treesShape s c = allBelow (chartBodies c .count) (λ j. holds (recordOf s bodies (chartBodies c .first + j)) (λ b. treeShape s c b 64 (root b)))
 
--- ---- 7 Bindings: chart, one literal node per parameter. One record per bound element
-
--- the constant for parameter j in a binding record
-abbrev pub constantOf : Record → ℕ → ℕ
-constantOf b j = fieldOf b (1 + j)
+-- ---- 7 Bindings: chart, one literal node per parameter, in one record or two for each bound element
 
 unfoldable pub constantShape : List ℕ → ℕ → Bool
 constantShape s n = holds (recordOf s nodes n) (λ r. isLiteral (operator r) and literalShape s r)
 
-unfoldable pub constantsShape : List ℕ → Record → Record → Bool
-constantsShape s r c = allBelow (chartParameters c .count) (λ j. constantShape s (constantOf r j)) and zeroFrom (1 + chartParameters c .count) r
+-- f0 of a second record; no chart has that number
+abbrev pub secondMark : ℕ
+secondMark = 65535
 
-unfoldable pub bindingShape : List ℕ → Record → Bool
-bindingShape s r = holds (recordOf s charts (boundChart r)) (constantsShape s r)
+-- record k is a second one, with n constants
+unfoldable pub secondShape : List ℕ → ℕ → ℕ → Bool
+secondShape s k n = holds (recordOf s bindings k) (λ r. eqb (boundChart r) secondMark and zeroFrom (1 + n) r)
 
--- "One record per bound element", the components from f1 on
+-- the constants of the element bound to chart c whose first record is k
+unfoldable pub constantsShape : List ℕ → ℕ → Record → Bool
+constantsShape s k c = allBelow (chartParameters c .count) (λ j. holds (constantBinding s k j) (λ b. constantShape s (constantOf b j)))
+
+-- its records, the first one being r
+unfoldable pub recordsShape : List ℕ → ℕ → Record → Record → Bool
+recordsShape s k r c =
+    constantsShape s k c
+    and zeroFrom (1 + chartParameters c .count) r
+    and elim (leb (chartParameters c .count) constantsInRecord) [ true ↦ true | false ↦ secondShape s (k + 1) (chartParameters c .count - constantsInRecord) ]
+
+-- the records of the element whose first one is k
+unfoldable pub bindingShape : List ℕ → ℕ → Bool
+bindingShape s k = holds (recordOf s bindings k) (λ r. holds (recordOf s charts (boundChart r)) (recordsShape s k r))
+
+unfoldable pub bindingsShape : List ℕ → Bool
+bindingsShape s = allBelow (elementsBoundIn s) (λ i. bindingShape s (firstBinding s i))
+
+-- "The binding section has as many records as its charts need": it binds the components from f1 on
 unfoldable pub elementsBound : List ℕ → Bool
-elementsBound s = eqb (externalsOf s + countOf s bindings) (componentsOf s)
+elementsBound s = eqb (externalsOf s + elementsBoundIn s) (componentsOf s)
 
--- "Elements have at most 512 variables together", and "the 512 counts cells": those of the element that record i binds
+-- "Elements have at most 512 variables together", and "the 512 counts cells": those of element i, counted from the first bound one
 unfoldable pub cellsBound : List ℕ → ℕ → ℕ
-cellsBound s i = numberOr0 (recordOf s bindings i) (λ b. numberOr0 (recordOf s charts (boundChart b)) (λ c. cellsBefore s c (chartVariables c .count)))
+cellsBound s i = numberOr0 (chartBound s (firstBinding s i)) (λ c. cellsBefore s c (chartVariables c .count))
 
 unfoldable pub cellsOf : List ℕ → ℕ
 cellsOf s = sumBelow (elementsOf s) (cellsBound s)
 
--- ---- every record of every section. Nodes are judged in the tree that they stand in
+-- ---- every record of every section. Nodes are judged in the tree that they stand in, bindings element by element
 
 abbrev pub shapeTable : List ℕ → ℕ → Record → List (Line Bool)
 shapeTable s i r =
@@ -182,13 +199,14 @@ shapeTable s i r =
     ∷ upTo names (nameShape s r)
     ∷ upTo charts (chartShape s i r)
     ∷ upTo bodies (bodyShape s r)
-    ∷ upTo nodes true
-    ∷ upTo bindings (bindingShape s r)
     ∷ []
 
 -- record i of section k
 unfoldable pub recordShape : List ℕ → ℕ → ℕ → Record → Bool
 recordShape s k i r = lookUp (shapeTable s i r) true k
 
+unfoldable pub eachShape : List ℕ → ℕ → Bool
+eachShape s k = allBelow (countOf s k) (λ i. holds (recordOf s k i) (recordShape s k i))
+
 unfoldable pub sectionShape : List ℕ → ℕ → Bool
-sectionShape s k = allBelow (countOf s k) (λ i. holds (recordOf s k i) (recordShape s k i))
+sectionShape s k = elim (eqb k bindings) [ true ↦ bindingsShape s | false ↦ eachShape s k ]

@@ -8,11 +8,12 @@ use Rattle.sheet.specs.declared.Range.{Range}
 use Rattle.sheet.specs.declared.Found.{Found}
 use Rattle.sheet.specs.All.{_and_, allBelow}
 use Rattle.sheet.specs.Table.{Line, upTo, lookUp}
-use Rattle.sheet.specs.Names.{enumeratedTypes, declarations, names, charts, bodies, nodes, bindings, declaredType, declaredIndex, dataOf, external, internal, chartParameters, chartBodies, role, initial, panic, externalReaction, reactionPort, reactionName, bodyParameters, bodyLocals, root, boundChart, isClock}
+use Rattle.sheet.specs.Names.{enumeratedTypes, declarations, names, charts, bodies, nodes, bindings, declaredType, declaredIndex, dataOf, external, internal, chartParameters, chartBodies, role, initial, panic, externalReaction, reactionPort, reactionName, bodyParameters, bodyLocals, root, isClock}
 use Rattle.sheet.specs.Sheet.{countOf, recordOf}
 use Rattle.sheet_rules.specs.Fields.{holds, countBelow, typeAt}
 use Rattle.sheet_rules.specs.Indices.{indexOf, indexAt, isPlain}
-use Rattle.sheet_rules.specs.Shape.{isReaction, constantOf}
+use Rattle.sheet_rules.specs.Bindings.{chartBound, firstBinding, elementsBoundIn, constantBinding, constantOf}
+use Rattle.sheet_rules.specs.Shape.{isReaction}
 use Rattle.sheet_rules.specs.Types.{isStatement, literalType, hasClass, nameRange, typeOf}
 
 -- "An array .. of clocks, gets 2", wherever it stands
@@ -79,13 +80,17 @@ chartStatic s c =
 unfoldable pub constantStatic : List ℕ → ℕ → ℕ → Bool
 constantStatic s n t = holds (recordOf s nodes n) (λ r. eqb (literalType r) t)
 
-unfoldable pub constantsStatic : List ℕ → Record → Record → Bool
-constantsStatic s r c = allBelow (chartParameters c .count) (λ j. constantStatic s (constantOf r j) (typeAt s (chartParameters c .first + j)))
+-- of the element bound to chart c whose first record is k
+unfoldable pub constantsStatic : List ℕ → ℕ → Record → Bool
+constantsStatic s k c = allBelow (chartParameters c .count) (λ j. holds (constantBinding s k j) (λ b. constantStatic s (constantOf b j) (typeAt s (chartParameters c .first + j))))
 
-unfoldable pub bindingStatic : List ℕ → Record → Bool
-bindingStatic s r = holds (recordOf s charts (boundChart r)) (constantsStatic s r)
+unfoldable pub bindingStatic : List ℕ → ℕ → Bool
+bindingStatic s k = holds (chartBound s k) (constantsStatic s k)
 
--- ---- every declaration, name, chart and binding
+unfoldable pub bindingsStatic : List ℕ → Bool
+bindingsStatic s = allBelow (elementsBoundIn s) (λ i. bindingStatic s (firstBinding s i))
+
+-- ---- every declaration, name and chart, and every element's binding
 
 abbrev pub staticTable : List ℕ → Record → List (Line Bool)
 staticTable s r =
@@ -93,16 +98,17 @@ staticTable s r =
     ∷ upTo declarations (declarationStatic s r)
     ∷ upTo names (nameStatic s r)
     ∷ upTo charts (chartStatic s r)
-    ∷ upTo nodes true
-    ∷ upTo bindings (bindingStatic s r)
     ∷ []
 
 -- a record of section k
 unfoldable pub recordStatic : List ℕ → ℕ → Record → Bool
 recordStatic s k r = lookUp (staticTable s r) true k
 
+unfoldable pub eachStatic : List ℕ → ℕ → Bool
+eachStatic s k = allBelow (countOf s k) (λ i. holds (recordOf s k i) (recordStatic s k))
+
 unfoldable pub sectionStatic : List ℕ → ℕ → Bool
-sectionStatic s k = allBelow (countOf s k) (λ i. holds (recordOf s k i) (recordStatic s k))
+sectionStatic s k = elim (eqb k bindings) [ true ↦ bindingsStatic s | false ↦ eachStatic s k ]
 
 unfoldable pub static : List ℕ → Bool
 static s = allBelow 8 (sectionStatic s)

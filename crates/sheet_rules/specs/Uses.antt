@@ -7,11 +7,11 @@ use Rattle.sheet.specs.declared.Record.{Record}
 use Rattle.sheet.specs.declared.Found.{Found}
 use Rattle.sheet.specs.declared.Found.the-variants.{Present, Absent}
 use Rattle.sheet.specs.All.{allBelow}
-use Rattle.sheet.specs.Names.{charts, bodies, nodes, bindings, chartParameters, chartBodies, root, boundChart, operator}
+use Rattle.sheet.specs.Names.{charts, bodies, nodes, bindings, chartParameters, chartBodies, root, operator}
 use Rattle.sheet.specs.Sheet.{countOf, recordOf}
 use Rattle.sheet_rules.specs.Fields.{holds, numberOr0, oneIf, sumBelow, countBelow}
 use Rattle.sheet_rules.specs.Forms.{operandsOf, operandCount, operandAt}
-use Rattle.sheet_rules.specs.Shape.{constantOf}
+use Rattle.sheet_rules.specs.Bindings.{chartBound, firstBinding, elementsBoundIn, constantBinding, constantOf}
 
 -- "Operand nodes have lower numbers": a field that names another node names no operand
 unfoldable pub lowerOnly : ℕ → (ℕ → ℕ) → ℕ → ℕ
@@ -35,12 +35,13 @@ module _ (s : List ℕ) (c : Record) (n : ℕ) where
 unfoldable pub overBodies : List ℕ → (Record → ℕ) → Record → ℕ
 overBodies s f c = sumBelow (chartBodies c .count) (λ j. numberOr0 (recordOf s bodies (chartBodies c .first + j)) f)
 
--- for each chart, for each binding
+-- for each chart
 unfoldable pub overCharts : List ℕ → (Record → ℕ) → ℕ
 overCharts s f = sumBelow (countOf s charts) (λ k. numberOr0 (recordOf s charts k) f)
 
-abbrev pub overBindings : List ℕ → (Record → ℕ) → ℕ
-overBindings s f = sumBelow (countOf s bindings) (λ i. numberOr0 (recordOf s bindings i) f)
+-- for each element that the section binds, by the number of its first record
+abbrev pub overBindings : List ℕ → (ℕ → ℕ) → ℕ
+overBindings s f = sumBelow (elementsBoundIn s) (λ i. f (firstBinding s i))
 
 -- how often node n stands in the bodies of chart c
 unfoldable pub standsInBodies : List ℕ → ℕ → Record → ℕ
@@ -79,9 +80,9 @@ operandUses s c m n = lowerOnly m (operandFields s c m) n
 unfoldable pub rootUses : List ℕ → ℕ → Record → ℕ
 rootUses s n c = overBodies s (λ b. oneIf (eqb (root b) n)) c
 
--- constants of binding b
-unfoldable pub constantUses : List ℕ → ℕ → Record → ℕ
-constantUses s n b = numberOr0 (recordOf s charts (boundChart b)) (λ c. countBelow (chartParameters c .count) (λ j. eqb (constantOf b j) n))
+-- constants of the element whose first binding record is k
+unfoldable pub constantUses : List ℕ → ℕ → ℕ → ℕ
+constantUses s n k = numberOr0 (chartBound s k) (λ c. countBelow (chartParameters c .count) (λ j. holds (constantBinding s k j) (λ b. eqb (constantOf b j) n)))
 
 unfoldable pub usesOf : List ℕ → ℕ → ℕ
 usesOf s n =
@@ -112,6 +113,6 @@ isCall r = eqb (operator r) 40
 unfoldable pub callsInOneBody : List ℕ → Bool
 callsInOneBody s = allBelow (countOf s nodes) (λ m. holds (recordOf s nodes m) (λ r. elim (isCall r) [ true ↦ eqb (bodiesHolding s m) 1 | false ↦ true ]))
 
--- "records gone over": a record counts each time that the test takes it from its section to mark the nodes that its fields name: a body for its root, by the chart that it belongs to; a node for its operands; a binding for its constants. The look-up of a name, a chart or a called body doesn't count
+-- "records gone over": a record counts each time that the test takes it from its section to mark the nodes that its fields name: a body for its root, by the chart that it belongs to; a node for its operands; a binding record for its constants. The look-up of a name, a chart or a called body doesn't count
 unfoldable pub goneOver : List ℕ → ℕ
 goneOver s = overCharts s (overBodies s (λ b. 1)) + countOf s nodes + countOf s bindings

@@ -13,20 +13,15 @@ use Rattle.sheet.specs.Sheet.{countOf, recordOf}
 use Rattle.sheet.proofs.All.{and-first, and-second}
 use Rattle.sheet.proofs.Sheet.{record-present}
 use Rattle.sheet_rules.specs.Fields.{numberOr0, sumBelow}
-use Rattle.sheet_rules.specs.Shape.{bodiesUpTo, chartShape, bodiesCovered, bindingShape, recordShape}
+use Rattle.sheet_rules.specs.Shape.{bodiesUpTo, chartShape, bodiesCovered, recordShape}
 use Rattle.sheet_rules.specs.Uses.{overBodies, overCharts, goneOver}
 use Rattle.sheet_rules.specs.Check.{sectionsShape, shapeWith, otherwiseInShape}
 use Rattle.sheet_rules.proofs.Shape.{record-shaped}
+use Rattle.sheet_rules.proofs.Sums.{sum-split}
 use Rattle.sheet_rules.proofs.Fields.{number-present}
 
--- a sum in two parts
-sum-split : (a b : ℕ) (f : ℕ → ℕ) → sumBelow (a + b) f ≡ sumBelow a f + sumBelow b (λ j. f (a + j))
-unfolding sumBelow
-sum-split a zero f = omega (arith, ap (λ (x : ℕ). sumBelow x f) (let e : a + zero ≡ a = omega arith in e))
-sum-split a (suc b) f = omega (arith, ap (λ (x : ℕ). sumBelow x f) (let e : a + suc b ≡ suc (a + b) = omega arith in e), sum-split a b f)
-
 module _ (s : List ℕ) (ok : otherwiseInShape s ≡ true) where
-  sections : sectionsShape s ≡ true
+  pub sections : sectionsShape s ≡ true
   unfolding otherwiseInShape shapeWith
   sections = and-first _ _ (and-second _ _ (and-second _ _ ok))
 
@@ -37,10 +32,6 @@ module _ (s : List ℕ) (ok : otherwiseInShape s ≡ true) where
   chart-shaped : (n : ℕ) (r : Record) → recordOf s charts n ≡ Present r → chartShape s n r ≡ true
   unfolding recordShape lookUp
   chart-shaped n r e = record-shaped s sections 4 n r (omega arith) e
-
-  pub binding-shaped : (n : ℕ) (r : Record) → recordOf s bindings n ≡ Present r → bindingShape s r ≡ true
-  unfolding recordShape lookUp
-  binding-shaped n r e = record-shaped s sections 7 n r (omega arith) e
 
   -- "Body ranges follow each other"
   follows : (k : ℕ) (c : Record) → recordOf s charts k ≡ Present c → chartBodies c .first ≡ bodiesUpTo s k

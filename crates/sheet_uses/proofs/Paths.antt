@@ -12,21 +12,24 @@ use Rattle.sheet.specs.declared.Record.{Record}
 use Rattle.sheet.specs.declared.Found.{Found}
 use Rattle.sheet.specs.declared.Found.the-variants.{Present, Absent}
 use Rattle.sheet.specs.All.{_and_}
-use Rattle.sheet.specs.Names.{charts, nodes, bindings, chartParameters, boundChart, operator, isLiteral}
+use Rattle.sheet.specs.Names.{charts, nodes, chartParameters, boundChart, operator, isLiteral}
 use Rattle.sheet.specs.Sheet.{countOf, recordOf}
 use Rattle.sheet.proofs.All.{and-first, and-second, true-and, false-and, and-false, all-at, all-true, true-false}
 use Rattle.sheet_rules.specs.Fields.{oneIf, holds, numberOr0, sumBelow, countBelow}
 use Rattle.sheet_rules.specs.Forms.{operands, operandsIn, operandsOf}
-use Rattle.sheet_rules.specs.Shape.{literalShape, constantOf, constantShape, constantsShape, bindingShape}
+use Rattle.sheet_rules.specs.Bindings.{chartBound, firstBinding, elementsBoundIn, constantBinding, constantOf}
+use Rattle.sheet_rules.specs.Shape.{literalShape, constantShape, constantsShape, recordsShape, bindingShape}
 use Rattle.sheet_rules.specs.Uses.{standsIn, overBindings, constantUses, usesOf, usedOnce}
 use Rattle.sheet_rules.specs.Check.{shapeWith, shape, otherwiseInShape}
 use Rattle.sheet_rules.proofs.Fields.{holds-present}
+use Rattle.sheet_rules.proofs.Bindings.{chart-bound}
+use Rattle.sheet_rules.proofs.Shape.{binding-shaped}
 use Rattle.sheet_rules.proofs.Forms.{form-literal}
 use Rattle.sheet_uses.specs.Paths.{standsInBinding, pathsTo, onePath}
 use Rattle.sheet_rules.proofs.Sums.{sum-same, sum-some}
 use Rattle.sheet_uses.proofs.Trees.{leaf-uses, leaf-stands, higher-uses}
 use Rattle.sheet_uses.proofs.Homes.{inBodies, homeUses, agree-once, bodies-above}
-use Rattle.sheet_uses.proofs.Bodies.{binding-shaped}
+use Rattle.sheet_uses.proofs.Bodies.{sections}
 
 module _ (s : List ℕ) (ok : otherwiseInShape s ≡ true) where
   -- ---- constants are literals, which have no operands
@@ -43,48 +46,46 @@ module _ (s : List ℕ) (ok : otherwiseInShape s ≡ true) where
       go (Present r) p q = (r, p, and-first _ _ q)
       go Absent p q = absurd (true-false refl (sym q))
 
-  module _ (b c : Record) (shaped : bindingShape s b ≡ true) (chart : recordOf s charts (boundChart b) ≡ Present c) where
-    constant-shaped : (j : ℕ) → j < chartParameters c .count → constantShape s (constantOf b j) ≡ true
-    unfolding bindingShape constantsShape
-    constant-shaped j l = all-at (chartParameters c .count) _ (and-first _ _ (sym (holds-present _ c (constantsShape s b) chart) ∙ shaped)) j l
+  module _ (k : ℕ) (c : Record) (shaped : bindingShape s k ≡ true) (chart : chartBound s k ≡ Present c) where
+    constant-shaped : (j : ℕ) → j < chartParameters c .count → (b : Record) → constantBinding s k j ≡ Present b → constantShape s (constantOf b j) ≡ true
+    unfolding bindingShape recordsShape constantsShape
+    constant-shaped j l b e = let x = chart-bound s k c chart in sym (holds-present _ b _ e) ∙ all-at (chartParameters c .count) _ (and-first _ _ (sym (holds-present _ c (recordsShape s k (x .0)) (x .2)) ∙ sym (holds-present _ (x .0) (λ r. holds (recordOf s charts (boundChart r)) (recordsShape s k r)) (x .1)) ∙ shaped)) j l
 
   -- in one binding
-  same-constants : (n : ℕ) (b : Record) → bindingShape s b ≡ true → standsInBinding s n b ≡ constantUses s n b
-  unfolding standsInBinding constantUses countBelow numberOr0
-  same-constants n b shaped = go (recordOf s charts (boundChart b)) refl
+  same-constants : (n k : ℕ) → bindingShape s k ≡ true → standsInBinding s n k ≡ constantUses s n k
+  unfolding standsInBinding constantUses countBelow numberOr0 holds
+  same-constants n k shaped = go (chartBound s k) refl
     where
-      go : (f : Found) → recordOf s charts (boundChart b) ≡ f → numberOr0 f (λ c. sumBelow (chartParameters c .count) (λ j. standsIn s c n (constantOf b j))) ≡ numberOr0 f (λ c. sumBelow (chartParameters c .count) (λ j. oneIf (eqb (constantOf b j) n)))
-      go (Present c) p = sum-same _ _ _ (λ j l. let r = constant-leaf (constantOf b j) (constant-shaped b c shaped p j l) in leaf-stands s c n (constantOf b j) (r .0) (r .1) (leaf c (r .0) (r .2)))
+      one : (c : Record) → chartBound s k ≡ Present c → (j : ℕ) → j < chartParameters c .count → (f : Found) → constantBinding s k j ≡ f → numberOr0 f (λ b. standsIn s c n (constantOf b j)) ≡ oneIf (holds f (λ b. eqb (constantOf b j) n))
+      one c p j l (Present b) e = let r = constant-leaf (constantOf b j) (constant-shaped k c shaped p j l b e) in leaf-stands s c n (constantOf b j) (r .0) (r .1) (leaf c (r .0) (r .2))
+      one c p j l Absent e = refl
+
+      go : (f : Found) → chartBound s k ≡ f → numberOr0 f (λ c. sumBelow (chartParameters c .count) (λ j. numberOr0 (constantBinding s k j) (λ b. standsIn s c n (constantOf b j)))) ≡ numberOr0 f (λ c. sumBelow (chartParameters c .count) (λ j. oneIf (holds (constantBinding s k j) (λ b. eqb (constantOf b j) n))))
+      go (Present c) p = sum-same _ _ _ (λ j l. one c p j l (constantBinding s k j) refl)
       go Absent p = refl
 
   -- a constant has no operands
-  constant-here : (m : ℕ) (b : Record) → bindingShape s b ≡ true → 1 ≤ constantUses s m b → constantShape s m ≡ true
-  unfolding constantUses countBelow numberOr0
-  constant-here m b shaped = go (recordOf s charts (boundChart b)) refl
+  constant-here : (m k : ℕ) → bindingShape s k ≡ true → 1 ≤ constantUses s m k → constantShape s m ≡ true
+  unfolding constantUses countBelow numberOr0 holds
+  constant-here m k shaped = go (chartBound s k) refl
     where
       named : (x : ℕ) (t : Bool) → eqb x m ≡ t → 1 ≤ oneIf t → x ≡ m
       named x true e l = eqb-true x m e
       named x false e l = absurd (omega arith)
 
-      go : (f : Found) → recordOf s charts (boundChart b) ≡ f → 1 ≤ numberOr0 f (λ c. sumBelow (chartParameters c .count) (λ j. oneIf (eqb (constantOf b j) m))) → constantShape s m ≡ true
-      go (Present c) p l = let j = sum-some (chartParameters c .count) (λ j. oneIf (eqb (constantOf b j) m)) l in rw (← named (constantOf b (j .0)) _ refl (j .2)) (constant-shaped b c shaped p (j .0) (j .1))
+      one : (c : Record) → chartBound s k ≡ Present c → (j : ℕ) → j < chartParameters c .count → (f : Found) → constantBinding s k j ≡ f → 1 ≤ oneIf (holds f (λ b. eqb (constantOf b j) m)) → constantShape s m ≡ true
+      one c p j l (Present b) e h = rw (← named (constantOf b j) _ refl h) (constant-shaped k c shaped p j l b e)
+      one c p j l Absent e h = absurd (omega arith)
+
+      go : (f : Found) → chartBound s k ≡ f → 1 ≤ numberOr0 f (λ c. sumBelow (chartParameters c .count) (λ j. oneIf (holds (constantBinding s k j) (λ b. eqb (constantOf b j) m)))) → constantShape s m ≡ true
+      go (Present c) p l = let j = sum-some (chartParameters c .count) (λ j. oneIf (holds (constantBinding s k j) (λ b. eqb (constantOf b j) m))) l in one c p (j .0) (j .1) (constantBinding s k (j .0)) refl (j .2)
       go Absent p l = absurd (omega arith)
 
   constants-same : (n : ℕ) → overBindings s (standsInBinding s n) ≡ overBindings s (constantUses s n)
-  unfolding numberOr0
-  constants-same n = sum-same _ _ _ (λ i l. go i (recordOf s bindings i) refl)
-    where
-      go : (i : ℕ) (f : Found) → recordOf s bindings i ≡ f → numberOr0 f (standsInBinding s n) ≡ numberOr0 f (constantUses s n)
-      go i (Present b) p = same-constants n b (binding-shaped s ok i b p)
-      go i Absent p = refl
+  constants-same n = sum-same _ _ _ (λ i l. same-constants n (firstBinding s i) (binding-shaped s (sections s ok) i l))
 
   no-uses : (m n : ℕ) → 1 ≤ overBindings s (constantUses s m) → homeUses s m n ≡ 0
-  unfolding numberOr0
-  no-uses m n h = let i = sum-some (countOf s bindings) (λ i. numberOr0 (recordOf s bindings i) (constantUses s m)) h in let r = constant-leaf m (go (i .0) (recordOf s bindings (i .0)) refl (i .2)) in leaf-uses s _ m n (r .0) (r .1) (leaf _ (r .0) (r .2))
-    where
-      go : (i : ℕ) (f : Found) → recordOf s bindings i ≡ f → 1 ≤ numberOr0 f (constantUses s m) → constantShape s m ≡ true
-      go i (Present b) p l = constant-here m b (binding-shaped s ok i b p) l
-      go i Absent p l = absurd (omega arith)
+  no-uses m n h = let i = sum-some (elementsBoundIn s) (λ i. constantUses s m (firstBinding s i)) h in let r = constant-leaf m (constant-here m (firstBinding s (i .0)) (binding-shaped s (sections s ok) (i .0) (i .1)) (i .2)) in leaf-uses s _ m n (r .0) (r .1) (leaf _ (r .0) (r .2))
 
   -- ---- where each node above has one path, the paths to a node are its uses
 

@@ -3,17 +3,16 @@ use Prim.Native.Nat.{ℕ, _+_}
 use mathlib.Core.List.{List}
 use mathlib.Core.Bool.{Bool}
 use lib.Dec.{eqb}
-use Rattle.sheet.specs.declared.Record.{Record}
 use Rattle.sheet.specs.All.{allBelow}
-use Rattle.sheet.specs.Names.{charts, nodes, chartParameters, boundChart}
-use Rattle.sheet.specs.Sheet.{countOf, recordOf}
+use Rattle.sheet.specs.Names.{nodes, chartParameters}
+use Rattle.sheet.specs.Sheet.{countOf}
 use Rattle.sheet_rules.specs.Fields.{numberOr0, sumBelow}
-use Rattle.sheet_rules.specs.Shape.{constantOf}
+use Rattle.sheet_rules.specs.Bindings.{chartBound, constantBinding, constantOf}
 use Rattle.sheet_rules.specs.Uses.{standsIn, overCharts, overBindings, standsInBodies}
 
--- how often node n stands in the trees of the constants of binding b
-unfoldable pub standsInBinding : List ℕ → ℕ → Record → ℕ
-standsInBinding s n b = numberOr0 (recordOf s charts (boundChart b)) (λ c. sumBelow (chartParameters c .count) (λ j. standsIn s c n (constantOf b j)))
+-- how often node n stands in the trees of the constants of the element whose first binding record is k
+unfoldable pub standsInBinding : List ℕ → ℕ → ℕ → ℕ
+standsInBinding s n k = numberOr0 (chartBound s k) (λ c. sumBelow (chartParameters c .count) (λ j. numberOr0 (constantBinding s k j) (λ b. standsIn s c n (constantOf b j))))
 
 unfoldable pub pathsTo : List ℕ → ℕ → ℕ
 pathsTo s n = overCharts s (standsInBodies s n) + overBindings s (standsInBinding s n)

@@ -6,8 +6,9 @@ use Prim.Native.Nat.{ℕ, _+_, _-_}
 use borrow.Author.Tests.{le-leb, lt-leb, eq-eqb, ne-eqb, not-true, not-false}
 use Rattle.sheet.proofs.All.{first-fails, rest-fails, first-holds}
 use Rattle.sheet.specs.Sheet.{countOf, directoryRight}
-use Rattle.sheet.proofs.Sheet.{count-some, count-limit}
+use Rattle.sheet.proofs.Sheet.{count-some}
 use Rattle.sheet_rules.specs.Fields.{fieldOf, fieldAt, componentsOf, externalsOf}
+use Rattle.sheet_rules.specs.Bindings.{elementsBoundIn}
 use Rattle.sheet_rules.specs.Shape.{elementsBound}
 use Rattle.sheet_rules.specs.Check.{shapeWith, shape}
 use borrow.Author.Needs.{needs}
@@ -17,12 +18,12 @@ use Rattle.checker.proofs.shape_holds.Tie as tie
 right-with-head : (s : List ℕ) (n : ℕ) → n ≡ countOf s 0 → n ≡ 1 → directoryRight s ≡ true
 right-with-head s n e one = count-some s 0 0 (omega arith) .0
 
-module _ (s : List ℕ) (x y n : ℕ) (p : x ≡ fieldAt s 0 0 1) (q : y ≡ fieldAt s 0 0 0) (e : n ≡ countOf s 7) where
-  bound : x + n ≡ y → externalsOf s + countOf s 7 ≡ componentsOf s
+module _ (s : List ℕ) (x y n : ℕ) (p : x ≡ fieldAt s 0 0 1) (q : y ≡ fieldAt s 0 0 0) (e : n ≡ elementsBoundIn s) where
+  bound : x + n ≡ y → externalsOf s + elementsBoundIn s ≡ componentsOf s
   unfolding externalsOf componentsOf fieldAt fieldOf
   bound h = rw (← p, ← q, ← e) h
 
-  bound-back : externalsOf s + countOf s 7 ≡ componentsOf s → x + n ≡ y
+  bound-back : externalsOf s + elementsBoundIn s ≡ componentsOf s → x + n ≡ y
   unfolding externalsOf componentsOf fieldAt fieldOf
   bound-back h = rw (p, q, e) h
 
@@ -53,15 +54,15 @@ field-at-requires c κs = search needs
 field-at-requires-2 : tie.Need-field-at-requires-2
 field-at-requires-2 c κs = search needs
 
-count-in-requires-2 : tie.Need-count-in-requires-2
-count-in-requires-2 c κs = search needs
+elements-bound-requires : tie.Need-elements-bound-requires
+elements-bound-requires c κs = search needs
 
 add-if4 : tie.Need-add-if4
-add-if4 c = omega (arith, c .before .field-at2 .ensures .1, c .count-in2 .ensures _ (c .before .before .before .before .before .before .before .before .before .before .before .pre .0), count-limit (c .before .before .before .before .before .before .before .before .before .before .before .args .sheet .now) 7)
+add-if4 c = omega (arith, c .before .field-at2 .ensures .1, c .elements-bound .ensures .1)
 
 returns-4 : tie.Need-returns-4
 unfolding shape shapeWith elementsBound
-returns-4 c = rest-fails _ _ (rest-fails _ _ (rest-fails _ _ (rest-fails _ _ (first-fails _ _ (ne-eqb _ _ (λ e. c .if4 .taken (bound-back _ _ _ _ (c .before .before .field-at2 .ensures .0) (c .before .before .before .field-at .ensures .0) (c .before .count-in2 .ensures _ (c .before .before .before .before .before .before .before .before .before .before .before .before .pre .0)) e)))))))
+returns-4 c = rest-fails _ _ (rest-fails _ _ (rest-fails _ _ (rest-fails _ _ (first-fails _ _ (ne-eqb _ _ (λ e. c .if4 .taken (bound-back _ _ _ _ (c .before .before .field-at2 .ensures .0) (c .before .before .before .field-at .ensures .0) (c .before .elements-bound .ensures .0) e)))))))
 
 cells-requires : tie.Need-cells-requires
 cells-requires c κs = search needs
@@ -88,7 +89,7 @@ same-length-2 c = c .before .before .before .before .before .used-once .ensures 
 
 returns-7 : tie.Need-returns-7
 unfolding shape shapeWith elementsBound
-returns-7 c = first-holds _ _ _ (right-with-head _ _ (c .before .before .before .before .before .before .before .before .before .before .before .before .before .before .before .before .before .before .count-in .ensures _ (c .before .before .before .before .before .before .before .before .before .before .before .before .before .before .before .before .before .before .before .before .before .pre .0)) (c .before .before .before .before .before .before .before .before .before .before .before .before .before .before .before .before .before .if1 .left)) (first-holds _ _ _ (eq-eqb _ _ (sym (c .before .before .before .before .before .before .before .before .before .before .before .before .before .before .before .before .before .before .count-in .ensures _ (c .before .before .before .before .before .before .before .before .before .before .before .before .before .before .before .before .before .before .before .before .before .pre .0)) ∙ c .before .before .before .before .before .before .before .before .before .before .before .before .before .before .before .before .before .if1 .left)) (first-holds _ _ _ (sym (c .before .before .before .before .before .before .before .before .before .before .before .before .before .before .before .before .sections-fit .ensures) ∙ not-false _ (c .before .before .before .before .before .before .before .before .before .before .before .before .before .before .before .if2 .left)) (first-holds _ _ _ (sym (c .before .before .before .before .before .before .before .before .before .before .before .before .before .before .bodies-covered .ensures) ∙ not-false _ (c .before .before .before .before .before .before .before .before .before .before .before .before .before .if3 .left)) (first-holds _ _ _ (eq-eqb _ _ (bound _ _ _ _ (c .before .before .before .before .before .before .before .before .before .before .before .field-at2 .ensures .0) (c .before .before .before .before .before .before .before .before .before .before .before .before .field-at .ensures .0) (c .before .before .before .before .before .before .before .before .before .before .count-in2 .ensures _ (c .before .before .before .before .before .before .before .before .before .before .before .before .before .before .before .before .before .before .before .before .before .pre .0)) (c .before .before .before .before .before .before .before .before .before .if4 .left))) (first-holds _ _ _ (le-leb _ _ (rw (c .before .before .before .before .before .before .before .before .cells .ensures) at (c .before .before .before .before .before .before .before .if5 .left))) (first-holds _ _ _ (sym (c .before .before .before .before .before .used-once .ensures .once) ∙ not-false _ (c .before .if6 .left)) (c .nodes-fit .ensures)))))))
+returns-7 c = first-holds _ _ _ (right-with-head _ _ (c .before .before .before .before .before .before .before .before .before .before .before .before .before .before .before .before .before .before .count-in .ensures _ (c .before .before .before .before .before .before .before .before .before .before .before .before .before .before .before .before .before .before .before .before .before .pre .0)) (c .before .before .before .before .before .before .before .before .before .before .before .before .before .before .before .before .before .if1 .left)) (first-holds _ _ _ (eq-eqb _ _ (sym (c .before .before .before .before .before .before .before .before .before .before .before .before .before .before .before .before .before .before .count-in .ensures _ (c .before .before .before .before .before .before .before .before .before .before .before .before .before .before .before .before .before .before .before .before .before .pre .0)) ∙ c .before .before .before .before .before .before .before .before .before .before .before .before .before .before .before .before .before .if1 .left)) (first-holds _ _ _ (sym (c .before .before .before .before .before .before .before .before .before .before .before .before .before .before .before .before .sections-fit .ensures) ∙ not-false _ (c .before .before .before .before .before .before .before .before .before .before .before .before .before .before .before .if2 .left)) (first-holds _ _ _ (sym (c .before .before .before .before .before .before .before .before .before .before .before .before .before .before .bodies-covered .ensures) ∙ not-false _ (c .before .before .before .before .before .before .before .before .before .before .before .before .before .if3 .left)) (first-holds _ _ _ (eq-eqb _ _ (bound _ _ _ _ (c .before .before .before .before .before .before .before .before .before .before .before .field-at2 .ensures .0) (c .before .before .before .before .before .before .before .before .before .before .before .before .field-at .ensures .0) (c .before .before .before .before .before .before .before .before .before .before .elements-bound .ensures .0) (c .before .before .before .before .before .before .before .before .before .if4 .left))) (first-holds _ _ _ (le-leb _ _ (rw (c .before .before .before .before .before .before .before .before .cells .ensures) at (c .before .before .before .before .before .before .before .if5 .left))) (first-holds _ _ _ (sym (c .before .before .before .before .before .used-once .ensures .once) ∙ not-false _ (c .before .if6 .left)) (c .nodes-fit .ensures)))))))
 
 pub shape-holds-spec : {M : Type 1} → statement M
 shape-holds-spec =
@@ -102,7 +103,7 @@ shape-holds-spec =
     returns-3
     field-at-requires
     field-at-requires-2
-    count-in-requires-2
+    elements-bound-requires
     add-if4
     returns-4
     cells-requires

@@ -1,46 +1,63 @@
 use native.Mathlib.Omega.{arith}
-use mathlib.Core.Path.{_≡_, refl, sym, ap, _∙_}
+use mathlib.Core.Path.{_≡_, refl, sym, _∙_}
 use mathlib.Core.Bool.{Bool, true}
 use mathlib.Core.List.{List}
-use Prim.Native.Nat.{ℕ, _+_, _-_, _≤_}
+use Prim.Native.Nat.{ℕ, _-_, _≤_, _<_}
 use borrow.Author.Tests.{not-true, not-false}
 use borrow.Author.Needs.{needs}
 use Rattle.sheet.specs.All.{allBelow}
-use Rattle.sheet.proofs.All.{first-fails, first-holds, all-more, all-fails, loop-ends}
-use Rattle.sheet.specs.declared.Record.{Record}
-use Rattle.sheet_rules.specs.Fields.{fieldOf}
+use Rattle.sheet.proofs.All.{all-more, loop-fails, loop-ends}
+use Rattle.sheet_rules.specs.Fields.{holds}
+use Rattle.sheet_rules.specs.Bindings.{constantBinding, constantOf}
 use Rattle.sheet_rules.specs.Shape.{constantShape, constantsShape}
+use Rattle.sheet_rules.proofs.Bindings.{constant-absent, constant-present}
 use Rattle.checker_bindings.proofs.constants_fit.Statement.{statement}
 use Rattle.checker_bindings.proofs.constants_fit.Tie as tie
 
-abbrev fits : List ℕ → Record → ℕ → Bool
-fits s r j = constantShape s (fieldOf r (1 + j))
+abbrev fits : List ℕ → ℕ → ℕ → Bool
+fits s k j = holds (constantBinding s k j) (λ b. constantShape s (constantOf b j))
 
 abbrev Inv-loop : tie.InvT-loop
-Inv-loop sheet directory r count j₀ j = (j ≤ count) × (allBelow j (fits sheet r) ≡ true)
+Inv-loop sheet directory k count j₀ j = (j ≤ count) × (count < 65536) × (allBelow j (fits sheet k) ≡ true)
 
 abbrev μ-loop : tie.MeasureT-loop
-μ-loop sheet directory r count j₀ j = count - j
+μ-loop sheet directory k count j₀ j = count - j
 
 cast-count : tie.Need-cast-count Inv-loop μ-loop
 cast-count c = search needs
 
 loop-holds : tie.Need-loop-holds Inv-loop μ-loop
 unfolding allBelow
-loop-holds c = (omega arith, refl)
+loop-holds c = (omega arith, search needs, refl)
 
-add-field : tie.Need-add-field Inv-loop μ-loop
-add-field c = search needs
+constant-record-requires : tie.Need-constant-record-requires Inv-loop μ-loop
+constant-record-requires c κs = c .before .before .before .before .pre .1
+
+read-requires : tie.Need-read-requires Inv-loop μ-loop
+read-requires c κs = c .before .before .before .before .before .pre .0
+
+enum-known-b : tie.Need-enum-known-b Inv-loop μ-loop
+enum-known-b c = search needs
+
+enum-told : tie.Need-enum-told Inv-loop μ-loop
+enum-told c = search needs
+
+returns : tie.Need-returns Inv-loop μ-loop
+unfolding constantsShape
+returns c = loop-fails _ _ _ _ refl (c .before .before .before .before .loop-test .taken) (constant-absent _ _ _ _ (c .before .before .before .constant-record .ensures) _ (sym (c .before .before .read .ensures) ∙ c .enum-told .given .1))
+
+constant-field-requires : tie.Need-constant-field-requires Inv-loop μ-loop
+constant-field-requires c κs = let l = c .before .before .before .before .before .loop-test .taken in let m = c .before .before .before .before .before .before .loop .inv .1 in omega arith
 
 field-requires : tie.Need-field-requires Inv-loop μ-loop
 field-requires c κs = search needs
 
 constant-fits-requires : tie.Need-constant-fits-requires Inv-loop μ-loop
-constant-fits-requires c κs = search needs
+constant-fits-requires c κs = c .before .before .before .before .before .before .before .before .before .before .before .pre .0
 
-returns : tie.Need-returns Inv-loop μ-loop
+returns-2 : tie.Need-returns-2 Inv-loop μ-loop
 unfolding constantsShape
-returns c = first-fails _ _ (all-fails _ _ (c .before .before .before .before .loop .j) (c .before .before .before .loop-test .taken) (sym (c .before .constant-fits .ensures ∙ ap (constantShape _) (c .before .before .field .ensures .0)) ∙ not-true _ (c .if1 .taken)))
+returns-2 c = loop-fails _ _ _ _ refl (c .before .before .before .before .before .before .before .before .before .loop-test .taken) (constant-present _ _ _ _ (c .before .before .before .before .before .before .before .before .constant-record .ensures) (constantShape _) _ _ _ _ (sym (c .before .before .before .before .before .before .before .read .ensures) ∙ c .before .before .before .before .before .b .given .1) (c .before .before .before .constant-field .ensures) (c .before .before .field .ensures .0) (c .before .constant-fits .ensures) ∙ not-true _ (c .if1 .taken))
 
 add-j : tie.Need-add-j Inv-loop μ-loop
 add-j c = search needs
@@ -49,17 +66,11 @@ loop-less : tie.Need-loop-less Inv-loop μ-loop
 loop-less c = search needs
 
 loop-again : tie.Need-loop-again Inv-loop μ-loop
-loop-again c = (omega arith, all-more (c .before .before .before .before .loop .j) _ (c .before .before .before .before .loop .inv .1) (sym (c .before .constant-fits .ensures ∙ ap (constantShape _) (c .before .before .field .ensures .0)) ∙ not-false _ (c .if1 .left)))
+loop-again c = (omega arith, c .before .before .before .before .before .before .before .before .before .before .loop .inv .1, all-more (c .before .before .before .before .before .before .before .before .before .before .loop .j) _ (c .before .before .before .before .before .before .before .before .before .before .loop .inv .2) (constant-present _ _ _ _ (c .before .before .before .before .before .before .before .before .constant-record .ensures) (constantShape _) _ _ _ _ (sym (c .before .before .before .before .before .before .before .read .ensures) ∙ c .before .before .before .before .before .b .given .1) (c .before .before .before .constant-field .ensures) (c .before .before .field .ensures .0) (c .before .constant-fits .ensures) ∙ not-false _ (c .if1 .left)))
 
-add-zero-from : tie.Need-add-zero-from Inv-loop μ-loop
-add-zero-from c = search needs
-
-zero-from-requires : tie.Need-zero-from-requires Inv-loop μ-loop
-zero-from-requires c κs = search needs
-
-returns-2 : tie.Need-returns-2 Inv-loop μ-loop
+returns-3 : tie.Need-returns-3 Inv-loop μ-loop
 unfolding constantsShape
-returns-2 c = first-holds _ _ _ (sym (loop-ends _ _ _ _ refl (c .before .before .loop .inv .0) (c .before .loop-test .left) (c .before .before .loop .inv .1))) (c .zero-from .ensures)
+returns-3 c = loop-ends _ _ _ _ refl (c .before .loop .inv .0) (c .loop-test .left) (c .before .loop .inv .2)
 
 pub constants-fit-spec : {M : Type 1} → statement M
 constants-fit-spec =
@@ -69,13 +80,16 @@ constants-fit-spec =
     μ-loop
     cast-count
     loop-holds
-    add-field
+    constant-record-requires
+    read-requires
+    enum-known-b
+    enum-told
+    returns
+    constant-field-requires
     field-requires
     constant-fits-requires
-    returns
+    returns-2
     add-j
     loop-less
     loop-again
-    add-zero-from
-    zero-from-requires
-    returns-2)
+    returns-3)

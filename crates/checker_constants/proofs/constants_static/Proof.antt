@@ -1,30 +1,33 @@
 use native.Mathlib.Omega.{arith}
-use mathlib.Core.Path.{_≡_, refl, sym, _∙_}
+use mathlib.Core.Path.{_≡_, refl, sym, ap, _∙_}
 use mathlib.Core.Bool.{Bool, true}
 use mathlib.Core.List.{List}
 use Prim.Native.Nat.{ℕ, _+_, _-_, _≤_, _<_}
 use borrow.Author.Tests.{not-true, not-false}
 use borrow.Author.Needs.{needs}
-use Rattle.sheet.specs.All.{allBelow}
-use Rattle.sheet.proofs.All.{all-more, loop-fails, loop-ends}
 use Rattle.sheet.specs.declared.Record.{Record}
-use Rattle.sheet_rules.specs.Fields.{typeAt}
-use Rattle.sheet_rules.specs.Fields.{fieldOf}
+use Rattle.sheet.specs.declared.Found.the-variants.{Present}
+use Rattle.sheet.specs.All.{allBelow}
+use Rattle.sheet.specs.Sheet.{recordOf}
+use Rattle.sheet.proofs.All.{all-more, loop-fails, loop-ends}
+use Rattle.sheet_rules.specs.Fields.{fieldOf, holds, typeAt}
+use Rattle.sheet_rules.specs.Bindings.{constantRecord, constantBinding, constantField, constantOf}
 use Rattle.sheet_rules.specs.Static.{constantStatic, constantsStatic}
+use Rattle.sheet_rules.proofs.Bindings.{constant-absent, constant-present}
 use Rattle.checker_constants.proofs.constants_static.Statement.{statement}
 use Rattle.checker_constants.proofs.constants_static.Tie as tie
 
-abbrev constantFits : List ℕ → Record → ℕ → ℕ → Bool
-constantFits s r first j = constantStatic s (fieldOf r (1 + j)) (typeAt s (first + j))
+abbrev constantFits : List ℕ → ℕ → ℕ → ℕ → Bool
+constantFits s k first j = holds (constantBinding s k j) (λ b. constantStatic s (constantOf b j) (typeAt s (first + j)))
 
-same-constant : (s : List ℕ) (n n′ t t′ : ℕ) (x : Bool) → n ≡ n′ → t ≡ t′ → x ≡ constantStatic s n t → constantStatic s n′ t′ ≡ x
-same-constant s n n′ t t′ x p q e = sym (rw (p, q) at e)
+of-type : (s : List ℕ) (k j first m f n t : ℕ) (b : Record) (x : Bool) → m ≡ constantRecord k j → recordOf s 7 m ≡ Present b → f ≡ constantField j → n ≡ fieldOf b f → t ≡ typeAt s (first + j) → x ≡ constantStatic s n t → constantFits s k first j ≡ x
+of-type s k j first m f n t b x at e field node type is = constant-present s k j m at (λ n. constantStatic s n (typeAt s (first + j))) b f n x e field node (is ∙ ap (constantStatic s n) type)
 
 abbrev Inv-loop : tie.InvT-loop
-Inv-loop sheet directory r first count j₀ j = (j ≤ count) × (count < 65536) × (allBelow j (constantFits sheet r first) ≡ true)
+Inv-loop sheet directory k first count j₀ j = (j ≤ count) × (count < 65536) × (allBelow j (constantFits sheet k first) ≡ true)
 
 abbrev μ-loop : tie.MeasureT-loop
-μ-loop sheet directory r first count j₀ j = count - j
+μ-loop sheet directory k first count j₀ j = count - j
 
 cast-first : tie.Need-cast-first Inv-loop μ-loop
 cast-first c = search needs
@@ -42,18 +45,34 @@ add-type-at c = search needs
 type-at-requires : tie.Need-type-at-requires Inv-loop μ-loop
 type-at-requires c κs = search needs
 
-add-field : tie.Need-add-field Inv-loop μ-loop
-add-field c = search needs
+constant-record-requires : tie.Need-constant-record-requires Inv-loop μ-loop
+constant-record-requires c κs = c .before .before .before .before .before .before .pre .1
+
+read-requires : tie.Need-read-requires Inv-loop μ-loop
+read-requires c κs = c .before .before .before .before .before .before .before .pre .0
+
+enum-known-b : tie.Need-enum-known-b Inv-loop μ-loop
+enum-known-b c = search needs
+
+enum-told : tie.Need-enum-told Inv-loop μ-loop
+enum-told c = search needs
+
+returns : tie.Need-returns Inv-loop μ-loop
+unfolding constantsStatic
+returns c = loop-fails _ _ _ _ refl (c .before .before .before .before .before .loop-test .taken) (constant-absent _ _ _ _ (c .before .before .before .constant-record .ensures) _ (sym (c .before .before .read .ensures) ∙ c .enum-told .given .1))
+
+constant-field-requires : tie.Need-constant-field-requires Inv-loop μ-loop
+constant-field-requires c κs = let l = c .before .before .before .before .before .before .loop-test .taken in let m = c .before .before .before .before .before .before .before .loop .inv .1 in omega arith
 
 field-requires : tie.Need-field-requires Inv-loop μ-loop
 field-requires c κs = search needs
 
 constant-static-requires : tie.Need-constant-static-requires Inv-loop μ-loop
-constant-static-requires c κs = search needs
+constant-static-requires c κs = c .before .before .before .before .before .before .before .before .before .before .before .before .before .pre .0
 
-returns : tie.Need-returns Inv-loop μ-loop
+returns-2 : tie.Need-returns-2 Inv-loop μ-loop
 unfolding constantsStatic
-returns c = loop-fails _ _ _ _ refl (c .before .before .before .before .loop-test .taken) (same-constant _ _ _ _ _ _ (c .before .before .field .ensures .0) (c .before .before .before .type-at .ensures) (c .before .constant-static .ensures) ∙ not-true _ (c .if1 .taken))
+returns-2 c = loop-fails _ _ _ _ refl (c .before .before .before .before .before .before .before .before .before .before .loop-test .taken) (of-type _ _ _ _ _ _ _ _ _ _ (c .before .before .before .before .before .before .before .before .constant-record .ensures) (sym (c .before .before .before .before .before .before .before .read .ensures) ∙ c .before .before .before .before .before .b .given .1) (c .before .before .before .constant-field .ensures) (c .before .before .field .ensures .0) (c .before .before .before .before .before .before .before .before .before .type-at .ensures) (c .before .constant-static .ensures) ∙ not-true _ (c .if1 .taken))
 
 add-j : tie.Need-add-j Inv-loop μ-loop
 add-j c = search needs
@@ -62,11 +81,11 @@ loop-less : tie.Need-loop-less Inv-loop μ-loop
 loop-less c = search needs
 
 loop-again : tie.Need-loop-again Inv-loop μ-loop
-loop-again c = (omega arith, c .before .before .before .before .before .loop .inv .1, all-more (c .before .before .before .before .before .loop .j) _ (c .before .before .before .before .before .loop .inv .2) (same-constant _ _ _ _ _ _ (c .before .before .field .ensures .0) (c .before .before .before .type-at .ensures) (c .before .constant-static .ensures) ∙ not-false _ (c .if1 .left)))
+loop-again c = (omega arith, c .before .before .before .before .before .before .before .before .before .before .before .loop .inv .1, all-more (c .before .before .before .before .before .before .before .before .before .before .before .loop .j) _ (c .before .before .before .before .before .before .before .before .before .before .before .loop .inv .2) (of-type _ _ _ _ _ _ _ _ _ _ (c .before .before .before .before .before .before .before .before .constant-record .ensures) (sym (c .before .before .before .before .before .before .before .read .ensures) ∙ c .before .before .before .before .before .b .given .1) (c .before .before .before .constant-field .ensures) (c .before .before .field .ensures .0) (c .before .before .before .before .before .before .before .before .before .type-at .ensures) (c .before .constant-static .ensures) ∙ not-false _ (c .if1 .left)))
 
-returns-2 : tie.Need-returns-2 Inv-loop μ-loop
+returns-3 : tie.Need-returns-3 Inv-loop μ-loop
 unfolding constantsStatic
-returns-2 c = loop-ends _ _ _ _ refl (c .before .loop .inv .0) (c .loop-test .left) (c .before .loop .inv .2)
+returns-3 c = loop-ends _ _ _ _ refl (c .before .loop .inv .0) (c .loop-test .left) (c .before .loop .inv .2)
 
 pub constants-static-spec : {M : Type 1} → statement M
 constants-static-spec =
@@ -79,11 +98,16 @@ constants-static-spec =
     loop-holds
     add-type-at
     type-at-requires
-    add-field
+    constant-record-requires
+    read-requires
+    enum-known-b
+    enum-told
+    returns
+    constant-field-requires
     field-requires
     constant-static-requires
-    returns
+    returns-2
     add-j
     loop-less
     loop-again
-    returns-2)
+    returns-3)

@@ -2,7 +2,6 @@ use mathlib.Core.Path.{_≡_, sym, ap, _∙_}
 use mathlib.Core.Bool.{true}
 use mathlib.Core.List.{List}
 use Prim.Native.Nat.{ℕ, _≤_}
-use native.Mathlib.Decide.{ℕ-discrete}
 use native.Mathlib.Omega.{arith}
 use borrow.Author.Needs.{needs}
 use Rattle.sheet.specs.declared.Record.{Record}
@@ -15,9 +14,9 @@ use Rattle.checker_shape.proofs.record_fits.Tie as tie
 from-0 : (k : ℕ) → 0 ≤ k
 from-0 k = omega arith
 
-other : (s : List ℕ) (k i : ℕ) (r : Record) → (k ≡ 0 → ⊥) → (k ≡ 1 → ⊥) → (k ≡ 2 → ⊥) → (k ≡ 3 → ⊥) → (k ≡ 4 → ⊥) → (k ≡ 5 → ⊥) → (k ≡ 7 → ⊥) → recordShape s k i r ≡ true
+other : (s : List ℕ) (k i : ℕ) (r : Record) → (k ≡ 0 → ⊥) → (k ≡ 1 → ⊥) → (k ≡ 2 → ⊥) → (k ≡ 3 → ⊥) → (k ≡ 4 → ⊥) → (k ≡ 5 → ⊥) → recordShape s k i r ≡ true
 unfolding recordShape lookUp
-other s k i r a b d e f g h = elim (ℕ-discrete k 6) [ yes q ↦ ap (λ k. recordShape s k i r) q | no q ↦ lines-past true 8 (shapeTable s i r) 8 k tt (beyond (beyond (beyond (beyond (beyond (beyond (beyond (beyond (from-0 k) a) b) d) e) f) g) q) h) ]
+other s k i r a b d e f g = lines-past true 6 (shapeTable s i r) 6 k tt (beyond (beyond (beyond (beyond (beyond (beyond (from-0 k) a) b) d) e) f) g)
 
 head-fits-requires : tie.Need-head-fits-requires
 head-fits-requires c κs = search needs
@@ -36,9 +35,6 @@ chart-fits-requires c κs = search needs
 
 body-fits-requires : tie.Need-body-fits-requires
 body-fits-requires c κs = search needs
-
-binding-fits-requires : tie.Need-binding-fits-requires
-binding-fits-requires c κs = search needs
 
 returns : tie.Need-returns
 unfolding recordShape lookUp
@@ -65,11 +61,7 @@ unfolding recordShape lookUp
 returns-6 c = c .body-fits .ensures ∙ sym (ap (λ n. recordShape (c .before .before .before .args .sheet .now) n (c .before .before .before .args .i) (c .before .before .before .args .r)) (c .before .match .keys6))
 
 returns-7 : tie.Need-returns-7
-unfolding recordShape lookUp
-returns-7 c = c .binding-fits .ensures ∙ sym (ap (λ n. recordShape (c .before .before .before .args .sheet .now) n (c .before .before .before .args .i) (c .before .before .before .args .r)) (c .before .match .keys7))
-
-returns-8 : tie.Need-returns-8
-returns-8 c = sym (other _ _ _ _ (c .match .rest .0 .0 .0 .0 .0 .0 .1) (c .match .rest .0 .0 .0 .0 .0 .1) (c .match .rest .0 .0 .0 .0 .1) (c .match .rest .0 .0 .0 .1) (c .match .rest .0 .0 .1) (c .match .rest .0 .1) (c .match .rest .1))
+returns-7 c = sym (other _ _ _ _ (c .match .rest .0 .0 .0 .0 .0 .1) (c .match .rest .0 .0 .0 .0 .1) (c .match .rest .0 .0 .0 .1) (c .match .rest .0 .0 .1) (c .match .rest .0 .1) (c .match .rest .1))
 
 pub record-fits-spec : {M : Type 1} → statement M
 record-fits-spec =
@@ -81,12 +73,10 @@ record-fits-spec =
     name-fits-requires
     chart-fits-requires
     body-fits-requires
-    binding-fits-requires
     returns
     returns-2
     returns-3
     returns-4
     returns-5
     returns-6
-    returns-7
-    returns-8)
+    returns-7)

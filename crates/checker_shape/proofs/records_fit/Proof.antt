@@ -10,7 +10,7 @@ use Rattle.sheet.proofs.All.{all-more, loop-fails, loop-ends}
 use Rattle.sheet_rules.proofs.Fields.{holds-present, holds-absent}
 use Rattle.sheet.specs.Sheet.{recordOf}
 use Rattle.sheet_rules.specs.Fields.{holds}
-use Rattle.sheet_rules.specs.Shape.{recordShape, sectionShape}
+use Rattle.sheet_rules.specs.Shape.{recordShape, eachShape}
 use Rattle.checker_shape.proofs.records_fit.Statement.{statement}
 use Rattle.checker_shape.proofs.records_fit.Tie as tie
 
@@ -40,14 +40,14 @@ enum-told : tie.Need-enum-told Inv-loop μ-loop
 enum-told c = search needs
 
 returns : tie.Need-returns Inv-loop μ-loop
-unfolding sectionShape
+unfolding eachShape
 returns c = loop-fails _ _ _ _ (c .before .before .before .before .before .count-in .ensures _ (c .before .before .before .before .before .before .before .pre)) (c .before .before .before .loop-test .taken) (holds-absent _ _ (sym (c .before .before .read .ensures) ∙ c .enum-told .given .1))
 
 record-fits-requires : tie.Need-record-fits-requires Inv-loop μ-loop
 record-fits-requires c κs = search needs
 
 returns-2 : tie.Need-returns-2 Inv-loop μ-loop
-unfolding sectionShape
+unfolding eachShape
 returns-2 c = loop-fails _ _ _ _ (c .before .before .before .before .before .before .before .before .count-in .ensures _ (c .before .before .before .before .before .before .before .before .before .before .pre)) (c .before .before .before .before .before .before .loop-test .taken) (holds-present _ _ _ (sym (c .before .before .before .before .before .read .ensures) ∙ c .before .before .before .r .given .1) ∙ sym (c .before .record-fits .ensures) ∙ not-true _ (c .if1 .taken))
 
 add-i : tie.Need-add-i Inv-loop μ-loop
@@ -60,7 +60,7 @@ loop-again : tie.Need-loop-again Inv-loop μ-loop
 loop-again c = (omega arith, all-more (c .before .before .before .before .before .before .before .loop .i) _ (c .before .before .before .before .before .before .before .loop .inv .1) (holds-present _ _ _ (sym (c .before .before .before .before .before .read .ensures) ∙ c .before .before .before .r .given .1) ∙ sym (c .before .record-fits .ensures) ∙ not-false _ (c .if1 .left)))
 
 returns-3 : tie.Need-returns-3 Inv-loop μ-loop
-unfolding sectionShape
+unfolding eachShape
 returns-3 c = loop-ends _ _ _ _ (c .before .before .count-in .ensures _ (c .before .before .before .before .pre)) (c .before .loop .inv .0) (c .loop-test .left) (c .before .loop .inv .1)
 
 pub records-fit-spec : {M : Type 1} → statement M

@@ -12,12 +12,9 @@ use Rattle.sheet_rules.specs.Static.{staticTable, recordStatic}
 use Rattle.checker_statics.proofs.record_static.Statement.{statement}
 use Rattle.checker_statics.proofs.record_static.Tie as tie
 
-other : (s : List ℕ) (k : ℕ) (r : Record) → (k ≡ 2 → ⊥) → (k ≡ 3 → ⊥) → (k ≡ 4 → ⊥) → (k ≡ 7 → ⊥) → recordStatic s k r ≡ true
+other : (s : List ℕ) (k : ℕ) (r : Record) → (k ≡ 2 → ⊥) → (k ≡ 3 → ⊥) → (k ≡ 4 → ⊥) → recordStatic s k r ≡ true
 unfolding recordStatic lookUp
-other s k r a b d e = elim (decLt k 2) [
-  | yes l ↦ line-at true (staticTable s r) 0 0 k _ _ refl tt (omega arith) l
-  | no l ↦ elim (decLt k 7) [ yes m ↦ line-at true (staticTable s r) 4 5 k _ _ refl tt (omega arith) m | no m ↦ lines-past true 6 (staticTable s r) 8 k tt (omega arith) ]
-]
+other s k r a b d = elim (decLt k 2) [ yes l ↦ line-at true (staticTable s r) 0 0 k _ _ refl tt (omega arith) l | no l ↦ lines-past true 4 (staticTable s r) 5 k tt (omega arith) ]
 
 declaration-static-requires : tie.Need-declaration-static-requires
 declaration-static-requires c κs = search needs
@@ -27,9 +24,6 @@ name-static-requires c κs = search needs
 
 chart-static-requires : tie.Need-chart-static-requires
 chart-static-requires c κs = search needs
-
-binding-static-requires : tie.Need-binding-static-requires
-binding-static-requires c κs = search needs
 
 returns : tie.Need-returns
 unfolding recordStatic lookUp
@@ -44,11 +38,7 @@ unfolding recordStatic lookUp
 returns-3 c = (c .chart-static .ensures .0 ∙ sym (ap (λ n. recordStatic (c .before .before .before .before .before .before .args .sheet .now) n (c .before .before .before .before .before .before .args .r)) (c .before .before .before .before .match .keys3)), c .chart-static .ensures .1)
 
 returns-4 : tie.Need-returns-4
-unfolding recordStatic lookUp
-returns-4 c = (c .binding-static .ensures ∙ sym (ap (λ n. recordStatic (c .before .before .before .args .sheet .now) n (c .before .before .before .args .r)) (c .before .match .keys4)), c .before .before .before .pre .1)
-
-returns-5 : tie.Need-returns-5
-returns-5 c = (sym (other _ _ _ (c .match .rest .0 .0 .0 .1) (c .match .rest .0 .0 .1) (c .match .rest .0 .1) (c .match .rest .1)), c .before .before .pre .1)
+returns-4 c = (sym (other _ _ _ (c .match .rest .0 .0 .1) (c .match .rest .0 .1) (c .match .rest .1)), c .before .before .pre .1)
 
 pub record-static-spec : {M : Type 1} → statement M
 record-static-spec =
@@ -57,9 +47,7 @@ record-static-spec =
     declaration-static-requires
     name-static-requires
     chart-static-requires
-    binding-static-requires
     returns
     returns-2
     returns-3
-    returns-4
-    returns-5)
+    returns-4)

@@ -10,7 +10,7 @@ use Rattle.sheet.proofs.All.{all-more, loop-fails, loop-ends}
 use Rattle.sheet_rules.proofs.Fields.{holds-present, holds-absent}
 use Rattle.sheet.specs.Sheet.{recordOf}
 use Rattle.sheet_rules.specs.Fields.{holds}
-use Rattle.sheet_rules.specs.Static.{recordStatic, sectionStatic}
+use Rattle.sheet_rules.specs.Static.{recordStatic, eachStatic}
 use Rattle.checker_reactions.specs.Entries.{Ready}
 use Rattle.checker_statics.proofs.records_static.Statement.{statement}
 use Rattle.checker_statics.proofs.records_static.Tie as tie
@@ -41,14 +41,14 @@ enum-told : tie.Need-enum-told Inv-loop μ-loop
 enum-told c = search needs
 
 returns : tie.Need-returns Inv-loop μ-loop
-unfolding sectionStatic
+unfolding eachStatic
 returns c = (loop-fails _ _ _ _ (c .before .before .before .before .before .count-in .ensures _ (c .before .before .before .before .before .before .before .pre .0)) (c .before .before .before .loop-test .taken) (holds-absent _ _ (sym (c .before .before .read .ensures) ∙ c .enum-told .given .1)), c .before .before .before .before .loop .inv .2)
 
 record-static-requires : tie.Need-record-static-requires Inv-loop μ-loop
 record-static-requires c κs = (c .before .before .before .before .before .before .before .before .before .before .before .pre .0, c .before .before .before .before .before .before .before .before .loop .inv .2)
 
 returns-2 : tie.Need-returns-2 Inv-loop μ-loop
-unfolding sectionStatic
+unfolding eachStatic
 returns-2 c = (loop-fails _ _ _ _ (c .before .before .before .before .before .before .before .before .before .before .before .count-in .ensures _ (c .before .before .before .before .before .before .before .before .before .before .before .before .before .pre .0)) (c .before .before .before .before .before .before .before .before .before .loop-test .taken) (holds-present _ _ _ (sym (c .before .before .before .before .before .before .before .before .read .ensures) ∙ c .before .before .before .before .before .before .r .given .1) ∙ sym (c .before .record-static .ensures .0) ∙ not-true _ (c .if1 .taken)), c .before .record-static .ensures .1)
 
 add-i : tie.Need-add-i Inv-loop μ-loop
@@ -61,7 +61,7 @@ loop-again : tie.Need-loop-again Inv-loop μ-loop
 loop-again c = (omega arith, all-more (c .before .before .before .before .before .before .before .before .before .before .loop .i) _ (c .before .before .before .before .before .before .before .before .before .before .loop .inv .1) (holds-present _ _ _ (sym (c .before .before .before .before .before .before .before .before .read .ensures) ∙ c .before .before .before .before .before .before .r .given .1) ∙ sym (c .before .record-static .ensures .0) ∙ not-false _ (c .if1 .left)), c .before .record-static .ensures .1)
 
 returns-3 : tie.Need-returns-3 Inv-loop μ-loop
-unfolding sectionStatic
+unfolding eachStatic
 returns-3 c = (loop-ends _ _ _ _ (c .before .before .count-in .ensures _ (c .before .before .before .before .pre .0)) (c .before .loop .inv .0) (c .loop-test .left) (c .before .loop .inv .1), c .before .loop .inv .2)
 
 pub records-static-spec : {M : Type 1} → statement M

@@ -1,8 +1,9 @@
-use mathlib.Core.Path.{sym, ap, _∙_}
+use mathlib.Core.Path.{refl, sym, ap, _∙_}
 use native.Mathlib.Omega.{arith}
 use Prim.Native.Nat.{_-_}
 use Rattle.engine_expressions.proofs.Places.{not-absent}
-use Rattle.engine_bodies.proofs.Laws.{externals-is, not-external, few-elements, binding-there, chart-there, body-there, few-parameters, few-variables, few-cells, ready, root-statement, body-ran}
+use Rattle.engine_cells.proofs.Laws.{externals-by}
+use Rattle.engine_bodies.proofs.Laws.{not-external, few-elements, binding-there, chart-there, body-there, few-parameters, few-variables, few-cells, ready, root-statement, body-ran}
 use borrow.Author.Needs.{needs}
 use Rattle.engine_bodies.proofs.run_body.Statement.{statement}
 use Rattle.engine_bodies.proofs.run_body.Tie as tie
@@ -11,7 +12,19 @@ field-at-requires : tie.Need-field-at-requires
 field-at-requires c κs = search needs
 
 sub-i : tie.Need-sub-i
-sub-i c = let x = externals-is _ _ (c .field-at .ensures .0) in let l = not-external _ (c .before .before .pre .1) _ _ _ (c .before .before .pre .3) in omega arith
+sub-i c = let x = externals-by _ _ (c .field-at .ensures .0) in let l = not-external _ (c .before .before .pre .1) _ _ _ (c .before .before .pre .3) in omega arith
+
+mul-k : tie.Need-mul-k
+mul-k c = record { fits = omega (arith, few-elements _ (c .before .before .pre .1) _ _ _ (c .before .before .pre .3)) }
+
+add-k : tie.Need-add-k
+add-k c = record { fits = omega (arith, few-elements _ (c .before .before .pre .1) _ _ _ (c .before .before .pre .3)) }
+
+mul-k-2 : tie.Need-mul-k-2
+mul-k-2 c = record { fits = omega (arith, few-elements _ (c .before .before .pre .1) _ _ _ (c .before .before .pre .3)) }
+
+element-copy-out-k : tie.Need-element-copy-out-k
+element-copy-out-k c = omega (arith, few-elements _ (c .before .before .pre .1) _ _ _ (c .before .before .pre .3))
 
 read-requires : tie.Need-read-requires
 read-requires c κs = search needs
@@ -23,7 +36,7 @@ enum-told : tie.Need-enum-told
 enum-told c = search needs
 
 returns : tie.Need-returns
-returns c = absurd (not-absent _ _ (binding-there _ (c .before .before .before .before .before .pre .1) _ _ _ (c .before .before .before .before .before .pre .3) _ (ap (λ x. c .before .before .before .before .before .args .e - x) (externals-is _ _ (c .before .before .before .field-at .ensures .0)))) (sym (c .before .before .read .ensures) ∙ c .enum-told .given .1))
+returns c = absurd (not-absent _ _ (binding-there _ (c .before .before .before .before .before .before .pre .1) _ _ _ (c .before .before .before .before .before .before .pre .3) _ (c .before .before .before .before .before .before .pre .4) _ (ap (λ x. c .before .before .before .before .before .before .args .e - x) (externals-by _ _ (c .before .before .before .before .field-at .ensures .0))) _ refl) (sym (c .before .before .read .ensures) ∙ c .enum-told .given .1))
 
 cast-read : tie.Need-cast-read
 cast-read c = search needs
@@ -38,7 +51,7 @@ enum-told-2 : tie.Need-enum-told-2
 enum-told-2 c = search needs
 
 returns-2 : tie.Need-returns-2
-returns-2 c = absurd (not-absent _ _ (chart-there _ (c .before .before .before .before .before .before .before .before .before .before .pre .1) _ _ _ (c .before .before .before .before .before .before .before .before .before .before .pre .3) _ (ap (λ x. c .before .before .before .before .before .before .before .before .before .before .args .e - x) (externals-is _ _ (c .before .before .before .before .before .before .before .before .field-at .ensures .0))) _ (sym (c .before .before .before .before .before .before .before .read .ensures) ∙ c .before .before .before .before .before .binding .given .1)) (sym (c .before .before .read2 .ensures) ∙ c .enum-told2 .given .1))
+returns-2 c = absurd (not-absent _ _ (chart-there _ (c .before .before .before .before .before .before .before .before .before .before .before .pre .1) _ _ _ (c .before .before .before .before .before .before .before .before .before .before .before .pre .3) _ (c .before .before .before .before .before .before .before .before .before .before .before .pre .4) _ (ap (λ x. c .before .before .before .before .before .before .before .before .before .before .before .args .e - x) (externals-by _ _ (c .before .before .before .before .before .before .before .before .before .field-at .ensures .0))) _ refl _ (sym (c .before .before .before .before .before .before .before .read .ensures) ∙ c .before .before .before .before .before .binding .given .1)) (sym (c .before .before .read2 .ensures) ∙ c .enum-told2 .given .1))
 
 read-requires-3 : tie.Need-read-requires-3
 read-requires-3 c κs = search needs
@@ -50,7 +63,7 @@ enum-told-3 : tie.Need-enum-told-3
 enum-told-3 c = search needs
 
 returns-3 : tie.Need-returns-3
-returns-3 c = absurd (not-absent _ _ (body-there _ (c .before .before .before .before .before .before .before .before .before .before .before .before .before .before .pre .1) _ _ _ (c .before .before .before .before .before .before .before .before .before .before .before .before .before .before .pre .3)) (sym (c .before .before .read3 .ensures) ∙ c .enum-told3 .given .1))
+returns-3 c = absurd (not-absent _ _ (body-there _ (c .before .before .before .before .before .before .before .before .before .before .before .before .before .before .before .pre .1) _ _ _ (c .before .before .before .before .before .before .before .before .before .before .before .before .before .before .before .pre .3)) (sym (c .before .before .read3 .ensures) ∙ c .enum-told3 .given .1))
 
 cast-context : tie.Need-cast-context
 cast-context c = search needs
@@ -62,25 +75,25 @@ cast-context-3 : tie.Need-cast-context-3
 cast-context-3 c = search needs
 
 context-requires : tie.Need-context-requires
-context-requires c κs = ((let l = few-elements _ (c .before .before .before .before .before .before .before .before .before .before .before .before .before .before .before .before .before .before .pre .1) _ _ _ (c .before .before .before .before .before .before .before .before .before .before .before .before .before .before .before .before .before .before .pre .3) in omega arith), few-cells _ (c .before .before .before .before .before .before .before .before .before .before .before .before .before .before .before .before .before .before .pre .1) _ _ _ (c .before .before .before .before .before .before .before .before .before .before .before .before .before .before .before .before .before .before .pre .3) _ (ap (λ x. c .before .before .before .before .before .before .before .before .before .before .before .before .before .before .before .before .before .before .args .e - x) (externals-is _ _ (c .before .before .before .before .before .before .before .before .before .before .before .before .before .before .before .before .field-at .ensures .0))) _ (sym (c .before .before .before .before .before .before .before .before .before .before .before .before .before .before .before .read .ensures) ∙ c .before .before .before .before .before .before .before .before .before .before .before .before .before .binding .given .1) _ _ (sym (c .before .before .before .before .before .before .before .before .before .before .read2 .ensures) ∙ c .before .before .before .before .before .before .before .before .chart .given .1) (sym (c .before .before .before .before .before .before .read3 .ensures) ∙ c .before .before .before .before .body .given .1))
+context-requires c κs = ((let l = few-elements _ (c .before .before .before .before .before .before .before .before .before .before .before .before .before .before .before .before .before .before .before .pre .1) _ _ _ (c .before .before .before .before .before .before .before .before .before .before .before .before .before .before .before .before .before .before .before .pre .3) in omega arith), few-cells _ (c .before .before .before .before .before .before .before .before .before .before .before .before .before .before .before .before .before .before .before .pre .1) _ _ _ (c .before .before .before .before .before .before .before .before .before .before .before .before .before .before .before .before .before .before .before .pre .3) _ (c .before .before .before .before .before .before .before .before .before .before .before .before .before .before .before .before .before .before .before .pre .4) _ (ap (λ x. c .before .before .before .before .before .before .before .before .before .before .before .before .before .before .before .before .before .before .before .args .e - x) (externals-by _ _ (c .before .before .before .before .before .before .before .before .before .before .before .before .before .before .before .before .before .field-at .ensures .0))) _ refl _ (sym (c .before .before .before .before .before .before .before .before .before .before .before .before .before .before .before .read .ensures) ∙ c .before .before .before .before .before .before .before .before .before .before .before .before .before .binding .given .1) _ _ (sym (c .before .before .before .before .before .before .before .before .before .before .read2 .ensures) ∙ c .before .before .before .before .before .before .before .before .chart .given .1) (sym (c .before .before .before .before .before .before .read3 .ensures) ∙ c .before .before .before .before .body .given .1))
 
 fresh-locals-requires : tie.Need-fresh-locals-requires
-fresh-locals-requires c κs = (c .before .before .before .before .before .before .before .before .before .before .before .before .before .before .before .before .before .before .before .pre .0, few-parameters _ (c .before .before .before .before .before .before .before .before .before .before .before .before .before .before .before .before .before .before .before .pre .1) _ _ _ (c .before .before .before .before .before .before .before .before .before .before .before .before .before .before .before .before .before .before .before .pre .3) _ (ap (λ x. c .before .before .before .before .before .before .before .before .before .before .before .before .before .before .before .before .before .before .before .args .e - x) (externals-is _ _ (c .before .before .before .before .before .before .before .before .before .before .before .before .before .before .before .before .before .field-at .ensures .0))) _ (sym (c .before .before .before .before .before .before .before .before .before .before .before .before .before .before .before .before .read .ensures) ∙ c .before .before .before .before .before .before .before .before .before .before .before .before .before .before .binding .given .1) _ _ (sym (c .before .before .before .before .before .before .before .before .before .before .before .read2 .ensures) ∙ c .before .before .before .before .before .before .before .before .before .chart .given .1) (sym (c .before .before .before .before .before .before .before .read3 .ensures) ∙ c .before .before .before .before .before .body .given .1), few-variables _ (c .before .before .before .before .before .before .before .before .before .before .before .before .before .before .before .before .before .before .before .pre .1) _ _ _ (c .before .before .before .before .before .before .before .before .before .before .before .before .before .before .before .before .before .before .before .pre .3) _ (ap (λ x. c .before .before .before .before .before .before .before .before .before .before .before .before .before .before .before .before .before .before .before .args .e - x) (externals-is _ _ (c .before .before .before .before .before .before .before .before .before .before .before .before .before .before .before .before .before .field-at .ensures .0))) _ (sym (c .before .before .before .before .before .before .before .before .before .before .before .before .before .before .before .before .read .ensures) ∙ c .before .before .before .before .before .before .before .before .before .before .before .before .before .before .binding .given .1) _ _ (sym (c .before .before .before .before .before .before .before .before .before .before .before .read2 .ensures) ∙ c .before .before .before .before .before .before .before .before .before .chart .given .1) (sym (c .before .before .before .before .before .before .before .read3 .ensures) ∙ c .before .before .before .before .before .body .given .1))
+fresh-locals-requires c κs = (c .before .before .before .before .before .before .before .before .before .before .before .before .before .before .before .before .before .before .before .before .pre .0, few-parameters _ (c .before .before .before .before .before .before .before .before .before .before .before .before .before .before .before .before .before .before .before .before .pre .1) _ _ _ (c .before .before .before .before .before .before .before .before .before .before .before .before .before .before .before .before .before .before .before .before .pre .3) _ (c .before .before .before .before .before .before .before .before .before .before .before .before .before .before .before .before .before .before .before .before .pre .4) _ (ap (λ x. c .before .before .before .before .before .before .before .before .before .before .before .before .before .before .before .before .before .before .before .before .args .e - x) (externals-by _ _ (c .before .before .before .before .before .before .before .before .before .before .before .before .before .before .before .before .before .before .field-at .ensures .0))) _ refl _ (sym (c .before .before .before .before .before .before .before .before .before .before .before .before .before .before .before .before .read .ensures) ∙ c .before .before .before .before .before .before .before .before .before .before .before .before .before .before .binding .given .1) _ _ (sym (c .before .before .before .before .before .before .before .before .before .before .before .read2 .ensures) ∙ c .before .before .before .before .before .before .before .before .before .chart .given .1) (sym (c .before .before .before .before .before .before .before .read3 .ensures) ∙ c .before .before .before .before .before .body .given .1), few-variables _ (c .before .before .before .before .before .before .before .before .before .before .before .before .before .before .before .before .before .before .before .before .pre .1) _ _ _ (c .before .before .before .before .before .before .before .before .before .before .before .before .before .before .before .before .before .before .before .before .pre .3) _ (c .before .before .before .before .before .before .before .before .before .before .before .before .before .before .before .before .before .before .before .before .pre .4) _ (ap (λ x. c .before .before .before .before .before .before .before .before .before .before .before .before .before .before .before .before .before .before .before .before .args .e - x) (externals-by _ _ (c .before .before .before .before .before .before .before .before .before .before .before .before .before .before .before .before .before .before .field-at .ensures .0))) _ refl _ (sym (c .before .before .before .before .before .before .before .before .before .before .before .before .before .before .before .before .read .ensures) ∙ c .before .before .before .before .before .before .before .before .before .before .before .before .before .before .binding .given .1) _ _ (sym (c .before .before .before .before .before .before .before .before .before .before .before .read2 .ensures) ∙ c .before .before .before .before .before .before .before .before .before .chart .given .1) (sym (c .before .before .before .before .before .before .before .read3 .ensures) ∙ c .before .before .before .before .before .body .given .1))
 
 limit-requires : tie.Need-limit-requires
-limit-requires c κs = c .before .before .before .before .before .before .before .before .before .before .before .before .before .before .before .before .before .before .before .before .pre .0
+limit-requires c κs = c .before .before .before .before .before .before .before .before .before .before .before .before .before .before .before .before .before .before .before .before .before .pre .0
 
 cast-run : tie.Need-cast-run
 cast-run c = search needs
 
 run-requires : tie.Need-run-requires
-run-requires c κs = (c .before .before .before .before .before .before .before .before .before .before .before .before .before .before .before .before .before .before .before .before .before .before .before .before .before .pre .0, ready _ (c .before .before .before .before .before .before .before .before .before .before .before .before .before .before .before .before .before .before .before .before .before .before .before .before .before .pre .1) _ _ _ (c .before .before .before .before .before .before .before .before .before .before .before .before .before .before .before .before .before .before .before .before .before .before .before .before .before .pre .3) _ (ap (λ x. c .before .before .before .before .before .before .before .before .before .before .before .before .before .before .before .before .before .before .before .before .before .before .before .before .before .args .e - x) (externals-is _ _ (c .before .before .before .before .before .before .before .before .before .before .before .before .before .before .before .before .before .before .before .before .before .before .before .field-at .ensures .0))) _ (sym (c .before .before .before .before .before .before .before .before .before .before .before .before .before .before .before .before .before .before .before .before .before .before .read .ensures) ∙ c .before .before .before .before .before .before .before .before .before .before .before .before .before .before .before .before .before .before .before .before .binding .given .1) _ _ (sym (c .before .before .before .before .before .before .before .before .before .before .before .before .before .before .before .before .before .read2 .ensures) ∙ c .before .before .before .before .before .before .before .before .before .before .before .before .before .before .before .chart .given .1) (sym (c .before .before .before .before .before .before .before .before .before .before .before .before .before .read3 .ensures) ∙ c .before .before .before .before .before .before .before .before .before .before .before .body .given .1) _ (c .before .before .before .before .before .before .before .before .before .before .before .before .before .before .before .before .before .before .before .before .before .before .before .before .before .pre .4) _ (c .before .before .before .before .before .before .context .ensures) _ _ (c .before .before .before .before .before .before .before .before .before .before .before .before .before .before .before .before .before .before .before .before .before .before .before .before .before .pre .2) (c .before .before .before .before .before .fresh-locals .ensures), root-statement _ (c .before .before .before .before .before .before .before .before .before .before .before .before .before .before .before .before .before .before .before .before .before .before .before .before .before .pre .1) _ _ _ (c .before .before .before .before .before .before .before .before .before .before .before .before .before .before .before .before .before .before .before .before .before .before .before .before .before .pre .3) _ (ap (λ x. c .before .before .before .before .before .before .before .before .before .before .before .before .before .before .before .before .before .before .before .before .before .before .before .before .before .args .e - x) (externals-is _ _ (c .before .before .before .before .before .before .before .before .before .before .before .before .before .before .before .before .before .before .before .before .before .before .before .field-at .ensures .0))) _ (sym (c .before .before .before .before .before .before .before .before .before .before .before .before .before .before .before .before .before .before .before .before .before .before .read .ensures) ∙ c .before .before .before .before .before .before .before .before .before .before .before .before .before .before .before .before .before .before .before .before .binding .given .1) _ _ (sym (c .before .before .before .before .before .before .before .before .before .before .before .before .before .before .before .before .before .read2 .ensures) ∙ c .before .before .before .before .before .before .before .before .before .before .before .before .before .before .before .chart .given .1) (sym (c .before .before .before .before .before .before .before .before .before .before .before .before .before .read3 .ensures) ∙ c .before .before .before .before .before .before .before .before .before .before .before .body .given .1) _ (c .before .before .before .before .before .before .before .before .before .before .before .before .before .before .before .before .before .before .before .before .before .before .before .before .before .pre .4) _ (c .before .before .before .before .before .before .context .ensures), omega arith)
+run-requires c κs = (c .before .before .before .before .before .before .before .before .before .before .before .before .before .before .before .before .before .before .before .before .before .before .before .before .before .before .pre .0, ready _ (c .before .before .before .before .before .before .before .before .before .before .before .before .before .before .before .before .before .before .before .before .before .before .before .before .before .before .pre .1) _ _ _ (c .before .before .before .before .before .before .before .before .before .before .before .before .before .before .before .before .before .before .before .before .before .before .before .before .before .before .pre .3) _ (c .before .before .before .before .before .before .before .before .before .before .before .before .before .before .before .before .before .before .before .before .before .before .before .before .before .before .pre .4) _ (ap (λ x. c .before .before .before .before .before .before .before .before .before .before .before .before .before .before .before .before .before .before .before .before .before .before .before .before .before .before .args .e - x) (externals-by _ _ (c .before .before .before .before .before .before .before .before .before .before .before .before .before .before .before .before .before .before .before .before .before .before .before .before .field-at .ensures .0))) _ refl _ (sym (c .before .before .before .before .before .before .before .before .before .before .before .before .before .before .before .before .before .before .before .before .before .before .read .ensures) ∙ c .before .before .before .before .before .before .before .before .before .before .before .before .before .before .before .before .before .before .before .before .binding .given .1) _ _ (sym (c .before .before .before .before .before .before .before .before .before .before .before .before .before .before .before .before .before .read2 .ensures) ∙ c .before .before .before .before .before .before .before .before .before .before .before .before .before .before .before .chart .given .1) (sym (c .before .before .before .before .before .before .before .before .before .before .before .before .before .read3 .ensures) ∙ c .before .before .before .before .before .before .before .before .before .before .before .body .given .1) _ (c .before .before .before .before .before .before .context .ensures) _ _ (c .before .before .before .before .before .before .before .before .before .before .before .before .before .before .before .before .before .before .before .before .before .before .before .before .before .before .pre .2) (c .before .before .before .before .before .fresh-locals .ensures), root-statement _ (c .before .before .before .before .before .before .before .before .before .before .before .before .before .before .before .before .before .before .before .before .before .before .before .before .before .before .pre .1) _ _ _ (c .before .before .before .before .before .before .before .before .before .before .before .before .before .before .before .before .before .before .before .before .before .before .before .before .before .before .pre .3) _ (c .before .before .before .before .before .before .before .before .before .before .before .before .before .before .before .before .before .before .before .before .before .before .before .before .before .before .pre .4) _ (ap (λ x. c .before .before .before .before .before .before .before .before .before .before .before .before .before .before .before .before .before .before .before .before .before .before .before .before .before .before .args .e - x) (externals-by _ _ (c .before .before .before .before .before .before .before .before .before .before .before .before .before .before .before .before .before .before .before .before .before .before .before .before .field-at .ensures .0))) _ refl _ (sym (c .before .before .before .before .before .before .before .before .before .before .before .before .before .before .before .before .before .before .before .before .before .before .read .ensures) ∙ c .before .before .before .before .before .before .before .before .before .before .before .before .before .before .before .before .before .before .before .before .binding .given .1) _ _ (sym (c .before .before .before .before .before .before .before .before .before .before .before .before .before .before .before .before .before .read2 .ensures) ∙ c .before .before .before .before .before .before .before .before .before .before .before .before .before .before .before .chart .given .1) (sym (c .before .before .before .before .before .before .before .before .before .before .before .before .before .read3 .ensures) ∙ c .before .before .before .before .before .before .before .before .before .before .before .body .given .1) _ (c .before .before .before .before .before .before .context .ensures), omega arith)
 
 same-length : tie.Need-same-length
 same-length c = search needs
 
 returns-4 : tie.Need-returns-4
-returns-4 c = body-ran _ (c .before .before .before .before .before .before .before .before .before .before .before .before .before .before .before .before .before .before .before .before .before .before .before .before .before .before .before .pre .1) _ _ _ (c .before .before .before .before .before .before .before .before .before .before .before .before .before .before .before .before .before .before .before .before .before .before .before .before .before .before .before .pre .3) _ (ap (λ x. c .before .before .before .before .before .before .before .before .before .before .before .before .before .before .before .before .before .before .before .before .before .before .before .before .before .before .before .args .e - x) (externals-is _ _ (c .before .before .before .before .before .before .before .before .before .before .before .before .before .before .before .before .before .before .before .before .before .before .before .before .before .field-at .ensures .0))) _ (sym (c .before .before .before .before .before .before .before .before .before .before .before .before .before .before .before .before .before .before .before .before .before .before .before .before .read .ensures) ∙ c .before .before .before .before .before .before .before .before .before .before .before .before .before .before .before .before .before .before .before .before .before .before .binding .given .1) _ _ (sym (c .before .before .before .before .before .before .before .before .before .before .before .before .before .before .before .before .before .before .before .read2 .ensures) ∙ c .before .before .before .before .before .before .before .before .before .before .before .before .before .before .before .before .before .chart .given .1) (sym (c .before .before .before .before .before .before .before .before .before .before .before .before .before .before .before .read3 .ensures) ∙ c .before .before .before .before .before .before .before .before .before .before .before .before .before .body .given .1) _ (c .before .before .before .before .before .before .before .before .before .before .before .before .before .before .before .before .before .before .before .before .before .before .before .before .before .before .before .pre .4) _ (c .before .before .before .before .before .before .before .before .context .ensures) _ _ _ _ _ _ (c .before .before .before .before .before .before .before .fresh-locals .ensures) (c .before .before .before .before .before .before .limit .ensures .0) (c .before .run .ensures .1)
+returns-4 c = body-ran _ (c .before .before .before .before .before .before .before .before .before .before .before .before .before .before .before .before .before .before .before .before .before .before .before .before .before .before .before .before .pre .1) _ _ _ (c .before .before .before .before .before .before .before .before .before .before .before .before .before .before .before .before .before .before .before .before .before .before .before .before .before .before .before .before .pre .3) _ (c .before .before .before .before .before .before .before .before .before .before .before .before .before .before .before .before .before .before .before .before .before .before .before .before .before .before .before .before .pre .4) _ (ap (λ x. c .before .before .before .before .before .before .before .before .before .before .before .before .before .before .before .before .before .before .before .before .before .before .before .before .before .before .before .before .args .e - x) (externals-by _ _ (c .before .before .before .before .before .before .before .before .before .before .before .before .before .before .before .before .before .before .before .before .before .before .before .before .before .before .field-at .ensures .0))) _ refl _ (sym (c .before .before .before .before .before .before .before .before .before .before .before .before .before .before .before .before .before .before .before .before .before .before .before .before .read .ensures) ∙ c .before .before .before .before .before .before .before .before .before .before .before .before .before .before .before .before .before .before .before .before .before .before .binding .given .1) _ _ (sym (c .before .before .before .before .before .before .before .before .before .before .before .before .before .before .before .before .before .before .before .read2 .ensures) ∙ c .before .before .before .before .before .before .before .before .before .before .before .before .before .before .before .before .before .chart .given .1) (sym (c .before .before .before .before .before .before .before .before .before .before .before .before .before .before .before .read3 .ensures) ∙ c .before .before .before .before .before .before .before .before .before .before .before .before .before .body .given .1) _ (c .before .before .before .before .before .before .before .before .context .ensures) _ _ _ _ _ _ (c .before .before .before .before .before .before .before .fresh-locals .ensures) (c .before .before .before .before .before .before .limit .ensures .0) (c .before .run .ensures .1)
 
 pub run-body-spec : {M : Type 1} → statement M
 run-body-spec =
@@ -88,6 +101,10 @@ run-body-spec =
     (tie.spec
     field-at-requires
     sub-i
+    mul-k
+    add-k
+    mul-k-2
+    element-copy-out-k
     read-requires
     enum-known-binding
     enum-told

@@ -2,28 +2,27 @@ use Prim.Native.Nat.{_-_, _<_, _≤_}
 use mathlib.Core.Path.{_≡_, refl, sym, _∙_}
 use native.Mathlib.Omega.{arith}
 use borrow.Author.Needs.{needs}
-use Rattle.sheet.specs.Sheet.{countOf}
-use Rattle.sheet_rules.specs.Fields.{sumBelow}
+use Rattle.sheet_rules.specs.Fields.{sumBelow, elementsOf}
+use Rattle.sheet_rules.specs.Bindings.{firstBinding}
 use Rattle.sheet_rules.specs.Shape.{cellsBound}
+use Rattle.sheet_rules.proofs.Bindings.{first-most}
 use Rattle.machine_passed.proofs.Records.{cells-limit}
-use Rattle.engine_cells.proofs.Laws.{bound-there, bound-below, bound-chart, chart-variables, bound-inside, bound-next, bound-all, Rows, rows-none, rows-more, rows-all}
+use Rattle.engine_cells.proofs.Laws.{bound-there, bound-chart, chart-variables, bound-inside, bound-next, binding-next, bound-all, Rows, rows-none, rows-more, rows-all}
 use Rattle.engine_cells.proofs.fill.Statement.{statement}
 use Rattle.engine_cells.proofs.fill.Tie as tie
 
 abbrev Inv-loop : tie.InvT-loop
-Inv-loop sheet directory cells₀ count cell₀ i₀ cells cell i = (i ≤ count) × (count ≡ countOf sheet 7) × (cell ≡ sumBelow i (cellsBound sheet)) × Rows sheet i cells
+Inv-loop sheet directory cells₀ count cell₀ k₀ i₀ cells cell k i = (i ≤ count) × (cell ≡ sumBelow i (cellsBound sheet)) × (k ≡ firstBinding sheet i) × Rows sheet i cells
 
 abbrev μ-loop : tie.MeasureT-loop
-μ-loop sheet directory cells₀ count cell₀ i₀ cells cell i = count - i
+μ-loop sheet directory cells₀ count cell₀ k₀ i₀ cells cell k i = count - i
 
-count-in-requires : tie.Need-count-in-requires Inv-loop μ-loop
-count-in-requires c κs = search needs
+elements-requires : tie.Need-elements-requires Inv-loop μ-loop
+elements-requires c κs = search needs
 
 loop-holds : tie.Need-loop-holds Inv-loop μ-loop
-unfolding sumBelow
-loop-holds c =
-    let pre = c .before .before .pre in
-    (omega arith, c .count-in .ensures _ (pre .0), refl, rows-none _ _ (pre .2))
+unfolding sumBelow firstBinding
+loop-holds c = (omega arith, refl, refl, rows-none _ _ (c .before .before .pre .2))
 
 chart-bound-requires : tie.Need-chart-bound-requires Inv-loop μ-loop
 chart-bound-requires c κs = search needs
@@ -35,24 +34,40 @@ enum-told : tie.Need-enum-told Inv-loop μ-loop
 enum-told c = search needs
 
 returns : tie.Need-returns Inv-loop μ-loop
-returns c = absurd (bound-there _ (c .before .before .before .before .before .before .before .pre .1) _ (let l = c .before .before .before .loop-test .taken in let e = c .before .before .before .before .loop .inv .1 in omega arith) (sym (c .before .before .chart-bound .ensures) ∙ c .enum-told .given .1))
+returns c = absurd (bound-there _ (c .before .before .before .before .before .before .before .pre .1) _ _ (let l = c .before .before .before .loop-test .taken in omega (arith, c .before .before .before .before .before .elements .ensures .0)) (c .before .before .before .before .loop .inv .2) (sym (c .before .before .chart-bound .ensures) ∙ c .enum-told .given .1))
 
 mul-fill-row : tie.Need-mul-fill-row Inv-loop μ-loop
-mul-fill-row c =
-    let l = c .before .before .before .before .before .loop-test .taken in
-    let e = c .before .before .before .before .before .before .loop .inv .1 in
-    let b = bound-below _ (c .before .before .before .before .before .before .before .before .before .pre .1) in
-    record { fits = omega arith }
+mul-fill-row c = let l = c .before .before .before .before .before .loop-test .taken in record { fits = omega (arith, c .before .before .before .before .before .before .before .elements .ensures .1) }
 
 fill-row-requires : tie.Need-fill-row-requires Inv-loop μ-loop
 fill-row-requires c κs =
     let pre = c .before .before .before .before .before .before .before .before .before .pre in
     let l = c .before .before .before .before .before .loop-test .taken in
-    let e = c .before .before .before .before .before .before .loop .inv .1 in
+    let n = c .before .before .before .before .before .before .before .elements .ensures in
+    let i = c .before .before .before .before .before .before .loop .inv in
     let p = sym (c .before .before .before .before .chart-bound .ensures) ∙ c .before .before .c .given .1 in
-    let m : c .before .before .before .before .before .before .loop .i < countOf (c .before .before .before .before .before .before .before .before .before .args .sheet .now) 7 = omega arith in
-    let b = bound-below _ (pre .1) in
-    (pre .0, c .before .before .before .before .before .before .loop .inv .3 .size, chart-variables _ (pre .1) _ _ (bound-chart _ (pre .1) _ _ m p), omega arith, omega (arith, bound-inside _ (pre .1) _ _ m p _ (c .before .before .before .before .before .before .loop .inv .2), cells-limit _ (pre .1)))
+    let m : c .before .before .before .before .before .before .loop .i < elementsOf (c .before .before .before .before .before .before .before .before .before .args .sheet .now) = omega (arith, n .0) in
+    (pre .0, i .3 .size, chart-variables _ (pre .1) _ _ (bound-chart _ (pre .1) _ _ m (i .2) _ p), omega (arith, n .1), omega (arith, bound-inside _ (pre .1) _ _ m (i .2) _ p _ (i .1), cells-limit _ (pre .1)))
+
+mul-cells : tie.Need-mul-cells Inv-loop μ-loop
+mul-cells c = let l = c .before .before .before .before .before .before .loop-test .taken in record { fits = omega (arith, c .before .before .before .before .before .before .before .before .elements .ensures .1) }
+
+add-cells : tie.Need-add-cells Inv-loop μ-loop
+add-cells c = let l = c .before .before .before .before .before .before .loop-test .taken in record { fits = omega (arith, c .before .before .before .before .before .before .before .before .elements .ensures .1) }
+
+mul-cells-2 : tie.Need-mul-cells-2 Inv-loop μ-loop
+mul-cells-2 c = let l = c .before .before .before .before .before .before .loop-test .taken in record { fits = omega (arith, c .before .before .before .before .before .before .before .before .elements .ensures .1) }
+
+element-write-cells : tie.Need-element-write-cells Inv-loop μ-loop
+element-write-cells c = let l = c .before .before .before .before .before .before .loop-test .taken in omega (arith, c .before .before .before .before .before .before .before .before .elements .ensures .1)
+
+records-for-requires : tie.Need-records-for-requires Inv-loop μ-loop
+records-for-requires c κs = search needs
+
+add-k : tie.Need-add-k Inv-loop μ-loop
+add-k c =
+    let l = c .before .before .before .before .before .before .before .loop-test .taken in
+    record { fits = omega (arith, c .before .before .before .before .before .before .before .before .loop .inv .2, first-most (c .before .before .before .before .before .before .before .before .before .before .before .args .sheet .now) (c .before .before .before .before .before .before .before .before .loop .i) .1, c .before .before .before .before .before .before .before .before .before .elements .ensures .1, c .records-for .ensures .1) }
 
 add-i : tie.Need-add-i Inv-loop μ-loop
 add-i c = search needs
@@ -62,21 +77,20 @@ loop-less c = search needs
 
 loop-again : tie.Need-loop-again Inv-loop μ-loop
 loop-again c =
-    let pre = c .before .before .before .before .before .before .before .before .before .before .pre in
-    let l = c .before .before .before .before .before .before .loop-test .taken in
-    let e = c .before .before .before .before .before .before .before .loop .inv .1 in
-    let q = c .before .before .before .before .before .before .before .loop .inv .2 in
-    let p = sym (c .before .before .before .before .before .chart-bound .ensures) ∙ c .before .before .before .c .given .1 in
-    let m : c .before .before .before .before .before .before .before .loop .i < countOf (c .before .before .before .before .before .before .before .before .before .before .args .sheet .now) 7 = omega arith in
-    (omega arith, e, c .fill-row .ensures .0 ∙ bound-next _ (pre .1) _ _ m p _ q, rows-more _ (pre .1) _ _ _ _ _ m p q (c .fill-row .ensures .1) (c .before .before .before .before .before .before .before .loop .inv .3))
+    let pre = c .before .before .before .before .before .before .before .before .before .before .before .pre in
+    let l = c .before .before .before .before .before .before .before .loop-test .taken in
+    let i = c .before .before .before .before .before .before .before .before .loop .inv in
+    let p = sym (c .before .before .before .before .before .before .chart-bound .ensures) ∙ c .before .before .before .before .c .given .1 in
+    let m : c .before .before .before .before .before .before .before .before .loop .i < elementsOf (c .before .before .before .before .before .before .before .before .before .before .before .args .sheet .now) = omega (arith, c .before .before .before .before .before .before .before .before .before .elements .ensures .0) in
+    (omega arith, c .before .fill-row .ensures .0 ∙ bound-next _ (pre .1) _ _ m (i .2) _ p _ (i .1), binding-next _ (pre .1) _ _ m (i .2) _ p _ (c .records-for .ensures .0), rows-more _ (pre .1) _ _ _ _ _ _ m (i .2) p (i .1) (c .before .fill-row .ensures .1) (i .3))
 
 returns-2 : tie.Need-returns-2 Inv-loop μ-loop
 returns-2 c =
     let pre = c .before .before .before .before .pre in
     let l = c .loop-test .left in
-    let k = c .before .loop .inv .0 in
-    let e = c .before .loop .inv .1 in
-    (bound-all _ (pre .1) _ _ (omega arith) (omega arith) (c .before .loop .inv .2), rows-all _ (pre .1) _ _ (omega arith) (c .before .loop .inv .3))
+    let n = c .before .before .elements .ensures .0 in
+    let i = c .before .loop .inv in
+    (bound-all _ (pre .1) _ _ (omega (arith, i .0)) (omega arith) (i .1), rows-all _ (pre .1) _ _ (omega arith) (i .3))
 
 pub fill-spec : {M : Type 1} → statement M
 fill-spec =
@@ -84,7 +98,7 @@ fill-spec =
     (tie.spec
     Inv-loop
     μ-loop
-    count-in-requires
+    elements-requires
     loop-holds
     chart-bound-requires
     enum-known-c
@@ -92,6 +106,12 @@ fill-spec =
     returns
     mul-fill-row
     fill-row-requires
+    mul-cells
+    add-cells
+    mul-cells-2
+    element-write-cells
+    records-for-requires
+    add-k
     add-i
     loop-less
     loop-again

@@ -2,13 +2,12 @@ use Prim.Native.Nat.{_+_, _-_, _<_, _≤_}
 use native.Mathlib.Omega.{arith}
 use mathlib.Core.Path.{_≡_, sym, _∙_}
 use borrow.Author.Needs.{needs}
-use Rattle.sheet.specs.Sheet.{countOf}
-use Rattle.sheet_rules.specs.Fields.{fieldAt, fieldOf, externalsOf}
+use Rattle.sheet_rules.specs.Fields.{fieldAt, fieldOf, externalsOf, elementsOf}
 use Rattle.machine.specs.Values.{firstCell}
 use Rattle.machine.specs.State.{cellAt}
 use Rattle.machine.specs.Play.{slicedFrom}
-use Rattle.machine_passed.proofs.Records.{cells-limit, components-limit, elements-bound}
-use Rattle.engine_cells.proofs.Laws.{bound-there, bound-below, bound-chart, chart-variables}
+use Rattle.machine_passed.proofs.Records.{cells-limit, components-limit, elements-rest}
+use Rattle.engine_cells.proofs.Laws.{row-binding, bound-there, bound-below, bound-chart, chart-variables}
 use Rattle.engine_queue.specs.Changed.{changedTo}
 use Rattle.engine_ticks.proofs.Laws.{then-refused, then-done, goes-on}
 use Rattle.engine_clocks.proofs.Onward.{After, after-first, from-first, from-here, from-none, element-now, element-next, element-row}
@@ -16,7 +15,7 @@ use Rattle.engine_clocks.proofs.slice.Statement.{statement}
 use Rattle.engine_clocks.proofs.slice.Tie as tie
 
 abbrev Inv-loop : tie.InvT-loop
-Inv-loop sheet directory cells st₀ first count i₀ st i = (i ≤ count) × (first ≡ externalsOf sheet) × (count ≡ countOf sheet 7) × After sheet (cellAt (firstCell sheet (externalsOf sheet + i))) st₀ st × (slicedFrom sheet (countOf sheet 7) (externalsOf sheet) st₀ ≡ slicedFrom sheet (countOf sheet 7 - i) (externalsOf sheet + i) st)
+Inv-loop sheet directory cells st₀ first count i₀ st i = (i ≤ count) × (first ≡ externalsOf sheet) × (count ≡ elementsOf sheet) × After sheet (cellAt (firstCell sheet (externalsOf sheet + i))) st₀ st × (slicedFrom sheet (elementsOf sheet) (externalsOf sheet) st₀ ≡ slicedFrom sheet (elementsOf sheet - i) (externalsOf sheet + i) st)
 
 abbrev μ-loop : tie.MeasureT-loop
 μ-loop sheet directory cells st₀ first count i₀ st i = count - i
@@ -24,12 +23,24 @@ abbrev μ-loop : tie.MeasureT-loop
 field-at-requires : tie.Need-field-at-requires Inv-loop μ-loop
 field-at-requires c κs = search needs
 
-count-in-requires : tie.Need-count-in-requires Inv-loop μ-loop
-count-in-requires c κs = search needs
+elements-requires : tie.Need-elements-requires Inv-loop μ-loop
+elements-requires c κs = search needs
 
 loop-holds : tie.Need-loop-holds Inv-loop μ-loop
 unfolding externalsOf fieldAt fieldOf
-loop-holds c = (omega arith, c .before .field-at .ensures .0, c .count-in .ensures _ (c .before .before .before .pre .0), after-first _ _ _ (c .before .before .before .pre .3), from-first _ _ _ _)
+loop-holds c = (omega arith, c .before .field-at .ensures .0, c .elements .ensures .0, after-first _ _ _ (c .before .before .before .pre .3), from-first _ _ _ _)
+
+mul-k : tie.Need-mul-k Inv-loop μ-loop
+mul-k c = let l = c .loop-test .taken in record { fits = omega (arith, c .before .before .elements .ensures .1) }
+
+add-k : tie.Need-add-k Inv-loop μ-loop
+add-k c = let l = c .loop-test .taken in record { fits = omega (arith, c .before .before .elements .ensures .1) }
+
+mul-k-2 : tie.Need-mul-k-2 Inv-loop μ-loop
+mul-k-2 c = let l = c .loop-test .taken in record { fits = omega (arith, c .before .before .elements .ensures .1) }
+
+element-copy-out-k : tie.Need-element-copy-out-k Inv-loop μ-loop
+element-copy-out-k c = let l = c .loop-test .taken in omega (arith, c .before .before .elements .ensures .1)
 
 chart-bound-requires : tie.Need-chart-bound-requires Inv-loop μ-loop
 chart-bound-requires c κs = search needs
@@ -41,62 +52,64 @@ enum-told : tie.Need-enum-told Inv-loop μ-loop
 enum-told c = search needs
 
 same-length : tie.Need-same-length Inv-loop μ-loop
-same-length c = c .before .before .before .before .loop .inv .3 .whole ∙ sym (c .before .before .before .before .before .before .before .before .pre .3 .whole)
+same-length c = c .before .before .before .before .before .loop .inv .3 .whole ∙ sym (c .before .before .before .before .before .before .before .before .before .pre .3 .whole)
 
 returns : tie.Need-returns Inv-loop μ-loop
 returns c =
-    let l = c .before .before .before .loop-test .taken in
-    let n = c .before .before .before .before .loop .inv .2 in
-    absurd (bound-there _ (c .before .before .before .before .before .before .before .before .pre .1) _ (omega arith) (sym (c .before .before .chart-bound .ensures) ∙ c .enum-told .given .1))
+    let start = c .before .before .before .before .before .before .before .before .before in
+    let l = c .before .before .before .before .loop-test .taken in
+    let n = c .before .before .before .before .before .loop .inv .2 in
+    let m : c .before .before .before .before .before .loop .i < elementsOf (start .args .sheet .now) = omega arith in
+    absurd (bound-there _ (start .pre .1) _ _ m (row-binding _ (start .pre .1) _ (start .pre .2) _ m) (sym (c .before .before .chart-bound .ensures) ∙ c .enum-told .given .1))
 
 add-slice-cells : tie.Need-add-slice-cells Inv-loop μ-loop
 add-slice-cells c =
-    let start = c .before .before .before .before .before .before .before .before .before .before in
+    let start = c .before .before .before .before .before .before .before .before .before .before .before in
     let s = start .args .sheet .now in
     let ok = start .pre .1 in
-    let l = c .before .before .before .before .before .loop-test .taken in
-    let f = c .before .before .before .before .before .before .loop .inv .1 in
-    let n = c .before .before .before .before .before .before .loop .inv .2 in
-    let m : c .before .before .before .before .before .before .loop .i < countOf s 7 = omega arith in
-    record { fits = omega (arith, elements-bound s ok, components-limit s ok) }
+    let l = c .before .before .before .before .before .before .loop-test .taken in
+    let f = c .before .before .before .before .before .before .before .loop .inv .1 in
+    let n = c .before .before .before .before .before .before .before .loop .inv .2 in
+    let m : c .before .before .before .before .before .before .before .loop .i < elementsOf s = omega arith in
+    record { fits = omega (arith, elements-rest s ok, components-limit s ok) }
 
 mul-slice-cells : tie.Need-mul-slice-cells Inv-loop μ-loop
 mul-slice-cells c =
-    let start = c .before .before .before .before .before .before .before .before .before .before in
+    let start = c .before .before .before .before .before .before .before .before .before .before .before in
     let s = start .args .sheet .now in
     let ok = start .pre .1 in
-    let l = c .before .before .before .before .before .loop-test .taken in
-    let f = c .before .before .before .before .before .before .loop .inv .1 in
-    let n = c .before .before .before .before .before .before .loop .inv .2 in
-    let m : c .before .before .before .before .before .before .loop .i < countOf s 7 = omega arith in
+    let l = c .before .before .before .before .before .before .loop-test .taken in
+    let f = c .before .before .before .before .before .before .before .loop .inv .1 in
+    let n = c .before .before .before .before .before .before .before .loop .inv .2 in
+    let m : c .before .before .before .before .before .before .before .loop .i < elementsOf s = omega arith in
     record { fits = omega (arith, bound-below s ok) }
 
 slice-cells-requires : tie.Need-slice-cells-requires Inv-loop μ-loop
 slice-cells-requires c κs =
-    let start = c .before .before .before .before .before .before .before .before .before .before in
+    let start = c .before .before .before .before .before .before .before .before .before .before .before in
     let s = start .args .sheet .now in
     let ok = start .pre .1 in
-    let l = c .before .before .before .before .before .loop-test .taken in
-    let f = c .before .before .before .before .before .before .loop .inv .1 in
-    let n = c .before .before .before .before .before .before .loop .inv .2 in
-    let m : c .before .before .before .before .before .before .loop .i < countOf s 7 = omega arith in
-    let p = bound-chart s ok _ _ m (sym (c .before .before .before .before .chart-bound .ensures) ∙ c .before .before .c .given .1) in
-    (start .pre .0, omega (arith, elements-bound s ok, components-limit s ok), omega (arith, bound-below s ok, chart-variables s ok _ _ p), cells-limit s ok, element-now s _ _ _ f p ok _ _ (start .pre .3) (c .before .before .before .before .before .before .loop .inv .3), element-row s _ _ _ f p _ (start .pre .2))
+    let l = c .before .before .before .before .before .before .loop-test .taken in
+    let f = c .before .before .before .before .before .before .before .loop .inv .1 in
+    let n = c .before .before .before .before .before .before .before .loop .inv .2 in
+    let m : c .before .before .before .before .before .before .before .loop .i < elementsOf s = omega arith in
+    let p = bound-chart s ok _ _ m (row-binding s ok _ (start .pre .2) _ m) _ (sym (c .before .before .before .before .chart-bound .ensures) ∙ c .before .before .c .given .1) in
+    (start .pre .0, omega (arith, elements-rest s ok, components-limit s ok), omega (arith, bound-below s ok, chart-variables s ok _ _ p), cells-limit s ok, element-now s _ _ _ f p ok _ _ (start .pre .3) (c .before .before .before .before .before .before .before .loop .inv .3), element-row s _ _ _ f p _ (start .pre .2))
 
 same-length-2 : tie.Need-same-length-2 Inv-loop μ-loop
-same-length-2 c = c .before .st .given ∙ c .before .before .before .before .before .before .before .before .before .loop .inv .3 .whole ∙ sym (c .before .before .before .before .before .before .before .before .before .before .before .before .before .pre .3 .whole)
+same-length-2 c = c .before .st .given ∙ c .before .before .before .before .before .before .before .before .before .before .loop .inv .3 .whole ∙ sym (c .before .before .before .before .before .before .before .before .before .before .before .before .before .before .pre .3 .whole)
 
 returns-2 : tie.Need-returns-2 Inv-loop μ-loop
 returns-2 c =
-    let start = c .before .before .before .before .before .before .before .before .before .before .before .before .before in
+    let start = c .before .before .before .before .before .before .before .before .before .before .before .before .before .before in
     let s = start .args .sheet .now in
     let ok = start .pre .1 in
-    let l = c .before .before .before .before .before .before .before .before .loop-test .taken in
-    let f = c .before .before .before .before .before .before .before .before .before .loop .inv .1 in
-    let n = c .before .before .before .before .before .before .before .before .before .loop .inv .2 in
-    let m : c .before .before .before .before .before .before .before .before .before .loop .i < countOf s 7 = omega arith in
-    let p = bound-chart s ok _ _ m (sym (c .before .before .before .before .before .before .before .chart-bound .ensures) ∙ c .before .before .before .before .before .c .given .1) in
-    c .before .before .before .before .before .before .before .before .before .loop .inv .4 ∙ from-here s _ _ _ f p _ _ m ∙ then-refused _ _ _ _ _ (c .before .before .slice-cells .ensures) (c .if1 .taken)
+    let l = c .before .before .before .before .before .before .before .before .before .loop-test .taken in
+    let f = c .before .before .before .before .before .before .before .before .before .before .loop .inv .1 in
+    let n = c .before .before .before .before .before .before .before .before .before .before .loop .inv .2 in
+    let m : c .before .before .before .before .before .before .before .before .before .before .loop .i < elementsOf s = omega arith in
+    let p = bound-chart s ok _ _ m (row-binding s ok _ (start .pre .2) _ m) _ (sym (c .before .before .before .before .before .before .before .chart-bound .ensures) ∙ c .before .before .before .before .before .c .given .1) in
+    c .before .before .before .before .before .before .before .before .before .before .loop .inv .4 ∙ from-here s _ _ _ f p _ _ m ∙ then-refused _ _ _ _ _ (c .before .before .slice-cells .ensures) (c .if1 .taken)
 
 add-i : tie.Need-add-i Inv-loop μ-loop
 add-i c = search needs
@@ -106,15 +119,15 @@ loop-less c = search needs
 
 loop-again : tie.Need-loop-again Inv-loop μ-loop
 loop-again c =
-    let start = c .before .before .before .before .before .before .before .before .before .before .before .before .before in
+    let start = c .before .before .before .before .before .before .before .before .before .before .before .before .before .before in
     let s = start .args .sheet .now in
     let ok = start .pre .1 in
-    let l = c .before .before .before .before .before .before .before .before .loop-test .taken in
-    let f = c .before .before .before .before .before .before .before .before .before .loop .inv .1 in
-    let n = c .before .before .before .before .before .before .before .before .before .loop .inv .2 in
-    let m : c .before .before .before .before .before .before .before .before .before .loop .i < countOf s 7 = omega arith in
-    let p = bound-chart s ok _ _ m (sym (c .before .before .before .before .before .before .before .chart-bound .ensures) ∙ c .before .before .before .before .before .c .given .1) in
-    (omega arith, f, n, element-next s _ _ _ f p _ _ _ (c .before .before .before .before .before .before .before .before .before .loop .inv .3) (goes-on _ _ _ (c .before .before .slice-cells .ensures) (c .if1 .left)), c .before .before .before .before .before .before .before .before .before .loop .inv .4 ∙ from-here s _ _ _ f p _ _ m ∙ then-done _ _ _ _ (c .before .before .slice-cells .ensures) (c .if1 .left))
+    let l = c .before .before .before .before .before .before .before .before .before .loop-test .taken in
+    let f = c .before .before .before .before .before .before .before .before .before .before .loop .inv .1 in
+    let n = c .before .before .before .before .before .before .before .before .before .before .loop .inv .2 in
+    let m : c .before .before .before .before .before .before .before .before .before .before .loop .i < elementsOf s = omega arith in
+    let p = bound-chart s ok _ _ m (row-binding s ok _ (start .pre .2) _ m) _ (sym (c .before .before .before .before .before .before .before .chart-bound .ensures) ∙ c .before .before .before .before .before .c .given .1) in
+    (omega arith, f, n, element-next s _ _ _ f p _ _ _ (c .before .before .before .before .before .before .before .before .before .before .loop .inv .3) (goes-on _ _ _ (c .before .before .slice-cells .ensures) (c .if1 .left)), c .before .before .before .before .before .before .before .before .before .before .loop .inv .4 ∙ from-here s _ _ _ f p _ _ m ∙ then-done _ _ _ _ (c .before .before .slice-cells .ensures) (c .if1 .left))
 
 same-length-3 : tie.Need-same-length-3 Inv-loop μ-loop
 same-length-3 c = c .before .loop .inv .3 .whole ∙ sym (c .before .before .before .before .before .pre .3 .whole)
@@ -130,8 +143,12 @@ slice-spec =
     Inv-loop
     μ-loop
     field-at-requires
-    count-in-requires
+    elements-requires
     loop-holds
+    mul-k
+    add-k
+    mul-k-2
+    element-copy-out-k
     chart-bound-requires
     enum-known-c
     enum-told

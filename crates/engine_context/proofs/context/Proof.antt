@@ -8,10 +8,10 @@ use Rattle.engine_context.proofs.context.Statement.{statement}
 use Rattle.engine_context.proofs.context.Tie as tie
 
 abbrev Inv-loop : tie.InvT-loop
-Inv-loop cells e i chart first body count w₀ n₀ w n = (n ≤ count + 1) × (length w ≡ 38) × ((m : ℕ) → m < 5 → getD w m 0 ≡ getD w₀ m 0) × ((m : ℕ) → m < n → getD w (5 + m) 0 ≡ getD cells (33 * i + m) 0)
+Inv-loop cells e i k chart first body count w₀ n₀ w n = (n ≤ count + 1) × (length w ≡ 38) × ((m : ℕ) → m < 5 → getD w m 0 ≡ getD w₀ m 0) × ((m : ℕ) → m < n → getD w (5 + m) 0 ≡ getD cells (34 * i + m) 0)
 
 abbrev μ-loop : tie.MeasureT-loop
-μ-loop cells e i chart first body count w₀ n₀ w n = count + 1 - n
+μ-loop cells e i k chart first body count w₀ n₀ w n = count + 1 - n
 
 array-write-w : tie.Need-array-write-w Inv-loop μ-loop
 array-write-w c = search needs
@@ -64,7 +64,7 @@ loop-again c =
     let k = c .before .before .before .pre .1 in
     let w = c .before .before .loop .w in
     let n = c .before .before .loop .n in
-    let f : ℕ → ℕ = λ m. getD (c .before .before .before .args .cells .now) (33 * c .before .before .before .args .i + m) 0 in
+    let f : ℕ → ℕ = λ m. getD (c .before .before .before .args .cells .now) (34 * c .before .before .before .args .i + m) 0 in
     (omega arith, simp length-set (c .before .before .loop .inv .1), λ m r. copied-head w n (f n) m r ∙ c .before .before .loop .inv .2 m r, copied-more w n (f n) f (c .before .before .loop .inv .1) (omega arith) refl (c .before .before .loop .inv .3))
 
 returns : tie.Need-returns Inv-loop μ-loop

@@ -4,31 +4,32 @@ use native.Mathlib.Omega.{arith}
 use lib.ListN.{length, length-replicate}
 use lib.IntN.{pos}
 use borrow.Author.Needs.{needs}
-use Rattle.sheet.specs.Sheet.{countOf}
-use Rattle.sheet_rules.specs.Fields.{sumBelow}
+use Rattle.sheet_rules.specs.Fields.{sumBelow, elementsOf}
+use Rattle.sheet_rules.specs.Bindings.{firstBinding}
 use Rattle.sheet_rules.specs.Shape.{cellsBound}
+use Rattle.sheet_rules.proofs.Bindings.{first-most}
 use Rattle.machine.specs.State.{cellAt, placeAt, stateLength}
 use Rattle.machine_passed.proofs.Records.{cells-limit}
-use Rattle.engine_cells.proofs.Laws.{bound-there, bound-inside, bound-next}
+use Rattle.engine_cells.proofs.Laws.{bound-there, bound-inside, bound-next, binding-next}
 use Rattle.engine_defaults.proofs.State.{Filled, filled-none, filled-more, filled-all}
 use Rattle.engine_defaults.proofs.default_state.Statement.{statement}
 use Rattle.engine_defaults.proofs.default_state.Tie as tie
 
 abbrev Inv-loop : tie.InvT-loop
-Inv-loop sheet directory st₀ count cell₀ i₀ st cell i = (i ≤ count) × (count ≡ countOf sheet 7) × (length st ≡ stateLength sheet) × (cell ≡ sumBelow i (cellsBound sheet)) × Filled sheet st cell i
+Inv-loop sheet directory st₀ count cell₀ k₀ i₀ st cell k i = (i ≤ count) × (count ≡ elementsOf sheet) × (length st ≡ stateLength sheet) × (cell ≡ sumBelow i (cellsBound sheet)) × Filled sheet st cell i × (k ≡ firstBinding sheet i)
 
 abbrev μ-loop : tie.MeasureT-loop
-μ-loop sheet directory st₀ count cell₀ i₀ st cell i = count - i
+μ-loop sheet directory st₀ count cell₀ k₀ i₀ st cell k i = count - i
 
 zero-requires : tie.Need-zero-requires Inv-loop μ-loop
 zero-requires c κs = search needs
 
-count-in-requires : tie.Need-count-in-requires Inv-loop μ-loop
-count-in-requires c κs = search needs
+elements-requires : tie.Need-elements-requires Inv-loop μ-loop
+elements-requires c κs = search needs
 
 loop-holds : tie.Need-loop-holds Inv-loop μ-loop
-unfolding sumBelow
-loop-holds c = (omega arith, c .count-in .ensures _ (c .before .before .before .before .before .pre .0), ap length (c .before .before .zero .ensures) ∙ length-replicate _ (pos 0) ∙ c .before .before .before .before .before .pre .2, refl, filled-none _ (c .before .before .before .before .before .pre .1) _ _ (c .before .before .before .before .before .pre .2) (c .before .before .zero .ensures))
+unfolding sumBelow firstBinding
+loop-holds c = (omega arith, c .elements .ensures .0, ap length (c .before .before .zero .ensures) ∙ length-replicate _ (pos 0) ∙ c .before .before .before .before .before .pre .2, refl, filled-none _ (c .before .before .before .before .before .pre .1) _ _ (c .before .before .before .before .before .pre .2) (c .before .before .zero .ensures), refl)
 
 chart-bound-requires : tie.Need-chart-bound-requires Inv-loop μ-loop
 chart-bound-requires c κs = search needs
@@ -43,7 +44,7 @@ same-length : tie.Need-same-length Inv-loop μ-loop
 same-length c = c .before .before .before .before .loop .inv .2 ∙ sym (c .before .before .before .before .before .before .before .before .before .before .pre .2)
 
 returns : tie.Need-returns Inv-loop μ-loop
-returns c = absurd (bound-there _ (c .before .before .before .before .before .before .before .before .before .before .pre .1) _ (let l = c .before .before .before .loop-test .taken in let e = c .before .before .before .before .loop .inv .1 in omega arith) (sym (c .before .before .chart-bound .ensures) ∙ c .enum-told .given .1))
+returns c = absurd (bound-there _ (c .before .before .before .before .before .before .before .before .before .before .pre .1) _ _ (let l = c .before .before .before .loop-test .taken in let e = c .before .before .before .before .loop .inv .1 in omega arith) (c .before .before .before .before .loop .inv .5) (sym (c .before .before .chart-bound .ensures) ∙ c .enum-told .given .1))
 
 default-cells-requires : tie.Need-default-cells-requires Inv-loop μ-loop
 unfolding cellAt placeAt stateLength
@@ -51,10 +52,18 @@ default-cells-requires c κs =
     let pre = c .before .before .before .before .before .before .before .before .before .before .before .before .pre in
     let l = c .before .before .before .before .before .loop-test .taken in
     let e = c .before .before .before .before .before .before .loop .inv .1 in
-    let i = bound-inside _ (pre .1) _ _ (omega arith) (sym (c .before .before .before .before .chart-bound .ensures) ∙ c .before .before .c .given .1) _ (c .before .before .before .before .before .before .loop .inv .3) in
+    let i = bound-inside _ (pre .1) _ _ (omega arith) (c .before .before .before .before .before .before .loop .inv .5) _ (sym (c .before .before .before .before .chart-bound .ensures) ∙ c .before .before .c .given .1) _ (c .before .before .before .before .before .before .loop .inv .3) in
     let v = cells-limit _ (pre .1) in
     let w = c .before .before .before .before .before .before .loop .inv .2 in
     (pre .0, omega arith, omega arith)
+
+records-for-requires : tie.Need-records-for-requires Inv-loop μ-loop
+records-for-requires c κs = search needs
+
+add-k : tie.Need-add-k Inv-loop μ-loop
+add-k c =
+    let l = c .before .before .before .before .before .before .before .before .loop-test .taken in
+    record { fits = omega (arith, c .before .before .before .before .before .before .before .before .before .loop .inv .5, first-most (c .before .before .before .before .before .before .before .before .before .before .before .before .before .before .before .args .sheet .now) (c .before .before .before .before .before .before .before .before .before .loop .i) .1, c .before .before .before .before .before .before .before .before .before .before .elements .ensures .1, c .records-for .ensures .1) }
 
 add-i : tie.Need-add-i Inv-loop μ-loop
 add-i c = search needs
@@ -64,13 +73,13 @@ loop-less c = search needs
 
 loop-again : tie.Need-loop-again Inv-loop μ-loop
 loop-again c =
-    let pre = c .before .before .before .before .before .before .before .before .before .before .before .before .before .before .pre in
-    let l = c .before .before .before .before .before .before .before .loop-test .taken in
-    let e = c .before .before .before .before .before .before .before .before .loop .inv .1 in
-    let q = c .before .before .before .before .before .before .before .before .loop .inv .3 in
-    let p = sym (c .before .before .before .before .before .before .chart-bound .ensures) ∙ c .before .before .before .before .c .given .1 in
-    let x = c .before .default-cells .ensures in
-    (omega arith, e, c .st2 .given ∙ c .before .before .before .before .before .before .before .before .loop .inv .2, x .0 ∙ bound-next _ (pre .1) _ _ (omega arith) p _ q, filled-more _ (pre .1) _ _ _ _ _ _ (omega arith) p q (x .1) (x .0) (c .before .before .before .before .before .before .before .before .loop .inv .4))
+    let pre = c .before .before .before .before .before .before .before .before .before .before .before .before .before .before .before .pre in
+    let l = c .before .before .before .before .before .before .before .before .loop-test .taken in
+    let i = c .before .before .before .before .before .before .before .before .before .loop .inv in
+    let e = i .1 in
+    let p = sym (c .before .before .before .before .before .before .before .chart-bound .ensures) ∙ c .before .before .before .before .before .c .given .1 in
+    let x = c .before .before .default-cells .ensures in
+    (omega arith, e, c .before .st2 .given ∙ i .2, x .0 ∙ bound-next _ (pre .1) _ _ (omega arith) (i .5) _ p _ (i .3), filled-more _ (pre .1) _ _ _ _ _ _ _ (omega arith) (i .5) p (i .3) (x .1) (x .0) (i .4), binding-next _ (pre .1) _ _ (omega arith) (i .5) _ p _ (c .records-for .ensures .0))
 
 same-length-2 : tie.Need-same-length-2 Inv-loop μ-loop
 same-length-2 c = c .before .loop .inv .2 ∙ sym (c .before .before .before .before .before .before .before .pre .2)
@@ -85,7 +94,7 @@ default-state-spec =
     Inv-loop
     μ-loop
     zero-requires
-    count-in-requires
+    elements-requires
     loop-holds
     chart-bound-requires
     enum-known-c
@@ -93,6 +102,8 @@ default-state-spec =
     same-length
     returns
     default-cells-requires
+    records-for-requires
+    add-k
     add-i
     loop-less
     loop-again

@@ -7,7 +7,7 @@ use Rattle.engine_ints.specs.declared.Work.the-variants.{Word}
 use Rattle.engine_ints.proofs.Range.{back}
 use Rattle.engine_ready.proofs.Expressions.{local-inside, no-other-place}
 use Rattle.engine_ready.proofs.Expressions.{variable-lies}
-use Rattle.engine_expressions.proofs.Places.{not-absent, element-low, variable-at, local-at, constant-at, constant-none}
+use Rattle.engine_expressions.proofs.Places.{element-low, bound-low, variable-at, local-at, constant-unbound, constant-at, constant-none}
 use borrow.Author.Needs.{needs}
 use Rattle.engine_expressions.proofs.variable.Statement.{statement}
 use Rattle.engine_expressions.proofs.variable.Tie as tie
@@ -15,8 +15,11 @@ use Rattle.engine_expressions.proofs.variable.Tie as tie
 cast-number : tie.Need-cast-number
 cast-number c = search needs
 
-element-copy-out-read : tie.Need-element-copy-out-read
-element-copy-out-read c = search needs
+element-copy-out-constant-record : tie.Need-element-copy-out-constant-record
+element-copy-out-constant-record c = search needs
+
+constant-record-requires : tie.Need-constant-record-requires
+constant-record-requires c κs = bound-low _ _ _ _ (c .before .before .before .before .pre .1)
 
 read-requires : tie.Need-read-requires
 read-requires c κs = search needs
@@ -28,10 +31,10 @@ enum-told : tie.Need-enum-told
 enum-told c = search needs
 
 returns : tie.Need-returns
-returns c = absurd (not-absent _ _ (c .before .before .before .before .before .before .before .pre .1 .running .binding) (sym (c .before .before .read .ensures) ∙ c .enum-told .given .1))
+returns c = constant-unbound _ _ _ _ (c .before .before .before .before .before .before .before .before .pre .1) _ _ (c .before .before .before .before .before .before .before .before .pre .3) (c .before .before .before .before .before .before .before .before .pre .2) (c .before .before .before .before .before .before .before .before .pre .4) (c .before .before .before .before .before .match .keys1) _ (c .before .before .before .constant-record .ensures) (sym (c .before .before .read .ensures) ∙ c .enum-told .given .1) _
 
-add-field : tie.Need-add-field
-add-field c = search needs
+constant-field-requires : tie.Need-constant-field-requires
+constant-field-requires c κs = search needs
 
 field-requires : tie.Need-field-requires
 field-requires c κs = search needs
@@ -46,31 +49,31 @@ enum-told-2 : tie.Need-enum-told-2
 enum-told-2 c = search needs
 
 returns-2 : tie.Need-returns-2
-returns-2 c = constant-none _ _ _ _ (c .before .before .before .before .before .before .before .before .before .before .before .before .pre .1) _ _ (c .before .before .before .before .before .before .before .before .before .before .before .before .pre .3) (c .before .before .before .before .before .before .before .before .before .before .before .before .pre .2) (c .before .before .before .before .before .before .before .before .before .before .before .before .pre .4) (c .before .before .before .before .before .before .before .before .before .match .keys1) _ (sym (c .before .before .before .before .before .before .before .read .ensures) ∙ c .before .before .before .before .before .b .given .1) _ (c .before .before .before .field .ensures .0) (sym (c .before .before .read2 .ensures) ∙ c .enum-told2 .given .1) _
+returns-2 c = constant-none _ _ _ _ (c .before .before .before .before .before .before .before .before .before .before .before .before .before .before .pre .1) _ _ (c .before .before .before .before .before .before .before .before .before .before .before .before .before .before .pre .3) (c .before .before .before .before .before .before .before .before .before .before .before .before .before .before .pre .2) (c .before .before .before .before .before .before .before .before .before .before .before .before .before .before .pre .4) (c .before .before .before .before .before .before .before .before .before .before .before .match .keys1) _ (c .before .before .before .before .before .before .before .before .before .constant-record .ensures) _ (sym (c .before .before .before .before .before .before .before .before .read .ensures) ∙ c .before .before .before .before .before .before .b .given .1) _ _ (c .before .before .before .before .constant-field .ensures) (c .before .before .before .field .ensures .0) (sym (c .before .before .read2 .ensures) ∙ c .enum-told2 .given .1) _
 
 element-copy-out-literal : tie.Need-element-copy-out-literal
 element-copy-out-literal c = search needs
 
 literal-requires : tie.Need-literal-requires
-literal-requires c κs = element-low _ _ _ _ (c .before .before .before .before .before .before .before .before .before .before .before .before .before .before .pre .1)
+literal-requires c κs = element-low _ _ _ _ (c .before .before .before .before .before .before .before .before .before .before .before .before .before .before .before .before .pre .1)
 
 cell-word-requires : tie.Need-cell-word-requires
 cell-word-requires c κs = (variable-lies _ _ _ _ (c .before .before .before .pre .1) _ _ (c .before .before .before .pre .3) (c .before .before .before .pre .2) (c .before .before .before .pre .4) (c .match .keys2), omega arith)
 
-mul-t24 : tie.Need-mul-t24
-mul-t24 c = search needs
+mul-t25 : tie.Need-mul-t25
+mul-t25 c = search needs
 
-element-copy-out-t27 : tie.Need-element-copy-out-t27
-element-copy-out-t27 c = local-inside _ _ _ _ (c .before .before .before .pre .1) _ _ (c .before .before .before .pre .3) (c .before .before .before .pre .2) (c .before .before .before .pre .4) (c .match .keys3)
+element-copy-out-t28 : tie.Need-element-copy-out-t28
+element-copy-out-t28 c = local-inside _ _ _ _ (c .before .before .before .pre .1) _ _ (c .before .before .before .pre .3) (c .before .before .before .pre .2) (c .before .before .before .pre .4) (c .match .keys3)
 
 returns-3 : tie.Need-returns-3
-returns-3 c = let h : toZ w32 (ofZ w32 (c .literal .result)) ≡ c .literal .result = search needs in ap (λ (z : ℤ). Word z (c .before .before .before .before .before .before .before .before .before .before .before .before .before .before .before .args .left)) (h ∙ c .literal .ensures) ∙ constant-at _ _ _ _ (c .before .before .before .before .before .before .before .before .before .before .before .before .before .before .before .pre .1) _ _ (c .before .before .before .before .before .before .before .before .before .before .before .before .before .before .before .pre .3) (c .before .before .before .before .before .before .before .before .before .before .before .before .before .before .before .pre .2) (c .before .before .before .before .before .before .before .before .before .before .before .before .before .before .before .pre .4) (c .before .before .before .before .before .before .before .before .before .before .before .before .match .keys1) _ (sym (c .before .before .before .before .before .before .before .before .before .before .read .ensures) ∙ c .before .before .before .before .before .before .before .before .b .given .1) _ (c .before .before .before .before .before .before .field .ensures .0) _ (sym (c .before .before .before .before .before .read2 .ensures) ∙ c .before .before .before .c .given .1) _
+returns-3 c = let h : toZ w32 (ofZ w32 (c .literal .result)) ≡ c .literal .result = search needs in ap (λ (z : ℤ). Word z (c .before .before .before .before .before .before .before .before .before .before .before .before .before .before .before .before .before .args .left)) (h ∙ c .literal .ensures) ∙ constant-at _ _ _ _ (c .before .before .before .before .before .before .before .before .before .before .before .before .before .before .before .before .before .pre .1) _ _ (c .before .before .before .before .before .before .before .before .before .before .before .before .before .before .before .before .before .pre .3) (c .before .before .before .before .before .before .before .before .before .before .before .before .before .before .before .before .before .pre .2) (c .before .before .before .before .before .before .before .before .before .before .before .before .before .before .before .before .before .pre .4) (c .before .before .before .before .before .before .before .before .before .before .before .before .before .before .match .keys1) _ (c .before .before .before .before .before .before .before .before .before .before .before .before .constant-record .ensures) _ (sym (c .before .before .before .before .before .before .before .before .before .before .before .read .ensures) ∙ c .before .before .before .before .before .before .before .before .before .b .given .1) _ _ (c .before .before .before .before .before .before .before .constant-field .ensures) (c .before .before .before .before .before .before .field .ensures .0) _ (sym (c .before .before .before .before .before .read2 .ensures) ∙ c .before .before .before .c .given .1) _
 
 returns-4 : tie.Need-returns-4
 returns-4 c = let h : toZ w32 (ofZ w32 (c .cell-word .result)) ≡ c .cell-word .result = search needs in ap (λ (z : ℤ). Word z (c .before .before .before .before .args .left)) (h ∙ c .cell-word .ensures) ∙ variable-at _ _ _ _ (c .before .before .before .before .pre .1) _ _ (c .before .before .before .before .pre .3) (c .before .before .before .before .pre .2) (c .before .before .before .before .pre .4) (c .before .match .keys2) _
 
 returns-5 : tie.Need-returns-5
-returns-5 c = ap (λ (z : ℤ). Word z (c .before .before .before .before .args .left)) (back (record { sfits = c .t27 .given })) ∙ local-at _ _ _ _ (c .before .before .before .before .pre .1) _ _ (c .before .before .before .before .pre .3) (c .before .before .before .before .pre .2) (c .before .before .before .before .pre .4) (c .before .match .keys3) _
+returns-5 c = ap (λ (z : ℤ). Word z (c .before .before .before .before .args .left)) (back (record { sfits = c .t28 .given })) ∙ local-at _ _ _ _ (c .before .before .before .before .pre .1) _ _ (c .before .before .before .before .pre .3) (c .before .before .before .before .pre .2) (c .before .before .before .before .pre .4) (c .before .match .keys3) _
 
 returns-6 : tie.Need-returns-6
 returns-6 c = let n = c .match .rest in absurd (no-other-place _ _ _ _ (c .before .before .before .pre .1) _ _ (c .before .before .before .pre .3) (c .before .before .before .pre .2) (c .before .before .before .pre .4) (n .0 .0 .1) (n .0 .1) (n .1))
@@ -80,12 +83,13 @@ variable-spec =
     tie.close
     (tie.spec
     cast-number
-    element-copy-out-read
+    element-copy-out-constant-record
+    constant-record-requires
     read-requires
     enum-known-b
     enum-told
     returns
-    add-field
+    constant-field-requires
     field-requires
     read-requires-2
     enum-known-c
@@ -94,8 +98,8 @@ variable-spec =
     element-copy-out-literal
     literal-requires
     cell-word-requires
-    mul-t24
-    element-copy-out-t27
+    mul-t25
+    element-copy-out-t28
     returns-3
     returns-4
     returns-5

@@ -21,8 +21,8 @@ default-state-requires c κs = search needs
 externals-requires : tie.Need-externals-requires Inv-loop μ-loop
 externals-requires c κs = search needs
 
-count-in-requires : tie.Need-count-in-requires Inv-loop μ-loop
-count-in-requires c κs = search needs
+elements-requires : tie.Need-elements-requires Inv-loop μ-loop
+elements-requires c κs = search needs
 
 limit-requires : tie.Need-limit-requires Inv-loop μ-loop
 limit-requires c κs = search needs
@@ -30,46 +30,46 @@ limit-requires c κs = search needs
 loop-holds : tie.Need-loop-holds Inv-loop μ-loop
 loop-holds c =
     let p = c .before .before .externals .ensures .0 in
-    let q = c .before .count-in .ensures _ (c .before .before .before .before .before .before .before .pre .0) in
+    let q = c .before .elements .ensures .0 in
     (omega arith, subst (OfSheet _) (sym (c .before .before .before .before .default-state .ensures)) (default-of-sheet _ (c .before .before .before .before .before .before .before .pre .1)), omega arith, begins _ (c .before .before .before .before .before .before .before .pre .1) _ _ _ (omega arith) (omega arith) (c .before .before .before .before .default-state .ensures))
 
 add-initial : tie.Need-add-initial Inv-loop μ-loop
 add-initial c =
-    let f = few _ (c .before .before .before .before .before .before .before .before .before .before .pre .1) _ _ _ _ (c .before .before .before .before .before .externals .ensures .0) (c .before .before .before .before .count-in .ensures _ (c .before .before .before .before .before .before .before .before .before .before .pre .0)) (c .before .before .before .limit .ensures .0) (c .before .loop-test .taken) in
+    let f = few _ (c .before .before .before .before .before .before .before .before .before .before .pre .1) _ _ _ _ (c .before .before .before .before .before .externals .ensures .0) (c .before .before .before .before .elements .ensures .0) (c .before .before .before .limit .ensures .0) (c .before .loop-test .taken) in
     let l = c .before .loop-test .taken in
     record { fits = omega arith }
 
 initial-requires : tie.Need-initial-requires Inv-loop μ-loop
-initial-requires c κs = (record { directory = c .before .before .before .before .before .before .before .before .before .before .pre .0; passed = c .before .before .before .before .before .before .before .before .before .before .pre .1; state = c .before .before .loop .inv .1 }, here-bound _ (c .before .before .before .before .before .before .before .before .before .before .pre .1) _ _ _ _ (c .before .before .before .before .before .externals .ensures .0) (c .before .before .before .before .count-in .ensures _ (c .before .before .before .before .before .before .before .before .before .before .pre .0)) (c .before .before .before .limit .ensures .0) (c .before .loop-test .taken), c .before .before .before .before .before .before .before .before .before .before .pre .3)
+initial-requires c κs = (record { directory = c .before .before .before .before .before .before .before .before .before .before .pre .0; passed = c .before .before .before .before .before .before .before .before .before .before .pre .1; state = c .before .before .loop .inv .1 }, here-bound _ (c .before .before .before .before .before .before .before .before .before .before .pre .1) _ _ _ _ (c .before .before .before .before .before .externals .ensures .0) (c .before .before .before .before .elements .ensures .0) (c .before .before .before .limit .ensures .0) (c .before .loop-test .taken), c .before .before .before .before .before .before .before .before .before .before .pre .3)
 
 enum-known-r : tie.Need-enum-known-r Inv-loop μ-loop
 enum-known-r c = search needs
 
 sub-steps : tie.Need-sub-steps Inv-loop μ-loop
-sub-steps c = let h = done-left _ (c .before .before .before .before .before .before .before .before .before .before .before .before .before .before .before .pre .1) _ _ _ _ (c .before .before .before .before .before .before .before .before .before .before .externals .ensures .0) (c .before .before .before .before .before .before .before .before .before .count-in .ensures _ (c .before .before .before .before .before .before .before .before .before .before .before .before .before .before .before .pre .0)) (c .before .before .before .before .before .before .before .before .limit .ensures .0) (c .before .before .before .before .before .before .loop-test .taken) _ (c .before .before .before .before .before .before .before .loop .inv .1) _ _ (c .before .before .before .before .initial .ensures .0) (c .before .before .before .before .initial .ensures .1) _ (c .before .r .given .1) in search needs
+sub-steps c = let h = done-left _ (c .before .before .before .before .before .before .before .before .before .before .before .before .before .before .before .pre .1) _ _ _ _ (c .before .before .before .before .before .before .before .before .before .before .externals .ensures .0) (c .before .before .before .before .before .before .before .before .before .elements .ensures .0) (c .before .before .before .before .before .before .before .before .limit .ensures .0) (c .before .before .before .before .before .before .loop-test .taken) _ (c .before .before .before .before .before .before .before .loop .inv .1) _ _ (c .before .before .before .before .initial .ensures .0) (c .before .before .before .before .initial .ensures .1) _ (c .before .r .given .1) in search needs
 
 add-steps : tie.Need-add-steps Inv-loop μ-loop
 add-steps c =
-    let f = few _ (c .before .before .before .before .before .before .before .before .before .before .before .before .before .before .before .pre .1) _ _ _ _ (c .before .before .before .before .before .before .before .before .before .before .externals .ensures .0) (c .before .before .before .before .before .before .before .before .before .count-in .ensures _ (c .before .before .before .before .before .before .before .before .before .before .before .before .before .before .before .pre .0)) (c .before .before .before .before .before .before .before .before .limit .ensures .0) (c .before .before .before .before .before .before .loop-test .taken) in
+    let f = few _ (c .before .before .before .before .before .before .before .before .before .before .before .before .before .before .before .pre .1) _ _ _ _ (c .before .before .before .before .before .before .before .before .before .before .externals .ensures .0) (c .before .before .before .before .before .before .before .before .before .elements .ensures .0) (c .before .before .before .before .before .before .before .before .limit .ensures .0) (c .before .before .before .before .before .before .loop-test .taken) in
     let l = c .before .before .before .before .before .before .loop-test .taken in
     let w = c .before .before .before .before .before .before .before .loop .inv .2 in
     let z = c .before .before .before .before .before .before .before .before .limit .ensures .1 in
-    let h = done-left _ (c .before .before .before .before .before .before .before .before .before .before .before .before .before .before .before .pre .1) _ _ _ _ (c .before .before .before .before .before .before .before .before .before .before .externals .ensures .0) (c .before .before .before .before .before .before .before .before .before .count-in .ensures _ (c .before .before .before .before .before .before .before .before .before .before .before .before .before .before .before .pre .0)) (c .before .before .before .before .before .before .before .before .limit .ensures .0) (c .before .before .before .before .before .before .loop-test .taken) _ (c .before .before .before .before .before .before .before .loop .inv .1) _ _ (c .before .before .before .before .initial .ensures .0) (c .before .before .before .before .initial .ensures .1) _ (c .before .r .given .1) in
+    let h = done-left _ (c .before .before .before .before .before .before .before .before .before .before .before .before .before .before .before .pre .1) _ _ _ _ (c .before .before .before .before .before .before .before .before .before .before .externals .ensures .0) (c .before .before .before .before .before .before .before .before .before .elements .ensures .0) (c .before .before .before .before .before .before .before .before .limit .ensures .0) (c .before .before .before .before .before .before .loop-test .taken) _ (c .before .before .before .before .before .before .before .loop .inv .1) _ _ (c .before .before .before .before .initial .ensures .0) (c .before .before .before .before .initial .ensures .1) _ (c .before .r .given .1) in
     record { fits = omega arith }
 
 enum-known-r-2 : tie.Need-enum-known-r-2 Inv-loop μ-loop
 enum-known-r-2 c = search needs
 
 sub-refused : tie.Need-sub-refused Inv-loop μ-loop
-sub-refused c = let h = refused-left _ (c .before .before .before .before .before .before .before .before .before .before .before .before .before .before .before .before .pre .1) _ _ _ _ (c .before .before .before .before .before .before .before .before .before .before .before .externals .ensures .0) (c .before .before .before .before .before .before .before .before .before .before .count-in .ensures _ (c .before .before .before .before .before .before .before .before .before .before .before .before .before .before .before .before .pre .0)) (c .before .before .before .before .before .before .before .before .before .limit .ensures .0) (c .before .before .before .before .before .before .before .loop-test .taken) _ (c .before .before .before .before .before .before .before .before .loop .inv .1) _ _ (c .before .before .before .before .before .initial .ensures .0) (c .before .before .before .before .before .initial .ensures .1) _ _ (c .before .before .r2 .given .1) in search needs
+sub-refused c = let h = refused-left _ (c .before .before .before .before .before .before .before .before .before .before .before .before .before .before .before .before .pre .1) _ _ _ _ (c .before .before .before .before .before .before .before .before .before .before .before .externals .ensures .0) (c .before .before .before .before .before .before .before .before .before .before .elements .ensures .0) (c .before .before .before .before .before .before .before .before .before .limit .ensures .0) (c .before .before .before .before .before .before .before .loop-test .taken) _ (c .before .before .before .before .before .before .before .before .loop .inv .1) _ _ (c .before .before .before .before .before .initial .ensures .0) (c .before .before .before .before .before .initial .ensures .1) _ _ (c .before .before .r2 .given .1) in search needs
 
 add-refused : tie.Need-add-refused Inv-loop μ-loop
 add-refused c =
-    let f = few _ (c .before .before .before .before .before .before .before .before .before .before .before .before .before .before .before .before .pre .1) _ _ _ _ (c .before .before .before .before .before .before .before .before .before .before .before .externals .ensures .0) (c .before .before .before .before .before .before .before .before .before .before .count-in .ensures _ (c .before .before .before .before .before .before .before .before .before .before .before .before .before .before .before .before .pre .0)) (c .before .before .before .before .before .before .before .before .before .limit .ensures .0) (c .before .before .before .before .before .before .before .loop-test .taken) in
+    let f = few _ (c .before .before .before .before .before .before .before .before .before .before .before .before .before .before .before .before .pre .1) _ _ _ _ (c .before .before .before .before .before .before .before .before .before .before .before .externals .ensures .0) (c .before .before .before .before .before .before .before .before .before .before .elements .ensures .0) (c .before .before .before .before .before .before .before .before .before .limit .ensures .0) (c .before .before .before .before .before .before .before .loop-test .taken) in
     let l = c .before .before .before .before .before .before .before .loop-test .taken in
     let w = c .before .before .before .before .before .before .before .before .loop .inv .2 in
     let z = c .before .before .before .before .before .before .before .before .before .limit .ensures .1 in
-    let h = refused-left _ (c .before .before .before .before .before .before .before .before .before .before .before .before .before .before .before .before .pre .1) _ _ _ _ (c .before .before .before .before .before .before .before .before .before .before .before .externals .ensures .0) (c .before .before .before .before .before .before .before .before .before .before .count-in .ensures _ (c .before .before .before .before .before .before .before .before .before .before .before .before .before .before .before .before .pre .0)) (c .before .before .before .before .before .before .before .before .before .limit .ensures .0) (c .before .before .before .before .before .before .before .loop-test .taken) _ (c .before .before .before .before .before .before .before .before .loop .inv .1) _ _ (c .before .before .before .before .before .initial .ensures .0) (c .before .before .before .before .before .initial .ensures .1) _ _ (c .before .before .r2 .given .1) in
+    let h = refused-left _ (c .before .before .before .before .before .before .before .before .before .before .before .before .before .before .before .before .pre .1) _ _ _ _ (c .before .before .before .before .before .before .before .before .before .before .before .externals .ensures .0) (c .before .before .before .before .before .before .before .before .before .before .elements .ensures .0) (c .before .before .before .before .before .before .before .before .before .limit .ensures .0) (c .before .before .before .before .before .before .before .loop-test .taken) _ (c .before .before .before .before .before .before .before .before .loop .inv .1) _ _ (c .before .before .before .before .before .initial .ensures .0) (c .before .before .before .before .before .initial .ensures .1) _ _ (c .before .before .r2 .given .1) in
     record { fits = omega arith }
 
 refused-requires : tie.Need-refused-requires Inv-loop μ-loop
@@ -79,7 +79,7 @@ same-length : tie.Need-same-length Inv-loop μ-loop
 same-length c = c .st3 .given ∙ c .before .before .before .before .before .before .st2 .given ∙ c .before .before .before .before .before .before .before .before .before .before .loop .inv .1 .whole ∙ sym (c .before .before .before .before .before .before .before .before .before .before .before .before .before .before .before .before .before .before .pre .2)
 
 returns : tie.Need-returns Inv-loop μ-loop
-returns c = refused-ends _ (c .before .before .before .before .before .before .before .before .before .before .before .before .before .before .before .before .before .before .pre .1) _ _ _ _ (c .before .before .before .before .before .before .before .before .before .before .before .before .before .externals .ensures .0) (c .before .before .before .before .before .before .before .before .before .before .before .before .count-in .ensures _ (c .before .before .before .before .before .before .before .before .before .before .before .before .before .before .before .before .before .before .pre .0)) (c .before .before .before .before .before .before .before .before .before .before .before .limit .ensures .0) (c .before .before .before .before .before .before .before .before .before .loop-test .taken) _ (c .before .before .before .before .before .before .before .before .before .before .loop .inv .1) _ _ (c .before .before .before .before .before .before .before .initial .ensures .0) (c .before .before .before .before .before .before .before .initial .ensures .1) _ (c .before .before .before .before .before .before .before .before .before .before .loop .inv .3) _ _ (c .before .before .before .before .r2 .given .1) _ _ (c .before .refused .ensures .1) (c .before .before .before .before .before .before .st2 .given ∙ c .before .before .before .before .before .before .before .before .before .before .loop .inv .1 .whole) _ (c .before .refused .ensures .0)
+returns c = refused-ends _ (c .before .before .before .before .before .before .before .before .before .before .before .before .before .before .before .before .before .before .pre .1) _ _ _ _ (c .before .before .before .before .before .before .before .before .before .before .before .before .before .externals .ensures .0) (c .before .before .before .before .before .before .before .before .before .before .before .before .elements .ensures .0) (c .before .before .before .before .before .before .before .before .before .before .before .limit .ensures .0) (c .before .before .before .before .before .before .before .before .before .loop-test .taken) _ (c .before .before .before .before .before .before .before .before .before .before .loop .inv .1) _ _ (c .before .before .before .before .before .before .before .initial .ensures .0) (c .before .before .before .before .before .before .before .initial .ensures .1) _ (c .before .before .before .before .before .before .before .before .before .before .loop .inv .3) _ _ (c .before .before .before .before .r2 .given .1) _ _ (c .before .refused .ensures .1) (c .before .before .before .before .before .before .st2 .given ∙ c .before .before .before .before .before .before .before .before .before .before .loop .inv .1 .whole) _ (c .before .refused .ensures .0)
 
 enum-told : tie.Need-enum-told Inv-loop μ-loop
 enum-told c = search needs
@@ -91,7 +91,7 @@ same-length-2 : tie.Need-same-length-2 Inv-loop μ-loop
 same-length-2 c = c .before .before .before .st2 .given ∙ c .before .before .before .before .before .before .before .loop .inv .1 .whole ∙ sym (c .before .before .before .before .before .before .before .before .before .before .before .before .before .before .before .pre .2)
 
 returns-2 : tie.Need-returns-2 Inv-loop μ-loop
-returns-2 c = absurd (not-stuck _ (c .before .before .before .before .before .before .before .before .before .before .before .before .before .before .before .pre .1) _ _ _ _ (c .before .before .before .before .before .before .before .before .before .before .externals .ensures .0) (c .before .before .before .before .before .before .before .before .before .count-in .ensures _ (c .before .before .before .before .before .before .before .before .before .before .before .before .before .before .before .pre .0)) (c .before .before .before .before .before .before .before .before .limit .ensures .0) (c .before .before .before .before .before .before .loop-test .taken) _ (c .before .before .before .before .before .before .before .loop .inv .1) _ _ (c .before .before .before .before .initial .ensures .0) (c .before .before .before .before .initial .ensures .1) (c .before .enum-told .given .1))
+returns-2 c = absurd (not-stuck _ (c .before .before .before .before .before .before .before .before .before .before .before .before .before .before .before .pre .1) _ _ _ _ (c .before .before .before .before .before .before .before .before .before .before .externals .ensures .0) (c .before .before .before .before .before .before .before .before .before .elements .ensures .0) (c .before .before .before .before .before .before .before .before .limit .ensures .0) (c .before .before .before .before .before .before .loop-test .taken) _ (c .before .before .before .before .before .before .before .loop .inv .1) _ _ (c .before .before .before .before .initial .ensures .0) (c .before .before .before .before .initial .ensures .1) (c .before .enum-told .given .1))
 
 add-i : tie.Need-add-i Inv-loop μ-loop
 add-i c = search needs
@@ -101,11 +101,11 @@ loop-less c = search needs
 
 loop-again : tie.Need-loop-again Inv-loop μ-loop
 loop-again c =
-    let f = few _ (c .before .before .before .before .before .before .before .before .before .before .before .before .before .before .before .pre .1) _ _ _ _ (c .before .before .before .before .before .before .before .before .before .before .externals .ensures .0) (c .before .before .before .before .before .before .before .before .before .count-in .ensures _ (c .before .before .before .before .before .before .before .before .before .before .before .before .before .before .before .pre .0)) (c .before .before .before .before .before .before .before .before .limit .ensures .0) (c .before .before .before .before .before .before .loop-test .taken) in
+    let f = few _ (c .before .before .before .before .before .before .before .before .before .before .before .before .before .before .before .pre .1) _ _ _ _ (c .before .before .before .before .before .before .before .before .before .before .externals .ensures .0) (c .before .before .before .before .before .before .before .before .before .elements .ensures .0) (c .before .before .before .before .before .before .before .before .limit .ensures .0) (c .before .before .before .before .before .before .loop-test .taken) in
     let l = c .before .before .before .before .before .before .loop-test .taken in
     let w = c .before .before .before .before .before .before .before .loop .inv .2 in
     let z = c .before .before .before .before .before .before .before .before .limit .ensures .1 in
-    (omega arith, done-kept _ (c .before .before .before .before .before .before .before .before .before .before .before .before .before .before .before .pre .1) _ _ _ _ (c .before .before .before .before .before .before .before .before .before .before .externals .ensures .0) (c .before .before .before .before .before .before .before .before .before .count-in .ensures _ (c .before .before .before .before .before .before .before .before .before .before .before .before .before .before .before .pre .0)) (c .before .before .before .before .before .before .before .before .limit .ensures .0) (c .before .before .before .before .before .before .loop-test .taken) _ (c .before .before .before .before .before .before .before .loop .inv .1) _ _ (c .before .before .before .before .initial .ensures .0) (c .before .before .before .before .initial .ensures .1) _ (c .before .r .given .1), omega arith, done-next _ (c .before .before .before .before .before .before .before .before .before .before .before .before .before .before .before .pre .1) _ _ _ _ (c .before .before .before .before .before .before .before .before .before .before .externals .ensures .0) (c .before .before .before .before .before .before .before .before .before .count-in .ensures _ (c .before .before .before .before .before .before .before .before .before .before .before .before .before .before .before .pre .0)) (c .before .before .before .before .before .before .before .before .limit .ensures .0) (c .before .before .before .before .before .before .loop-test .taken) _ (c .before .before .before .before .before .before .before .loop .inv .1) _ _ (c .before .before .before .before .initial .ensures .0) (c .before .before .before .before .initial .ensures .1) _ (c .before .before .before .before .before .before .before .loop .inv .3) _ (c .before .r .given .1))
+    (omega arith, done-kept _ (c .before .before .before .before .before .before .before .before .before .before .before .before .before .before .before .pre .1) _ _ _ _ (c .before .before .before .before .before .before .before .before .before .before .externals .ensures .0) (c .before .before .before .before .before .before .before .before .before .elements .ensures .0) (c .before .before .before .before .before .before .before .before .limit .ensures .0) (c .before .before .before .before .before .before .loop-test .taken) _ (c .before .before .before .before .before .before .before .loop .inv .1) _ _ (c .before .before .before .before .initial .ensures .0) (c .before .before .before .before .initial .ensures .1) _ (c .before .r .given .1), omega arith, done-next _ (c .before .before .before .before .before .before .before .before .before .before .before .before .before .before .before .pre .1) _ _ _ _ (c .before .before .before .before .before .before .before .before .before .before .externals .ensures .0) (c .before .before .before .before .before .before .before .before .before .elements .ensures .0) (c .before .before .before .before .before .before .before .before .limit .ensures .0) (c .before .before .before .before .before .before .loop-test .taken) _ (c .before .before .before .before .before .before .before .loop .inv .1) _ _ (c .before .before .before .before .initial .ensures .0) (c .before .before .before .before .initial .ensures .1) _ (c .before .before .before .before .before .before .before .loop .inv .3) _ (c .before .r .given .1))
 
 answered-requires-2 : tie.Need-answered-requires-2 Inv-loop μ-loop
 answered-requires-2 c κs = search needs
@@ -127,7 +127,7 @@ from-defaults-spec =
     μ-loop
     default-state-requires
     externals-requires
-    count-in-requires
+    elements-requires
     limit-requires
     loop-holds
     add-initial

@@ -1,4 +1,5 @@
 use mathlib.Core.Path.{_∙_}
+use native.Mathlib.Omega.{arith}
 use borrow.Author.Needs.{needs}
 use Rattle.engine_valid_values.proofs.Laws.{too-low, too-high, binding-there}
 use Rattle.engine_valid_values.proofs.binding_of.Statement.{statement}
@@ -16,13 +17,16 @@ components-requires c κs = search needs
 returns-2 : tie.Need-returns-2
 returns-2 c = too-high _ _ _ (c .before .components .ensures .0) (c .if2 .taken)
 
+first-binding-requires : tie.Need-first-binding-requires
+first-binding-requires c κs = let l = c .if2 .left in (c .before .before .before .before .before .pre, omega (arith, c .before .components .ensures .1))
+
 read-requires : tie.Need-read-requires
 read-requires c κs = search needs
 
 returns-3 : tie.Need-returns-3
-returns-3 c = c .read .ensures ∙ binding-there _ _ _ _ (c .before .before .before .before .externals .ensures .0) (c .before .before .components .ensures .0) (c .before .before .before .if1 .left) (c .before .if2 .left)
+returns-3 c = c .read .ensures ∙ binding-there _ _ _ _ (c .before .before .before .before .before .externals .ensures .0) (c .before .before .before .components .ensures .0) (c .before .before .before .before .if1 .left) (c .before .before .if2 .left) _ (c .before .first-binding .ensures)
 
 pub binding-of-spec : {M : Type 1} → statement M
 binding-of-spec =
     tie.close
-    (tie.spec externals-requires returns components-requires returns-2 read-requires returns-3)
+    (tie.spec externals-requires returns components-requires returns-2 first-binding-requires read-requires returns-3)
