@@ -28,7 +28,8 @@ pub fn chart_bound(sheet: &[u8], directory: &[usize; 16], k: usize) -> Found
     sheet_reader::read(sheet, directory, 4, b.f0 as usize)
 }
 
-// The record behind those of the element whose first one is k.
+// The record behind those of the element whose first one is k. An element's first record is at most at
+// twice its number, which has 16 bits.
 pub fn record_behind(sheet: &[u8], directory: &[usize; 16], k: usize) -> usize
     requires { ⌜ (now directory ≡ directoryOf (now sheet)) × (k ≤ 131072) ⌝ }
     ensures { λ x. ⌜ (x ≡ behind (now (sheet .entry)) k) × (x ≤ k + 2) ⌝ }

@@ -11,9 +11,10 @@ use borrow.Author.Tests.{lt-ltb, le-ltb, le-leb, lt-leb}
 use Rattle.sheet.specs.declared.Record.{Record}
 use Rattle.sheet.specs.declared.Found.{Found}
 use Rattle.sheet.specs.declared.Found.the-variants.{Present, Absent}
+use Rattle.sheet.specs.All.{allBelow}
 use Rattle.sheet.specs.Names.{charts, bindings, chartParameters, boundChart}
 use Rattle.sheet.specs.Sheet.{countOf, recordOf}
-use Rattle.sheet.proofs.All.{true-false}
+use Rattle.sheet.proofs.All.{true-false, all-more, all-fails}
 use Rattle.sheet_rules.specs.Fields.{isField, fieldOf, holds, numberOr0, sumBelow, oneIf, countBelow}
 use Rattle.sheet_rules.specs.Bindings.{constantsInRecord, recordsFor, chartBound, behind, firstBinding, elementsBoundIn, constantRecord, constantBinding, constantField, constantOf}
 use Rattle.sheet_rules.proofs.Fields.{holds-present, holds-absent, number-present, number-absent}
@@ -147,6 +148,27 @@ module _ (s : List ℕ) where
       | yes q ↦ absurd (omega (arith, w .at, bound-inside s i q))
       | no q ↦ omega (arith, w .within)
     ]
+
+-- the elements before record k meet a test, each by its first record
+pub record Walked (s : List ℕ) (p : ℕ → Bool) (k : ℕ) : Type 0 where
+  pub number : ℕ
+  pub walk : Walk s k number
+  pub met : allBelow number (λ i. p (firstBinding s i)) ≡ true
+
+module _ (s : List ℕ) (p : ℕ → Bool) where
+  pub walked-begins : Walked s p 0
+  unfolding allBelow
+  walked-begins = record { number = 0; walk = walk-begins s; met = refl }
+
+  module _ (k : ℕ) (w : Walked s p k) where
+    pub walked-on : (n : ℕ) → n ≡ behind s k → k < countOf s bindings → p k ≡ true → Walked s p n
+    walked-on n e l h = record { number = w .number + 1; walk = walk-on s k (w .number) (w .walk) n e l; met = all-more (w .number) _ (w .met) (ap p (sym (w .walk .at)) ∙ h) }
+
+    pub walked-fails : k < countOf s bindings → p k ≡ false → false ≡ allBelow (elementsBoundIn s) (λ i. p (firstBinding s i))
+    walked-fails l h = sym (all-fails (elementsBoundIn s) _ (w .number) (walk-inside s k (w .number) (w .walk) l) (ap p (sym (w .walk .at)) ∙ h))
+
+    pub walked-ends : countOf s bindings ≤ k → true ≡ allBelow (elementsBoundIn s) (λ i. p (firstBinding s i))
+    walked-ends l = sym (ap (λ (n : ℕ). allBelow n (λ i. p (firstBinding s i))) (walk-ends s k (w .number) (w .walk) l) ∙ w .met)
 
 -- ---- where a constant stands
 

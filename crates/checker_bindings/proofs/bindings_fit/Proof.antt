@@ -1,25 +1,17 @@
 use native.Mathlib.Omega.{arith}
-use mathlib.Core.Path.{_≡_, refl, sym, ap, _∙_}
-use mathlib.Core.Bool.{Bool, true}
-use mathlib.Core.List.{List}
-use Prim.Native.Nat.{ℕ, _+_, _-_}
+use mathlib.Core.Path.{_≡_, sym, _∙_}
+use Prim.Native.Nat.{_+_, _-_}
 use borrow.Author.Tests.{not-true, not-false}
 use borrow.Author.Needs.{needs}
-use Rattle.sheet.specs.All.{allBelow}
 use Rattle.sheet.specs.Sheet.{countOf}
-use Rattle.sheet.proofs.All.{all-more, loop-fails, loop-ends}
 use Rattle.sheet.proofs.Sheet.{count-limit}
-use Rattle.sheet_rules.specs.Bindings.{firstBinding}
 use Rattle.sheet_rules.specs.Shape.{bindingShape, bindingsShape}
-use Rattle.sheet_rules.proofs.Bindings.{Walk, walk-begins, walk-inside, walk-on, walk-ends, behind-near}
+use Rattle.sheet_rules.proofs.Bindings.{Walked, walked-begins, walked-on, walked-fails, walked-ends, behind-near}
 use Rattle.checker_bindings.proofs.bindings_fit.Statement.{statement}
 use Rattle.checker_bindings.proofs.bindings_fit.Tie as tie
 
-abbrev fits : List ℕ → ℕ → Bool
-fits s i = bindingShape s (firstBinding s i)
-
 abbrev Inv-loop : tie.InvT-loop
-Inv-loop sheet directory count k₀ k = (count ≡ countOf sheet 7) × ((i : ℕ) × Walk sheet k i × (allBelow i (fits sheet) ≡ true))
+Inv-loop sheet directory count k₀ k = (count ≡ countOf sheet 7) × Walked sheet (bindingShape sheet) k
 
 abbrev μ-loop : tie.MeasureT-loop
 μ-loop sheet directory count k₀ k = count + 1 - k
@@ -28,8 +20,7 @@ count-in-requires : tie.Need-count-in-requires Inv-loop μ-loop
 count-in-requires c κs = search needs
 
 loop-holds : tie.Need-loop-holds Inv-loop μ-loop
-unfolding allBelow
-loop-holds c = (c .count-in .ensures _ (c .before .before .pre), (0, walk-begins _, refl))
+loop-holds c = (c .count-in .ensures _ (c .before .before .pre), walked-begins _ _)
 
 binding-fits-requires : tie.Need-binding-fits-requires Inv-loop μ-loop
 binding-fits-requires c κs = let l = c .loop-test .taken in (c .before .before .before .before .pre, omega (arith, c .before .loop .inv .0, count-limit (c .before .before .before .before .args .sheet .now) 7))
@@ -37,10 +28,9 @@ binding-fits-requires c κs = let l = c .loop-test .taken in (c .before .before 
 returns : tie.Need-returns Inv-loop μ-loop
 unfolding bindingsShape
 returns c =
-    let x = c .before .before .before .loop .inv in
     let l = c .before .before .loop-test .taken in
-    let e = x .0 in
-    loop-fails _ _ (x .1 .0) _ refl (walk-inside _ _ _ (x .1 .1) (omega arith)) (ap (bindingShape _) (sym (x .1 .1 .at)) ∙ sym (c .before .binding-fits .ensures) ∙ not-true _ (c .if1 .taken))
+    let e = c .before .before .before .loop .inv .0 in
+    walked-fails _ _ _ (c .before .before .before .loop .inv .1) (omega arith) (sym (c .before .binding-fits .ensures) ∙ not-true _ (c .if1 .taken))
 
 record-behind-requires : tie.Need-record-behind-requires Inv-loop μ-loop
 record-behind-requires c κs = let l = c .before .before .loop-test .taken in (c .before .before .before .before .before .before .pre, omega (arith, c .before .before .before .loop .inv .0, count-limit (c .before .before .before .before .before .before .args .sheet .now) 7))
@@ -50,19 +40,16 @@ loop-less c = let l = c .before .before .before .loop-test .taken in omega (arit
 
 loop-again : tie.Need-loop-again Inv-loop μ-loop
 loop-again c =
-    let x = c .before .before .before .before .loop .inv in
     let l = c .before .before .before .loop-test .taken in
-    let e = x .0 in
-    (e, (x .1 .0 + 1, walk-on _ _ _ (x .1 .1) _ (c .record-behind .ensures .0) (omega arith), all-more (x .1 .0) _ (x .1 .2) (ap (bindingShape _) (sym (x .1 .1 .at)) ∙ sym (c .before .before .binding-fits .ensures) ∙ not-false _ (c .before .if1 .left))))
+    let e = c .before .before .before .before .loop .inv .0 in
+    (e, walked-on _ _ _ (c .before .before .before .before .loop .inv .1) _ (c .record-behind .ensures .0) (omega arith) (sym (c .before .before .binding-fits .ensures) ∙ not-false _ (c .before .if1 .left)))
 
 returns-2 : tie.Need-returns-2 Inv-loop μ-loop
 unfolding bindingsShape
 returns-2 c =
-    let x = c .before .loop .inv in
     let l = c .loop-test .left in
-    let e = x .0 in
-    let n = walk-ends _ _ _ (x .1 .1) (omega arith) in
-    loop-ends _ _ (x .1 .0) _ refl (omega arith) (omega arith) (x .1 .2)
+    let e = c .before .loop .inv .0 in
+    walked-ends _ _ _ (c .before .loop .inv .1) (omega arith)
 
 pub bindings-fit-spec : {M : Type 1} → statement M
 bindings-fit-spec =
