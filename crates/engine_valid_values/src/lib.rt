@@ -6,7 +6,7 @@ ghost use lib.ListN.{length};
 ghost use Rattle.sheet.specs.Sheet.{directoryOf};
 ghost use Rattle.sheet.specs.All.{_and_};
 ghost use Rattle.sheet_rules.specs.Fields.{componentsOf, externalsOf, portsOf, membersOf};
-ghost use Rattle.machine.specs.Values.{isBelow, inType, isBound, bindingOf, chartOf};
+ghost use Rattle.machine.specs.Values.{isBelow, inType, isBound, chartOf};
 ghost use Rattle.machine.specs.State.{wordOf};
 
 // ---- numbers of the sheet
@@ -52,10 +52,11 @@ pub fn is_bound(sheet: &[u8], directory: &[usize; 16], e: usize) -> bool
     e < components(sheet, directory)
 }
 
-// Found by a search over the elements before it; a run of bodies has a table instead.
-fn binding_of(sheet: &[u8], directory: &[usize; 16], e: usize) -> Found
+// The chart of an element. Its binding is found by a search over the elements before it; a run of bodies
+// has a table instead.
+pub fn chart_of(sheet: &[u8], directory: &[usize; 16], e: usize) -> Found
     requires { ⌜ now directory ≡ directoryOf (now sheet) ⌝ }
-    ensures { λ f. ⌜ f ≡ bindingOf (now (sheet .entry)) e ⌝ }
+    ensures { λ f. ⌜ f ≡ chartOf (now (sheet .entry)) e ⌝ }
 {
     let first = externals(sheet, directory);
     if e < first {
@@ -65,17 +66,7 @@ fn binding_of(sheet: &[u8], directory: &[usize; 16], e: usize) -> Found
         return Found::Absent;
     }
     let k = sheet_bindings::first_binding(sheet, directory, e - first);
-    sheet_reader::read(sheet, directory, 7, k)
-}
-
-pub fn chart_of(sheet: &[u8], directory: &[usize; 16], e: usize) -> Found
-    requires { ⌜ now directory ≡ directoryOf (now sheet) ⌝ }
-    ensures { λ f. ⌜ f ≡ chartOf (now (sheet .entry)) e ⌝ }
-{
-    let Found::Present(b) = binding_of(sheet, directory, e) else {
-        return Found::Absent;
-    };
-    sheet_reader::read(sheet, directory, 4, b.f0 as usize)
+    sheet_bindings::chart_bound(sheet, directory, k)
 }
 
 // ---- values

@@ -23,7 +23,7 @@ use Rattle.machine.specs.Values.{isBound, bindingAt, bindingOf, chartOf}
 use Rattle.machine.specs.Play.{bodyFrom, bodyWhere, isInitial, hasPanic}
 use Rattle.sheet_rules.specs.Check.{checkOf}
 use Rattle.sheet_rules.proofs.Fields.{holds-present}
-use Rattle.sheet_rules.proofs.Bindings.{bound-chart, first-most}
+use Rattle.sheet_rules.proofs.Bindings.{first-most}
 use Rattle.machine_passed.specs.Places.{InChart, Element}
 use Rattle.machine_passed.proofs.Records.{held, one-record, elements-rest, components-limit, binding-shape, binding-static, chart-static, trees-shape}
 
@@ -162,9 +162,6 @@ module _ (s : List ℕ) (ok : checkOf s ≡ Passed) where
       (p .0, q .0, record { bound = h; binding = p .1; chart = q .1 })
 
   module _ (e : ℕ) (b c : Record) (x : Element s e b c) where
-    element-bound-to : chartBound s (bindingAt s e) ≡ Present c
-    element-bound-to = bound-chart s (bindingAt s e) b (x .binding) ∙ x .chart
-
     -- an element's constants
     pub element-constants : constantsShape s (bindingAt s e) c ≡ true
     unfolding bindingShape recordsShape bindingAt
@@ -172,7 +169,7 @@ module _ (s : List ℕ) (ok : checkOf s ≡ Passed) where
 
     pub element-types : constantsStatic s (bindingAt s e) c ≡ true
     unfolding bindingStatic bindingAt
-    element-types = sym (holds-present _ c _ element-bound-to) ∙ binding-static s ok (e - externalsOf s) (bound-number e (x .bound))
+    element-types = sym (holds-present _ c _ (chart-of s e (x .bound) ∙ element-chart s e b c x)) ∙ binding-static s ok (e - externalsOf s) (bound-number e (x .bound))
 
     -- the numbers of binding records are small
     pub element-low : bindingAt s e ≤ 128

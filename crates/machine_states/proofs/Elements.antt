@@ -15,10 +15,9 @@ use Rattle.sheet_rules.specs.Indices.{cellsTaken, cellsBefore}
 use Rattle.sheet_rules.specs.Shape.{cellsBound, cellsOf}
 use Rattle.machine.specs.Values.{isBound, bindingAt, chartOf, firstCell}
 use Rattle.sheet_rules.proofs.Fields.{number-present}
-use Rattle.sheet_rules.proofs.Bindings.{bound-chart}
 use Rattle.sheet_rules.proofs.Sums.{sum-rises}
 use Rattle.machine_passed.proofs.Records.{one-record}
-use Rattle.machine_passed.proofs.Charts.{chart-element}
+use Rattle.machine_passed.proofs.Charts.{chart-of, chart-element}
 
 pub cells-none : (s : List ℕ) (c : Record) → cellsBefore s c 0 ≡ 0
 unfolding cellsBefore sumBelow
@@ -39,7 +38,7 @@ module _ (s : List ℕ) (e : ℕ) (c : Record) (p : chartOf s e ≡ Present c) w
 
   pub element-count : cellsBound s (e - externalsOf s) ≡ cellsBefore s c (chartVariables c .count)
   unfolding cellsBound bindingAt
-  element-count = let x = chart-element s e c p in number-present _ c _ (bound-chart s (bindingAt s e) (x .0) (x .1 .binding) ∙ x .1 .chart)
+  element-count = number-present _ c _ (chart-of s e element-bound ∙ p)
 
   pub element-from : externalsOf s ≤ e
   unfolding isBound
