@@ -1,15 +1,15 @@
 #!/usr/bin/env python3
-"""Writes calls on sheets with array variables to standard output, and the answers to the file that is named.
+"""Writes calls on sheets with array variables, and the answers.
 
-  array_calls.py ANSWERS > CALLS
+  python3 scripts/array_calls.py ANSWERS > CALLS
 
 Calls and answers have the form of the program conformance. Each answer stands beside its call as the paper has it; no
 program works it out. Sheets are written in the words of yard.py, and a fault that these words can't say is put into the
 records afterwards.
 """
 import struct
-import sys
 
+import usage
 from yard import Sheet, array, initial, on, on_inner, panic, procedure
 
 CALLS, ANSWERS = [], []
@@ -103,10 +103,13 @@ def places(count):
     return 8 + 8 * count + 8 * 128
 
 
-def write():
-    """The calls to standard output, the answers to the file that is named."""
-    sys.stdout.buffer.write(b"".join(CALLS))
-    with open(sys.argv[1], "w") as answers:
+def write(use, *parts):
+    """The calls of these parts to standard output, the answers to the file that is named."""
+    calls, answers = usage.calls_and_answers(use)
+    for part in parts:
+        part()
+    calls.write(b"".join(CALLS))
+    with answers:
         answers.writelines(answer + "\n" for answer in ANSWERS)
 
 
@@ -370,10 +373,8 @@ def slices():
 
 
 def main():
-    for part in (checked_indices, checked_elements, checked_declarations, checked_operators, checked_cells,
-                 started, played, played_by_type, valid_states, slices):
-        part()
-    write()
+    write(__doc__, checked_indices, checked_elements, checked_declarations, checked_operators, checked_cells,
+          started, played, played_by_type, valid_states, slices)
 
 
 if __name__ == "__main__":

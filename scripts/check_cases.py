@@ -1,12 +1,13 @@
 #!/usr/bin/env python3
-"""Writes calls of check on sheets of extreme shape to standard output, and the answers to the file that is named.
+"""Writes calls of check on sheets of extreme shape and on nodes used once, never and twice, and the answers.
 
-  check_cases.py ANSWERS > CALLS
+  python3 scripts/check_cases.py ANSWERS > CALLS
 
 A call is three parts: kind 0 and the sheet's length as 32-bit little-endian numbers, and the sheet.
 """
 import struct
-import sys
+
+import usage
 
 SKIP = [32]
 
@@ -77,7 +78,7 @@ def uses():
     # nodes that hang in a body and below a node that nothing uses, above or below the body's root
     yield two_charts([[43, 4, 3]]), 1
     yield two_charts([[43, 4, 3]], [("root", 2, 8), ("node", 5, [43, 4, 3])]), 1
-    # the call is a root of the first chart too, where it has no operand; of that chart only, so that its operand is unused
+    # the call is a root of the first chart too, where it has no operand; of that chart only, its operand being unused
     yield two_charts((), [("root", 0, 3), ("node", 0, SKIP)]), 1
     yield two_charts([[40, 0]], [("root", 0, 3), ("node", 5, [43, 4, 0])]), 1
     # one constant for two parameters; a constant that is a root, an operand, or used by none
@@ -127,9 +128,10 @@ def cases():
 
 
 def main():
-    with open(sys.argv[1], "w") as answers:
+    calls, answers = usage.calls_and_answers(__doc__)
+    with answers:
         for blob, answer in cases():
-            sys.stdout.buffer.write(struct.pack("<II", 0, len(blob)) + blob)
+            calls.write(struct.pack("<II", 0, len(blob)) + blob)
             answers.write("%d\n" % answer)
 
 

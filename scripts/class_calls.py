@@ -1,7 +1,7 @@
 #!/usr/bin/env python3
-"""Writes calls on states with many telegrams of a class to standard output, and the answers to the file that is named.
+"""Writes calls on states with many telegrams of a class, and the answers.
 
-  class_calls.py ANSWERS > CALLS
+  python3 scripts/class_calls.py ANSWERS > CALLS
 
 Calls and answers have the form of the program conformance. Each answer stands beside its call as the paper has it; no
 program works it out.
@@ -9,7 +9,8 @@ program works it out.
 from array_calls import SLICE, event, places, run, start, state, write
 from yard import Sheet, initial, on, on_inner, panic
 
-# Components 0 to 7 are external, from Log and Inf on; E1 is 8, E2 is 9. Name 0 is Go, 1 is Tick. Clocks are E1's cell 0 and E2's.
+# Components 0 to 7 are external, from Log and Inf on; E1 is 8, E2 is 9. Name 0 is Go, 1 is Tick. Clocks are E1's cell 0
+# and E2's.
 E1, E2 = 8, 9
 STOPPED, DUE = [0], [1, 1, 1, 1]
 DUE_AGAIN, WAITS = [1, 0, 3, 1], [1, 2, 3, 1]
@@ -57,7 +58,7 @@ def with_clocks(waiting, first=STOPPED, second=STOPPED):
 
 
 def spread(count, left_out=()):
-    """So many telegrams, at most 16 of a class, none of the classes that are left out: round and round from all ends."""
+    """So many telegrams, at most 16 of a class, none of the classes left out: round and round from all ends."""
     classes = [sent(a, b) for b in (E1, E2) for a in range(8)] + [sent(E1, 2), sent(E2, 3), tick(E1), tick(E2)]
     classes = [t for t in classes if t not in left_out]
     return [classes[i % len(classes)] for i in range(count)]
@@ -99,7 +100,8 @@ def deliveries():
     # one from elsewhere makes no room in the class
     event(12, 3, echo, with_clocks(own + [sent(0, E1)]), deliver(0, E1))
     # to oneself on a port is external, and no class with internal ones
-    event(0, 3, echo, with_clocks([tick(E1)] * 16 + [sent(0, E1)]), deliver(0, E1), with_clocks([tick(E1)] * 16 + [sent(E1, E1)]))
+    event(0, 3, echo, with_clocks([tick(E1)] * 16 + [sent(0, E1)]), deliver(0, E1),
+          with_clocks([tick(E1)] * 16 + [sent(E1, E1)]))
     twice = desk([("send", "self", "log", "Go"), ("send", "self", "log", "Go")])
     event(12, 7, twice, with_clocks([sent(E1, E1)] * 16), deliver(E1, E1))
     event(0, 7, twice, with_clocks([sent(E1, E1)] * 15), deliver(E1, E1), with_clocks([sent(E1, E1)] * 16))
@@ -133,13 +135,14 @@ def states():
         for ev in outside(7, E2), malformed:
             event(3, 0, y, with_clocks(waiting), ev)
     # sixteen of each are no more than may wait
-    for waiting in ([sent(0, E1)] * 16 + others, others + [sent(0, E1)] * 16, [sent(E1, E1)] * 16 + [tick(E1)] * 16, spread(128)):
+    for waiting in ([sent(0, E1)] * 16 + others, others + [sent(0, E1)] * 16,
+                    [sent(E1, E1)] * 16 + [tick(E1)] * 16, spread(128)):
         event(4, 0, y, with_clocks(waiting), malformed)
         event(5, 0, y, with_clocks(waiting), deliver(E2, 6))
 
 
 def starts():
-    """An initial body sends in a loop, the seventeenth time in vain. A round has twelve steps, four of them for its test."""
+    """An initial body sends in a loop, the seventeenth time in vain. A round has twelve steps, four for its test."""
     def count_to(limit):
         return "while", ("<", "n", limit), [("send", "Log", "log", "Go"), ("set", "n", ("+", "n", 1))]
 
@@ -158,9 +161,7 @@ def runs():
 
 
 def main():
-    for part in outsides, full_lists, deliveries, slices, states, starts, runs:
-        part()
-    write()
+    write(__doc__, outsides, full_lists, deliveries, slices, states, starts, runs)
 
 
 if __name__ == "__main__":

@@ -1,12 +1,15 @@
 #!/usr/bin/env python3
 """Plays an input of `play` as a desk does: writes one event, waits for its line, then writes the next.
 
-  dialogue.py PROGRAM INPUT      prints the listing, and fails if a line takes longer than five seconds
+  python3 scripts/dialogue.py PROGRAM INPUT
+
+The listing is printed. A line that takes longer than five seconds ends it.
 """
 import select
-import struct
 import subprocess
 import sys
+
+import usage
 
 EVENT = 36
 
@@ -19,9 +22,14 @@ def line(desk):
 
 
 def main():
-    blob = open(sys.argv[2], "rb").read()
-    size = 4 + struct.unpack("<I", blob[:4])[0]
-    desk = subprocess.Popen([sys.argv[1]], stdin=subprocess.PIPE, stdout=subprocess.PIPE, bufsize=0)
+    program, name = usage.arguments(__doc__, "PROGRAM INPUT")
+    try:
+        with open(name, "rb") as file:
+            blob = file.read()
+        desk = subprocess.Popen([program], stdin=subprocess.PIPE, stdout=subprocess.PIPE, bufsize=0)
+    except OSError as fault:
+        usage.wrong(__doc__, fault)
+    size = 4 + int.from_bytes(blob[:4], "little")
     desk.stdin.write(blob[:size])
     sys.stdout.buffer.write(line(desk))
     for at in range(size, len(blob) - EVENT + 1, EVENT):

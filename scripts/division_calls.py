@@ -1,7 +1,7 @@
 #!/usr/bin/env python3
-"""Writes calls on sheets that divide to standard output, and the answers to the file that is named.
+"""Writes calls on sheets that divide, and the answers.
 
-  division_calls.py ANSWERS > CALLS
+  python3 scripts/division_calls.py ANSWERS > CALLS
 
 Calls and answers have the form of the program conformance. Each answer stands beside its call as the paper has it; no
 program works it out.
@@ -61,9 +61,7 @@ def leftward():
 
 
 def main():
-    for part in divisions, refused, leftward:
-        part()
-    write()
+    write(__doc__, divisions, refused, leftward)
 
 
 if __name__ == "__main__":

@@ -1,7 +1,7 @@
 #!/usr/bin/env python3
-"""Writes calls on sheets with a step limit of 0 and with others to standard output, and the answers to the file that is named.
+"""Writes calls on sheets with a step limit of 0 and with others, and the answers.
 
-  limit_calls.py ANSWERS > CALLS
+  python3 scripts/limit_calls.py ANSWERS > CALLS
 
 Calls and answers have the form of the program conformance. Each answer stands beside its call as the paper has it; no
 program works it out.
@@ -87,9 +87,7 @@ def runs():
 
 
 def main():
-    for part in limits, for_each, turned_down, runs:
-        part()
-    write()
+    write(__doc__, limits, for_each, turned_down, runs)
 
 
 if __name__ == "__main__":

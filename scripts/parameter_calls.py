@@ -1,7 +1,7 @@
 #!/usr/bin/env python3
-"""Writes calls on sheets whose charts have up to 15 parameters to standard output, and the answers to the file that is named.
+"""Writes calls on sheets whose charts have up to 15 parameters, and the answers.
 
-  parameter_calls.py ANSWERS > CALLS
+  python3 scripts/parameter_calls.py ANSWERS > CALLS
 
 Calls and answers have the form of the program conformance. Each answer stands beside its call as the paper has it; no
 program works it out.
@@ -12,9 +12,11 @@ from yard import SECOND_RECORD, Sheet, initial, on, panic
 OUTSIDE = [1, 0, 2, 0, 0, 0, 0, 0, 0]
 
 
-def yard(parameters, do="skip", reacting="skip", elements=("E1",), constants=None, of="Int", variable="Int", spare=()):
+def yard(parameters, do="skip", reacting="skip", elements=("E1",), constants=None, of="Int", variable="Int",
+         spare=()):
     """Elements of a chart with so many parameters p0, p1, .. and a variable v; those in `spare` are bound to a chart
-    without. Element i has the constants 100 i + 0, 100 i + 1, .., unless they are given; there is no room for a 15th."""
+    without. Element i has the constants 100 i + 0, 100 i + 1, .., unless they are given; there is no room for a
+    15th."""
     y = Sheet(external=["Log", "Inf"], elements=[*elements, *spare], ports=["log", "inf"])
     y.telegram("Go")
     types = {"p%d" % j: of for j in range(parameters)}
@@ -50,8 +52,8 @@ def values():
     start(0, 5, y, places(2), state([8, 108]))
     # self is the element bound, in the second record too
     who = ["Log"] * 7 + ["self"]
-    start(0, 4, yard(8, do=read(7), elements=("E1", "E2"), constants=who, of="Component", variable="Component"), places(2),
-          state([2, 3]))
+    y = yard(8, do=read(7), elements=("E1", "E2"), constants=who, of="Component", variable="Component")
+    start(0, 4, y, places(2), state([2, 3]))
 
 
 def changed(parameters, number, field, value, **more):
@@ -105,9 +107,7 @@ def runs():
 
 
 def main():
-    for part in numbers, values, records, constants, runs:
-        part()
-    write()
+    write(__doc__, numbers, values, records, constants, runs)
 
 
 if __name__ == "__main__":

@@ -1,9 +1,12 @@
 #!/usr/bin/env python3
-"""Writes inputs of `play` that end early, a file each, into the folder that is named: play_ends.py FOLDER"""
+"""Writes inputs of `play` that end early, a file each, into the folder that is named.
+
+  python3 scripts/play_ends.py FOLDER
+"""
 import pathlib
 import struct
-import sys
 
+import usage
 from play_example import EVENTS, example, played
 
 WHOLE = example()
@@ -19,7 +22,15 @@ INPUTS = {
     "start_refused": played(example(period=0, arms_at_start=True), EVENTS),
 }
 
-if __name__ == "__main__":
-    folder = pathlib.Path(sys.argv[1])
+
+def main():
+    [name] = usage.arguments(__doc__, "FOLDER")
+    folder = pathlib.Path(name)
+    if not folder.is_dir():
+        usage.wrong(__doc__, "there is no folder " + name)
     for name, blob in INPUTS.items():
         (folder / name).write_bytes(blob)
+
+
+if __name__ == "__main__":
+    main()

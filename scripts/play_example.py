@@ -1,8 +1,11 @@
 #!/usr/bin/env python3
-"""Writes the paper's example of a play, the sheet and its events, to standard output."""
-import struct
-import sys
+"""Writes the paper's example of a play, the sheet's length, the sheet and its events.
 
+  python3 scripts/play_example.py > example.in
+"""
+import struct
+
+import usage
 from check_cases import SKIP, sheet
 
 
@@ -48,5 +51,10 @@ def played(blob, events):
     return struct.pack("<I", len(blob)) + blob + words(events)
 
 
+def main():
+    usage.arguments(__doc__, "")
+    usage.binary(__doc__).write(played(example(), EVENTS))
+
+
 if __name__ == "__main__":
-    sys.stdout.buffer.write(played(example(), EVENTS))
+    main()

@@ -1,16 +1,17 @@
 #!/usr/bin/env python3
-"""Writes a small yard and a run on it: the standard input of the program play.
+"""Writes a small yard and a run on it.
 
-  yard.py > yard.in              the sheet's length as 32-bit number, the sheet, the events
-  yard.py --sheet > yard.sheet   the sheet's bytes only
-  yard.py --call > yard.call     the run as a call of the program conformance: kind 3, the sheet, the number of events
+  python3 scripts/yard.py > yard.in              an input of play: the sheet's length, the sheet, the events
+  python3 scripts/yard.py --sheet > yard.sheet   the sheet's bytes only
+  python3 scripts/yard.py --call > yard.call     the run as a call of conformance: kind 3, the sheet, number of events
 
 docs/YARD.md tells what the yard has and what happens in the run. The first half of this file turns names and nested
 tuples into records; the yard and its run are the second half.
 """
 import struct
-import sys
 from collections import namedtuple
+
+import usage
 
 # What stands for a node: True, False or a number; a name (variable, parameter, member, component, port, self, skip); a
 # list of statements in a row; or a tuple that begins with one of these words or of those in `record`.
@@ -394,15 +395,17 @@ def run(y):
 
 
 def main():
+    asked = usage.arguments(__doc__, "", "--sheet", "--call")
+    out = usage.binary(__doc__)
     y = mill_lane()
     sheet, events = y.bytes(), run(y)
     with_length = struct.pack("<I", len(sheet)) + sheet
-    if sys.argv[1:] == ["--sheet"]:
-        sys.stdout.buffer.write(sheet)
-    elif sys.argv[1:] == ["--call"]:
-        sys.stdout.buffer.write(struct.pack("<I", 3) + with_length + struct.pack("<I", len(events)) + b"".join(events))
+    if asked == ["--sheet"]:
+        out.write(sheet)
+    elif asked == ["--call"]:
+        out.write(struct.pack("<I", 3) + with_length + struct.pack("<I", len(events)) + b"".join(events))
     else:
-        sys.stdout.buffer.write(with_length + b"".join(events))
+        out.write(with_length + b"".join(events))
 
 
 if __name__ == "__main__":
