@@ -1,7 +1,7 @@
--- On a sheet none of whose charts has more than seven parameters the machine gives what it gave.
+-- On a sheet none of whose charts has more than seven parameters each definition that changed with M-105 gives what its text of before gives.
 use Prim.Native.Nat.{ℕ, zero, suc, _+_, _-_, _<_}
 use mathlib.Core.Path.{_≡_, refl, ap, _∙_}
-use mathlib.Core.List.{List, []}
+use mathlib.Core.List.{List}
 use mathlib.Core.Bool.{Bool, true, false}
 use native.Mathlib.Omega.{arith}
 use lib.Dec.{ltb}
@@ -11,7 +11,7 @@ use Rattle.sheet.specs.declared.Record.{Record}
 use Rattle.sheet.specs.declared.Found.{Found}
 use Rattle.sheet.specs.declared.Found.the-variants.{Present, Absent}
 use Rattle.sheet.specs.Names
-use Rattle.sheet.specs.Names.{charts, nodes, bindings, chartParameters, root, boundChart, operator, isLiteral}
+use Rattle.sheet.specs.Names.{charts, nodes, bindings, chartParameters, boundChart, operator, isLiteral}
 use Rattle.sheet.specs.Sheet.{recordOf}
 use Rattle.sheet.proofs.All.{and-first, true-false}
 use Rattle.sheet_rules.specs.Fields.{isField, fieldOf, externalsOf}
@@ -21,14 +21,12 @@ use Rattle.sheet_rules.proofs.Fields.{holds-present, holds-absent}
 use Rattle.sheet_rules.proofs.Bindings.{constant-first}
 use Rattle.sheet_rules.proofs.Sums.{sum-same}
 use Rattle.sheet_seven.specs.Kept.{upToSeven}
-use Rattle.sheet_seven.proofs.Kept.{kept as sheet-kept, few}
+use Rattle.sheet_seven.proofs.Kept.{sheet-kept, few}
 use Rattle.machine.specs.declared.Out.{Out}
 use Rattle.machine.specs.Values.{isBound, bindingAt, bindingOf, chartOf, firstCell}
 use Rattle.machine.specs.Eval.{Context, needs, onRecord, literalValue, within, ofType, parameterVal, readAs, readVal}
-use Rattle.machine.specs.Run.{World, withRecord, provided, localsThere, localsOf, runOf}
-use Rattle.machine.specs.Play.{ranBodyWithin}
 use Rattle.machine_seven.specs.Before as before
-use Rattle.machine_seven.specs.Kept.{Kept}
+use Rattle.machine_seven.specs.Kept.{Kept, EveryStored}
 
 -- what a test needs is worked out only where it holds
 needs-same : (b : Bool) (p q : Out) → (b ≡ true → p ≡ q) → needs b p ≡ needs b q
@@ -66,26 +64,6 @@ module _ (s : List ℕ) (h : upToSeven s ≡ true) where
       go true q = q
       go false q = absurd (true-false (holds-present _ b (λ r. true) q) (holds-absent _ (λ r. true) refl))
 
-  -- without a binding there is no chart
-  asked : (e : ℕ) (st : List ℤ) (K : Record → World) → withRecord (chartOf s e) st [] K ≡ withRecord (bindingOf s e) st [] (λ b. withRecord (chartOf s e) st [] K)
-  unfolding withRecord chartOf
-  asked e st K = go (bindingOf s e) refl
-    where
-      go : (f : Found) → bindingOf s e ≡ f → withRecord (chartOf s e) st [] K ≡ withRecord f st [] (λ b. withRecord (chartOf s e) st [] K)
-      go (Present b) p = refl
-      go Absent p = rw (chartOf, p) refl
-
-  kept-ran : (limit e : ℕ) (f : Found) (zs st : List ℤ) → ranBodyWithin s limit e f zs st ≡ before.ranBodyWithin s limit e f zs st
-  unfolding ranBodyWithin before.ranBodyWithin
-  kept-ran limit e f zs st =
-      ap (λ (k : ℕ). withRecord (chartOf s e) st [] (run k)) (at e)
-      ∙ asked e st (run (e - externalsOf s))
-      ∙ ap (λ (g : Found). withRecord (bindingOf s e) st [] (λ b. withRecord g st [] (run (e - externalsOf s)))) (kept-chart e)
-      ∙ ap (λ (g : Found). withRecord g st [] (λ b. withRecord (before.chartOf s e) st [] (run (e - externalsOf s)))) (kept-binding e)
-    where
-      run : ℕ → Record → World
-      run k c = withRecord f st [] (λ d. provided (localsThere s d) st [] (runOf s 0 (record { element = e; chart = c; binding = k; body = d }) (root d) limit st (localsOf s d zs)))
-
   module _ (x : Context) (b : Record) (k : ℕ) (chart : recordOf s charts k ≡ Present (x .chart)) (bound : recordOf s bindings (x .binding) ≡ Present b) where
     kept-parameter : (n t l : ℕ) → n < chartParameters (x .chart) .count → parameterVal s x n t l ≡ before.parameterVal s x b n t l
     unfolding parameterVal before.parameterVal onRecord
@@ -104,5 +82,8 @@ module _ (s : List ℕ) (h : upToSeven s ≡ true) where
     unfolding readVal before.readVal
     kept-reading st lo place n l = needs-same _ _ _ (λ m. record-same _ _ _ (λ r. kept-as st lo place n _ l (and-first _ _ m)))
 
-  pub kept : Kept s
-  kept = record { binding = kept-binding; chart = kept-chart; first = kept-first; ran = kept-ran; held = kept-held; reading = λ x b k chart bound. kept-reading x b k chart bound }
+  all-kept : Kept s
+  all-kept = record { sheet = sheet-kept s h; binding = kept-binding; chart = kept-chart; first = kept-first; held = kept-held; reading = λ x b k chart bound. kept-reading x b k chart bound }
+
+pub every-stored : EveryStored
+every-stored = all-kept

@@ -1,6 +1,7 @@
--- What changed of the machine with M-105, as it was: record i of section 7 bound element i, and a run held its element's binding record. What isn't here stayed.
+-- The machine's definitions that changed with M-105 and that a stored sheet can be compared by, with the text that they had before: record i of section 7 bound element i, and a run held its element's binding record.
+-- They stand over today's definitions of everything else (values, words of the state, types ..), so a comparison with them says nothing about those.
 use Prim.Native.Nat.{ℕ, _+_, _-_}
-use mathlib.Core.List.{List, []}
+use mathlib.Core.List.{List}
 use mathlib.Core.Bool.{true, false}
 use lib.Dec.{ltb, eqb}
 use lib.IntN.{ℤ}
@@ -9,7 +10,7 @@ use Rattle.sheet.specs.declared.Found.{Found}
 use Rattle.sheet.specs.declared.Found.the-variants.{Present, Absent}
 use Rattle.sheet.specs.All.{_and_}
 use Rattle.sheet.specs.Names
-use Rattle.sheet.specs.Names.{charts, nodes, bindings, root, boundChart, operator, isLiteral}
+use Rattle.sheet.specs.Names.{charts, nodes, bindings, boundChart, operator, isLiteral}
 use Rattle.sheet.specs.Sheet.{recordOf}
 use Rattle.sheet_rules.specs.Fields.{isField, sumBelow, externalsOf}
 use Rattle.sheet_rules.specs.Indices.{indexAt, isPlain}
@@ -19,7 +20,6 @@ use Rattle.sheet_seven.specs.Before.{constantOf, cellsBound}
 use Rattle.machine.specs.declared.Out.{Out}
 use Rattle.machine.specs.Values.{isBound}
 use Rattle.machine.specs.State.{wordOf}
-use Rattle.machine.specs.Run.{World, withRecord, provided, localsThere, localsOf, runOf}
 use Rattle.machine.specs.Eval.{Context, needs, onRecord, val, literalValue, within, ofType, onType, bodyWords, variableAtCell}
 
 unfoldable pub bindingOf : List ℕ → ℕ → Found
@@ -30,15 +30,6 @@ chartOf s e = elim (bindingOf s e) [ Present b ↦ recordOf s charts (boundChart
 
 unfoldable pub firstCell : List ℕ → ℕ → ℕ
 firstCell s e = sumBelow (e - externalsOf s) (cellsBound s)
-
--- a run asked for its element's binding before its chart; the record that it held is the one of that number
-unfoldable pub ranBodyWithin : List ℕ → ℕ → ℕ → Found → List ℤ → List ℤ → World
-ranBodyWithin s limit e f zs st =
-    withRecord (bindingOf s e) st [] (λ b.
-    withRecord (chartOf s e) st [] (λ c.
-    withRecord f st [] (λ d.
-    provided (localsThere s d) st []
-    (runOf s 0 (record { element = e; chart = c; binding = e - externalsOf s; body = d }) (root d) limit st (localsOf s d zs)))))
 
 -- what reading gives, where b is the binding record that the run held
 module _ (s : List ℕ) (x : Context) (b : Record) where

@@ -1,4 +1,4 @@
--- On a sheet none of whose charts has more than seven parameters every definition gives what it gave.
+-- On a sheet none of whose charts has more than seven parameters each definition that changed with M-105 gives what its text of before gives.
 use Prim.Native.Nat.{ℕ, zero, suc, _+_, _-_, _≤_, _<_}
 use mathlib.Core.Path.{_≡_, refl, sym, ap, _∙_}
 use mathlib.Core.List.{List}
@@ -30,7 +30,7 @@ use Rattle.sheet_rules.proofs.Bindings.{one-record, bound-chart, chart-bound, b
 use Rattle.sheet_rules.proofs.Shape.{section-each, section-bindings, static-each, static-bindings}
 use Rattle.sheet_rules.proofs.Sums.{sum-same}
 use Rattle.sheet_seven.specs.Before as before
-use Rattle.sheet_seven.specs.Kept.{upToSeven, Kept}
+use Rattle.sheet_seven.specs.Kept.{upToSeven, SheetKept}
 
 and-true-last : (b : Bool) → b and true ≡ b
 unfolding _and_
@@ -222,8 +222,8 @@ module _ (s : List ℕ) (h : upToSeven s ≡ true) where
   unfolding checkOf before.checkOf
   kept-check = ap (λ (a : Bool). elim a as (λ a. Checked) [ true ↦ elim (static s) as (λ b. Checked) [ true ↦ Passed | false ↦ Static ] | false ↦ Shape ]) kept-whole ∙ ap (λ (b : Bool). elim (before.shape s) as (λ a. Checked) [ true ↦ elim b as (λ b. Checked) [ true ↦ Passed | false ↦ Static ] | false ↦ Shape ]) kept-ruled
 
-  pub kept : Kept s
-  kept = record {
+  pub sheet-kept : SheetKept s
+  sheet-kept = record {
     first = kept-first;
     elements = kept-elements;
     chart = kept-chart;

@@ -1,4 +1,5 @@
--- Shape, uses and static rules as they were until M-105, word for word: a chart had up to seven parameters, and record i of section 7 bound element i. What isn't here stayed. The law about stored sheets is about these.
+-- The definitions of shape, uses, static rules and check that changed with M-105, by the text that they had before: a chart had up to seven parameters, and record i of section 7 bound element i.
+-- They stand over today's definitions of everything else (the shape of a head, a body or a tree of nodes, the static rule of a chart or of a constant ..), so a comparison with them says nothing about those.
 use Prim.Native.Nat.{ℕ, _+_}
 use mathlib.Core.List.{List, [], _∷_}
 use mathlib.Core.Bool.{Bool, true, false}
@@ -12,7 +13,7 @@ use Rattle.sheet_rules.specs.declared.Checked.{Checked}
 use Rattle.sheet_rules.specs.declared.Checked.the-variants.{Passed, Shape, Static}
 use Rattle.sheet_rules.specs.Fields.{fieldOf, zeroFrom, holds, numberOr0, sumBelow, countBelow, componentsOf, externalsOf, elementsOf, typeAt, inSection}
 use Rattle.sheet_rules.specs.Indices.{cellsBefore}
-use Rattle.sheet_rules.specs.Shape.{headShape, enumeratedShape, declarationShape, nameShape, bodiesUpTo, bodiesCovered, bodyShape, constantShape}
+use Rattle.sheet_rules.specs.Shape.{mostVariables, mostCells, headShape, enumeratedShape, declarationShape, nameShape, bodiesUpTo, bodiesCovered, bodyShape, constantShape}
 use Rattle.sheet_rules.specs.Uses.{overCharts, homeOf, homeChart, operandUses, rootUses}
 use Rattle.sheet_rules.specs.Static.{declarationStatic, nameStatic, chartStatic, constantStatic}
 use Rattle.sheet_rules.specs.Check.{nodesShape}
@@ -24,7 +25,7 @@ chartShape s k r =
     inSection s declarations (chartParameters r)
     and leb (chartParameters r .count) 7
     and inSection s declarations (chartVariables r)
-    and leb (chartVariables r .count) 32
+    and leb (chartVariables r .count) mostVariables
     and eqb (chartBodies r .first) (bodiesUpTo s k)
     and zeroFrom 6 r
 
@@ -75,7 +76,7 @@ shapeWith once s =
     and sectionsShape s
     and bodiesCovered s
     and elementsBound s
-    and leb (cellsOf s) 512
+    and leb (cellsOf s) mostCells
     and once
     and nodesShape s
 

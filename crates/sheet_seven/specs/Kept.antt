@@ -1,4 +1,4 @@
--- "Stored sheets keep their bytes and meaning."
+-- "Stored sheets keep their bytes and meaning": what is compared of shape, uses, static rules and check, definition by definition.
 use Prim.Native.Nat.{ℕ}
 use mathlib.Core.Path.{_≡_}
 use mathlib.Core.List.{List}
@@ -21,8 +21,8 @@ use Rattle.sheet_seven.specs.Before as before
 unfoldable pub upToSeven : List ℕ → Bool
 upToSeven s = allBelow (countOf s charts) (λ k. holds (recordOf s charts k) (λ c. leb (chartParameters c .count) 7))
 
--- each definition that changed gives what it gave
-pub record Kept (s : List ℕ) : Type 0 where
+-- each definition that changed gives what its text of before gives, over today's definitions of what did not change
+pub record SheetKept (s : List ℕ) : Type 0 where
   -- record i binds element i
   pub first : (i : ℕ) → firstBinding s i ≡ i
   pub elements : elementsBoundIn s ≡ countOf s bindings
@@ -31,7 +31,7 @@ pub record Kept (s : List ℕ) : Type 0 where
   pub binding : (k : ℕ) (b : Record) → recordOf s bindings k ≡ Present b → bindingShape s k ≡ before.bindingShape s b
   pub bindingRule : (k : ℕ) (b : Record) → recordOf s bindings k ≡ Present b → bindingStatic s k ≡ before.bindingStatic s b
   pub constants : (n k : ℕ) (b : Record) → recordOf s bindings k ≡ Present b → constantUses s n k ≡ before.constantUses s n b
-  -- of the sheet
+  -- of the sheet: the sums, sections and lists of rules over these
   pub bound : elementsBound s ≡ before.elementsBound s
   pub cellsOfOne : (i : ℕ) → cellsBound s i ≡ before.cellsBound s i
   pub cells : cellsOf s ≡ before.cellsOf s
