@@ -25,7 +25,7 @@ use Rattle.sheet_rules.proofs.Fields.{holds-present}
 use Rattle.sheet_rules.proofs.Bindings.{chart-bound}
 use Rattle.sheet_rules.proofs.Shape.{binding-shaped}
 use Rattle.sheet_rules.proofs.Forms.{form-literal}
-use Rattle.sheet_uses.specs.Paths.{standsInBinding, pathsTo, onePath}
+use Rattle.sheet_uses.specs.Paths.{standsInBinding, pathsTo, onePath, SameSheets}
 use Rattle.sheet_rules.proofs.Sums.{sum-same, sum-some}
 use Rattle.sheet_uses.proofs.Trees.{leaf-uses, leaf-stands, higher-uses}
 use Rattle.sheet_uses.proofs.Homes.{inBodies, homeUses, agree-once, bodies-above}
@@ -126,8 +126,7 @@ unfolding shapeWith otherwiseInShape
 shape-parts s true = sym (true-and _ _ refl)
 shape-parts s false = and-false _ _ (and-false _ _ (and-false _ _ (and-false _ _ (and-false _ _ (and-false _ _ (false-and _ _ refl)))))) ∙ sym (false-and _ _ refl)
 
--- "The same sheets pass and the same ones get 1."
-pub same-sheets : (s : List ℕ) → shapeWith (onePath s) s ≡ shape s
+pub same-sheets : SameSheets
 unfolding shape
 same-sheets s = go (otherwiseInShape s) refl
   where

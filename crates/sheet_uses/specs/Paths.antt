@@ -1,5 +1,7 @@
--- Uses counted along paths, as they were until M-102: a node below one that is used twice counts twice. The law that the same sheets pass is about this.
+-- "The same sheets pass and the same ones get 1" (M-102). Until then uses were counted along paths: a node below one that is used twice counts twice. What is compared is that way of counting with today's, in the same list of rules.
+-- Moved since: with M-105 an element's constants stand in one record or two (`chartBound`, `constantBinding`, `overBindings`); the count along paths goes by today's bindings too, so that nothing is said here of sheets as they were judged before M-105.
 use Prim.Native.Nat.{ℕ, _+_}
+use mathlib.Core.Path.{_≡_}
 use mathlib.Core.List.{List}
 use mathlib.Core.Bool.{Bool}
 use lib.Dec.{eqb}
@@ -9,6 +11,7 @@ use Rattle.sheet.specs.Sheet.{countOf}
 use Rattle.sheet_rules.specs.Fields.{numberOr0, sumBelow}
 use Rattle.sheet_rules.specs.Bindings.{chartBound, constantBinding, constantOf}
 use Rattle.sheet_rules.specs.Uses.{standsIn, overCharts, overBindings, standsInBodies}
+use Rattle.sheet_rules.specs.Check.{shapeWith, shape}
 
 -- how often node n stands in the trees of the constants of the element whose first binding record is k
 unfoldable pub standsInBinding : List ℕ → ℕ → ℕ → ℕ
@@ -19,3 +22,7 @@ pathsTo s n = overCharts s (standsInBodies s n) + overBindings s (standsInBindin
 
 unfoldable pub onePath : List ℕ → Bool
 onePath s = allBelow (countOf s nodes) (λ n. eqb (pathsTo s n) 1)
+
+-- for every bytes, passed or not
+abbrev pub SameSheets : Type 0
+SameSheets = (s : List ℕ) → shapeWith (onePath s) s ≡ shape s
