@@ -11,26 +11,21 @@ use Rattle.sheet.specs.declared.Found.the-variants.{Present, Absent}
 use Rattle.sheet.specs.Table.{lookUp}
 use Rattle.sheet.specs.Names.{head, enumeratedTypes, declarations, names, charts, bodies, bindings, declaredType, components, externals, ports}
 use Rattle.sheet.specs.Sheet.{directoryRight, countOf, recordOf}
-use Rattle.sheet.proofs.All.{true-false, and-first, and-second, all-at}
+use Rattle.sheet.proofs.All.{and-first, and-second, all-at}
 use Rattle.sheet.proofs.Sheet.{record-present}
 pub use Rattle.sheet.proofs.Sheet.{present-below}
 use Rattle.sheet_rules.specs.declared.Checked.{Checked}
 use Rattle.sheet_rules.specs.declared.Checked.the-variants.{Passed, Shape, Static}
-use Rattle.sheet_rules.specs.Fields.{holds, numberOr0, typeAt, componentsOf, externalsOf, portsOf, elementsOf}
+use Rattle.sheet_rules.specs.Fields.{numberOr0, typeAt, componentsOf, externalsOf, portsOf, elementsOf}
 use Rattle.sheet_rules.specs.Bindings.{firstBinding, elementsBoundIn}
-use Rattle.sheet_rules.specs.Shape.{headShape, enumeratedShape, typeExists, declarationShape, nameShape, chartShape, bodyShape, bindingShape, elementsBound, cellsOf, treesShape, recordShape}
+use Rattle.sheet_rules.specs.Shape.{headShape, enumeratedShape, typeExists, declarationShape, nameShape, chartShape, bodyShape, bindingShape, cellsOf, treesShape, recordShape}
 use Rattle.sheet_rules.specs.Static.{declarationStatic, nameStatic, chartStatic, bindingStatic, recordStatic, static}
 use Rattle.sheet_rules.specs.Check.{nodesShape, sectionsShape, shapeWith, shape, checkOf, checkNumber}
-use Rattle.sheet_rules.proofs.Shape.{record-shaped, binding-shaped, record-ruled, binding-ruled}
+use Rattle.sheet_rules.proofs.Shape.{record-shaped, binding-shaped, record-ruled, binding-ruled, shape-sections, shape-components, shape-elements}
 use Rattle.sheet_rules.proofs.Fields.{holds-present, number-present}
+pub use Rattle.sheet_rules.proofs.Fields.{held}
 
 -- ---- a record that is there
-
--- a test that holds is of a record that is there
-pub held : (f : Found) (p : Record → Bool) → holds f p ≡ true → (r : Record) × (f ≡ Present r) × (p r ≡ true)
-unfolding holds
-held (Present r) p e = (r, refl, e)
-held Absent p e = absurd (true-false e refl)
 
 pub one-record : (r r′ : Record) → Present r ≡ Present r′ → r ≡ r′
 one-record r r′ e = ap get e
@@ -66,20 +61,14 @@ module _ (s : List ℕ) (ok : checkOf s ≡ Passed) where
   one-head = eqb-true _ _ (and-first _ _ (and-second _ _ shaped))
 
   sections : sectionsShape s ≡ true
-  unfolding shape shapeWith
-  sections = and-first _ _ (and-second _ _ (and-second _ _ shaped))
-
-  elements-bound : externalsOf s + elementsBoundIn s ≡ componentsOf s
-  unfolding shape shapeWith elementsBound
-  elements-bound = eqb-true _ _ (and-first _ _ (and-second _ _ (and-second _ _ (and-second _ _ (and-second _ _ shaped)))))
+  sections = shape-sections s shaped
 
   elements-are : elementsOf s ≡ elementsBoundIn s
-  unfolding elementsOf
-  elements-are = omega (arith, elements-bound)
+  elements-are = shape-elements s shaped
 
   -- "The rest are bound elements"
   pub elements-rest : externalsOf s + elementsOf s ≡ componentsOf s
-  elements-rest = omega (arith, elements-bound, elements-are)
+  elements-rest = omega (arith, shape-components s shaped, elements-are)
 
   pub cells-limit : cellsOf s ≤ 512
   unfolding shape shapeWith

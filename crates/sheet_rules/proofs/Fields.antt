@@ -2,12 +2,13 @@
 use Prim.Native.Nat.{ℕ, _+_, _≤_}
 use mathlib.Core.Path.{_≡_, refl}
 use mathlib.Core.List.{[], _∷_}
-use mathlib.Core.Bool.{Bool, false}
+use mathlib.Core.Bool.{Bool, true, false}
 use native.Mathlib.Numerals.{add-one}
 use lib.ListN.{List·getD-eq-default}
 use Rattle.sheet.specs.declared.Record.{Record}
 use Rattle.sheet.specs.declared.Found.{Found}
 use Rattle.sheet.specs.declared.Found.the-variants.{Present, Absent}
+use Rattle.sheet.proofs.All.{true-false}
 use Rattle.sheet_rules.specs.Fields.{fieldOf, holds, numberOr0, sumBelow}
 
 pub field-past : (r : Record) (i : ℕ) → 8 ≤ i → fieldOf r i ≡ 0
@@ -21,6 +22,12 @@ holds-present f r p e = rw e refl
 pub holds-absent : (f : Found) (p : Record → Bool) → f ≡ Absent → holds f p ≡ false
 unfolding holds
 holds-absent f p e = rw e refl
+
+-- a test that holds is of a record that is there
+pub held : (f : Found) (p : Record → Bool) → holds f p ≡ true → (r : Record) × (f ≡ Present r) × (p r ≡ true)
+unfolding holds
+held (Present r) p e = (r, refl, e)
+held Absent p e = absurd (true-false e refl)
 
 pub number-present : (f : Found) (r : Record) (g : Record → ℕ) → f ≡ Present r → numberOr0 f g ≡ g r
 unfolding numberOr0

@@ -9,3 +9,4 @@ pub mod Arrays
 pub mod Uses
 pub mod Parameters
 pub mod Shape
+pub mod Records

@@ -1,20 +1,22 @@
 -- The records of a sheet whose sections have their shape and keep the static rules.
-use Prim.Native.Nat.{ℕ, _<_}
+use Prim.Native.Nat.{ℕ, _+_, _<_}
 use mathlib.Core.Path.{_≡_, refl, sym, ap, _∙_}
 use mathlib.Core.List.{List}
 use mathlib.Core.Bool.{Bool, true, false}
 use native.Mathlib.Omega.{arith}
-use borrow.Author.Tests.{eq-eqb, ne-eqb}
+use borrow.Author.Tests.{eq-eqb, ne-eqb, eqb-true}
 use Rattle.sheet.specs.declared.Record.{Record}
 use Rattle.sheet.specs.declared.Found.the-variants.{Present}
+use Rattle.sheet.specs.All.{_and_}
 use Rattle.sheet.specs.Names.{bindings}
 use Rattle.sheet.specs.Sheet.{countOf, recordOf}
-use Rattle.sheet.proofs.All.{all-at}
+use Rattle.sheet.proofs.All.{and-first, and-second, all-at}
 use Rattle.sheet.proofs.Sheet.{present-below}
+use Rattle.sheet_rules.specs.Fields.{componentsOf, externalsOf, elementsOf}
 use Rattle.sheet_rules.specs.Bindings.{firstBinding, elementsBoundIn}
-use Rattle.sheet_rules.specs.Shape.{bindingShape, bindingsShape, recordShape, eachShape, sectionShape}
+use Rattle.sheet_rules.specs.Shape.{bindingShape, bindingsShape, elementsBound, recordShape, eachShape, sectionShape}
 use Rattle.sheet_rules.specs.Static.{bindingStatic, bindingsStatic, recordStatic, eachStatic, sectionStatic, static}
-use Rattle.sheet_rules.specs.Check.{sectionsShape}
+use Rattle.sheet_rules.specs.Check.{sectionsShape, shapeWith, shape}
 use Rattle.sheet_rules.proofs.Fields.{holds-present}
 
 -- ---- a section record by record, section 7 element by element
@@ -56,3 +58,18 @@ module _ (s : List ℕ) (h : static s ≡ true) where
   pub binding-ruled : (i : ℕ) → i < elementsBoundIn s → bindingStatic s (firstBinding s i) ≡ true
   unfolding static bindingsStatic
   binding-ruled = all-at (elementsBoundIn s) _ (sym (static-bindings s bindings refl) ∙ all-at 8 (sectionStatic s) h bindings (omega arith))
+
+-- ---- the parts of a shape that speak of sections and of elements
+
+module _ (s : List ℕ) (h : shape s ≡ true) where
+  pub shape-sections : sectionsShape s ≡ true
+  unfolding shape shapeWith
+  shape-sections = and-first _ _ (and-second _ _ (and-second _ _ h))
+
+  pub shape-components : externalsOf s + elementsBoundIn s ≡ componentsOf s
+  unfolding shape shapeWith elementsBound
+  shape-components = eqb-true _ _ (and-first _ _ (and-second _ _ (and-second _ _ (and-second _ _ (and-second _ _ h)))))
+
+  pub shape-elements : elementsOf s ≡ elementsBoundIn s
+  unfolding elementsOf
+  shape-elements = omega (arith, shape-components)
