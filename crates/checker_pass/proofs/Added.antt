@@ -15,11 +15,11 @@ use Rattle.sheet.specs.Sheet.{countOf, recordOf}
 use Rattle.sheet.proofs.Sheet.{record-present, record-absent, present-below}
 use Rattle.sheet_rules.specs.declared.Operands.{Operands}
 use Rattle.sheet_rules.specs.Fields.{oneIf, fieldOf, fieldAt, holds, numberOr0, sumBelow, countBelow}
-use Rattle.sheet_rules.specs.Bindings.{constantsInRecord, recordsFor, chartBound, behind, firstBinding, constantBinding, constantField, constantOf}
+use Rattle.sheet_rules.specs.Bindings.{constantsInRecord, recordsFor, chartBound, behind, firstBinding, elementsBoundIn, constantBinding, constantField, constantOf}
 use Rattle.sheet_rules.specs.Forms.{operandsOf, operandCount, operandAt}
 use Rattle.sheet_rules.specs.Uses.{overBodies, noChart, chartOr, homeChart, operandUses, rootUses, constantUses}
 use Rattle.sheet_rules.proofs.Fields.{holds-present, holds-absent, number-present, number-absent}
-use Rattle.sheet_rules.proofs.Bindings.{one-record, two-records, bound-chart, constant-first, constant-second}
+use Rattle.sheet_rules.proofs.Bindings.{one-record, two-records, bound-chart, behind-near, Walk, walk-begins, walk-on, walk-ends, constant-first, constant-second}
 use Rattle.sheet_rules.proofs.Sums.{sum-same, sum-zero, sum-split}
 use Rattle.sheet_uses.proofs.Trees.{no-operands, uses-are}
 use Rattle.checker_pass.specs.Marks.{Marked, constantsNamed, goneTo}
@@ -152,18 +152,27 @@ module _ (s : List ℕ) (k : ℕ) (b : Record) (here : recordOf s bindings k ≡
     pub many-added : (top x : ℕ) (a e d : List ℕ) → x ≡ numberOr0 (recordOf s bindings (k + 1)) (λ b. 1) → x ≤ 1 → Marked top 0 a e (constantsNamed b constantsInRecord) → Marked top 0 e d (λ m. numberOr0 (recordOf s bindings (k + 1)) (λ b. constantsNamed b (total - constantsInRecord) m)) → (k + (1 + x) ≡ goneTo s k) × (1 + x ≤ 2) × Marked top 0 a d (λ n. constantUses s n k)
     many-added top x a e d x-is l g h = (gone-two x x-is, omega arith, marked-as top 0 a d _ _ (λ n _. sym (uses-two n)) (marked-then top 0 a e d _ _ g h))
 
--- all records of the section are gone over: so many when record n is next, the one behind those of the element whose first one is k
-module _ (s : List ℕ) (k x n gone : ℕ) (p : k + x ≡ goneTo s k) (q : n ≡ behind s k) (g : gone ≡ k) where
-  pub gone-near : n ≤ countOf s bindings → gone + x ≡ n
-  unfolding goneTo
-  gone-near l = omega (arith, p ∙ ap (λ (b : Bool). elim b as (λ b. ℕ) [ true ↦ behind s k | false ↦ countOf s bindings ]) (le-leb (behind s k) (countOf s bindings) (omega arith)))
+-- from element i's first record to the next element's, or to the section's end where it is the last one, perhaps with a record too few
+pub record Reached (s : List ℕ) (i k : ℕ) : Type 0 where
+  pub inside : k ≤ countOf s bindings
+  pub walk : k < countOf s bindings → Walk s k i
+  pub all : countOf s bindings ≤ k → elementsBoundIn s ≡ i
 
-  pub gone-all : countOf s bindings ≤ n → gone + x ≡ countOf s bindings
+module _ (s : List ℕ) where
+  pub reached-first : Reached s 0 0
+  reached-first = record { inside = omega arith; walk = λ _. walk-begins s; all = λ l. walk-ends s 0 0 (walk-begins s) l }
+
+  pub reached-next : (i k n : ℕ) → Reached s i k → k < countOf s bindings → n ≡ goneTo s k → (k < n) × Reached s (i + 1) n
   unfolding goneTo
-  gone-all l = elim (decLt (countOf s bindings) n) [
-    | yes m ↦ omega (arith, p ∙ ap (λ (b : Bool). elim b as (λ b. ℕ) [ true ↦ behind s k | false ↦ countOf s bindings ]) (lt-leb (behind s k) (countOf s bindings) (omega arith)))
-    | no m ↦ omega (arith, gone-near (omega arith))
-  ]
+  reached-next i k n w l e =
+      let on = walk-on s k i (w .walk l) (behind s k) refl l in
+      elim (decLt (countOf s bindings) (behind s k)) [
+        | yes q ↦ (let end : n ≡ countOf s bindings = e ∙ ap reach (lt-leb (behind s k) (countOf s bindings) q) in (omega arith, record { inside = omega arith; walk = λ m. absurd (omega arith); all = λ _. walk-ends s (behind s k) (i + 1) on (omega arith) }))
+        | no q ↦ (let next : n ≡ behind s k = e ∙ ap reach (le-leb (behind s k) (countOf s bindings) (omega arith)) in (omega (arith, behind-near s k .0), record { inside = omega arith; walk = λ _. walk-on s k i (w .walk l) n next l; all = λ m. walk-ends s (behind s k) (i + 1) on (omega arith) }))
+      ]
+    where
+      reach : Bool → ℕ
+      reach b = elim b [ true ↦ behind s k | false ↦ countOf s bindings ]
 
 module _ (s : List ℕ) (m k : ℕ) (a : List ℕ) where
   pub operands-absent : (c : Record) → recordOf s nodes m ≡ Absent → (0 ≡ numberOr0 (recordOf s nodes m) (λ r. 1)) × (0 ≤ 1) × Marked m k a a (operandUses s c m)

@@ -39,20 +39,19 @@ fn mark_charts(sheet: &[u8], directory: &[usize; 16], marks: &mut [u16], count: 
     gone
 }
 
-// All bindings name their constants. How many binding records were gone over.
+// All bindings name their constants. How many binding records were gone over: the number of the next one
+// tells it.
 fn mark_bindings(sheet: &[u8], directory: &[usize; 16], marks: &mut [u16], count: usize) -> usize
     requires { ⌜ now directory ≡ directoryOf (now sheet) ⌝ }
     requires { ⌜ count ≤ length (now marks) ⌝ }
     ensures { λ x. ⌜ (x ≡ countOf (now (sheet .entry)) 7) × Marked count 0 (now (marks .entry)) (now (marks .exit)) (λ n. overBindings (now (sheet .entry)) (constantUses (now (sheet .entry)) n)) ⌝ }
 {
     let total = sheet_reader::count_in(directory, 7);
-    let mut gone: usize = 0;
     let mut k: usize = 0;
     while k < total {
-        gone += checker_constant_marks::mark_binding(sheet, directory, marks, count, k);
-        k = sheet_bindings::record_behind(sheet, directory, k);
+        k += checker_constant_marks::mark_binding(sheet, directory, marks, count, k);
     }
-    gone
+    k
 }
 
 // Whether a node that is used so often, by its mark, leaves each used exactly once.
