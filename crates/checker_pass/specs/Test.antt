@@ -9,6 +9,8 @@ use Rattle.sheet.specs.Sheet.{countOf}
 use Rattle.sheet_rules.specs.Uses.{usesOf, usedOnce, markOf, callsInOneBody, goneOver}
 use Rattle.sheet_rules.specs.Check.{otherwiseInShape}
 use Rattle.checker_pass.specs.declared.Tested.{Tested}
+use Rattle.checker_pass.specs.declared.NodeMarks.{NodeMarks}
+use Rattle.checker_pass.specs.declared.NodeMarks.the-variants.{Done, TooFew}
 
 -- for a sheet and the marks that were lent, before and after
 pub record TestGives (s before after : List ℕ) (t : Tested) : Type 0 where
@@ -23,3 +25,8 @@ pub record TestGives (s before after : List ℕ) (t : Tested) : Type 0 where
   pub small : (n : ℕ) → n < countOf s nodes → getD after n 0 ≤ 2
   pub rest : (n : ℕ) → countOf s nodes ≤ n → getD after n 0 ≡ getD before n 0
   pub long : length after ≡ length before
+
+-- for any bytes and any lent marks: one for each node is enough; with fewer nothing is written
+abbrev pub MarkingGives : List ℕ → List ℕ → List ℕ → NodeMarks → Type 0
+MarkingGives s before after (Done t) = (countOf s nodes ≤ length before) × TestGives s before after t
+MarkingGives s before after TooFew = (length before < countOf s nodes) × (after ≡ before)

@@ -13,7 +13,7 @@ use borrow.Author.Tests.{ltb-true, leb-true, eqb-true, lt-ltb, le-ltb}
 use Rattle.sheet.specs.declared.Record.{Record}
 use Rattle.sheet.specs.declared.Found.the-variants.{Present, Absent}
 use Rattle.sheet.specs.All.{_and_}
-use Rattle.sheet.specs.Sheet.{offsetOf, lengthOf, startOf, pairRight, directoryRight, countOf, recordAt, recordOf, sectionsFrom, directoryOf}
+use Rattle.sheet.specs.Sheet.{offsetOf, lengthOf, startOf, pairRight, directoryRight, countOf, recordAt, recordOf, sectionsFrom, directoryOf, countIn}
 use Rattle.sheet.proofs.All.{and-first, and-second, and-false, all-at, not-so}
 
 module _ (s : List ℕ) (right : directoryRight s ≡ true) where
@@ -166,6 +166,21 @@ module _ (s d : List ℕ) (opened : d ≡ directoryOf s) where
 
   pub opened-offset : (k n : ℕ) → n < countOf s k → getD d (2 * k) 0 ≡ offsetOf s k
   opened-offset k n h = let some : (directoryRight s ≡ true) × (k < 8) = count-some s k n h in rw opened (directory-offset s (some .0) k (some .1))
+
+-- how many records an array says that a section has; of a sheet's directory it is as many as there are
+pub count-there : (d : List ℕ) (k : ℕ) → k < 8 → countIn d k ≡ getD d (2 * k + 1) 0
+unfolding countIn
+count-there d k h = rw (countIn, lt-ltb k 8 h) refl
+
+pub count-past : (d : List ℕ) (k : ℕ) → 8 ≤ k → countIn d k ≡ 0
+unfolding countIn
+count-past d k h = rw (countIn, le-ltb k 8 h) refl
+
+pub count-opened : (d : List ℕ) (k r : ℕ) → r ≡ countIn d k → (s : List ℕ) → d ≡ directoryOf s → r ≡ countOf s k
+count-opened d k r e s opened = elim (decLt k 8) [
+  | yes h ↦ e ∙ count-there d k h ∙ opened-count s d opened k h
+  | no h ↦ e ∙ count-past d k (omega arith) ∙ sym (count-none s k (omega arith))
+]
 
 -- a section has at most 4,095 records
 pub count-limit : (s : List ℕ) (k : ℕ) → countOf s k ≤ 4095

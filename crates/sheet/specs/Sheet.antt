@@ -52,3 +52,7 @@ sectionsFrom s (suc n) k = offsetOf s k ∷ countOf s k ∷ sectionsFrom s n (su
 
 unfoldable pub directoryOf : List ℕ → List ℕ
 directoryOf s = elim (directoryRight s) [ true ↦ sectionsFrom s 8 0 | false ↦ replicate 16 0 ]
+
+-- how many records section k has by such an array, whatever it holds; sections above 7 have none
+unfoldable pub countIn : List ℕ → ℕ → ℕ
+countIn d k = elim (ltb k 8) [ true ↦ getD d (2 * k + 1) 0 | false ↦ 0 ]

@@ -2,10 +2,9 @@
 use sheet::Found;
 use sheet::Record;
 ghost use mathlib.Core.Path.{_≡_};
-ghost use mathlib.Core.List.{List};
-ghost use Prim.Native.Nat.{ℕ, _+_, _*_, _<_, _≤_};
+ghost use Prim.Native.Nat.{_+_, _*_, _<_, _≤_};
 ghost use lib.ListN.{length};
-ghost use Rattle.sheet.specs.Sheet.{countOf, recordAt, recordOf, directoryOf};
+ghost use Rattle.sheet.specs.Sheet.{countOf, countIn, recordAt, recordOf, directoryOf};
 
 // Where the offset of a section stands in the opened directory.
 fn offset_place(section: usize) -> usize
@@ -42,9 +41,9 @@ pub fn directory(sheet: &[u8]) -> [usize; 16]
     sections
 }
 
-// How many records a section has, by the opened directory.
+// How many records a section has, by the opened directory. Any array has an answer.
 pub fn count_in(directory: &[usize; 16], section: usize) -> usize
-    ensures { λ r. ⌜ ((s : List ℕ) → now (directory .entry) ≡ directoryOf s → r ≡ countOf s section) ⌝ }
+    ensures { λ r. ⌜ r ≡ countIn (now (directory .entry)) section ⌝ }
 {
     if section < 8 {
         let place = count_place(section);

@@ -6,7 +6,7 @@ use Prim.Native.Nat.{ℕ, _+_, _-_}
 use borrow.Author.Tests.{le-leb, lt-leb, eq-eqb, ne-eqb, not-true, not-false}
 use Rattle.sheet.proofs.All.{first-fails, rest-fails, first-holds}
 use Rattle.sheet.specs.Sheet.{countOf, directoryRight}
-use Rattle.sheet.proofs.Sheet.{count-some}
+use Rattle.sheet.proofs.Sheet.{count-some, count-opened}
 use Rattle.sheet_rules.specs.Fields.{fieldOf, fieldAt, componentsOf, externalsOf}
 use Rattle.sheet_rules.specs.Bindings.{elementsBoundIn}
 use Rattle.sheet_rules.specs.Shape.{elementsBound}
@@ -32,7 +32,7 @@ count-in-requires c κs = search needs
 
 returns : tie.Need-returns
 unfolding shape shapeWith
-returns c = rest-fails _ _ (first-fails _ _ (ne-eqb _ _ (λ e. c .if1 .taken (c .before .count-in .ensures _ (c .before .before .before .before .pre .0) ∙ e))))
+returns c = rest-fails _ _ (first-fails _ _ (ne-eqb _ _ (λ e. c .if1 .taken (count-opened _ _ _ (c .before .count-in .ensures) _ (c .before .before .before .before .pre .0) ∙ e))))
 
 sections-fit-requires : tie.Need-sections-fit-requires
 sections-fit-requires c κs = search needs
@@ -89,7 +89,7 @@ same-length-2 c = c .before .before .before .before .before .used-once .ensures 
 
 returns-7 : tie.Need-returns-7
 unfolding shape shapeWith elementsBound
-returns-7 c = first-holds _ _ _ (right-with-head _ _ (c .before .before .before .before .before .before .before .before .before .before .before .before .before .before .before .before .before .before .count-in .ensures _ (c .before .before .before .before .before .before .before .before .before .before .before .before .before .before .before .before .before .before .before .before .before .pre .0)) (c .before .before .before .before .before .before .before .before .before .before .before .before .before .before .before .before .before .if1 .left)) (first-holds _ _ _ (eq-eqb _ _ (sym (c .before .before .before .before .before .before .before .before .before .before .before .before .before .before .before .before .before .before .count-in .ensures _ (c .before .before .before .before .before .before .before .before .before .before .before .before .before .before .before .before .before .before .before .before .before .pre .0)) ∙ c .before .before .before .before .before .before .before .before .before .before .before .before .before .before .before .before .before .if1 .left)) (first-holds _ _ _ (sym (c .before .before .before .before .before .before .before .before .before .before .before .before .before .before .before .before .sections-fit .ensures) ∙ not-false _ (c .before .before .before .before .before .before .before .before .before .before .before .before .before .before .before .if2 .left)) (first-holds _ _ _ (sym (c .before .before .before .before .before .before .before .before .before .before .before .before .before .before .bodies-covered .ensures) ∙ not-false _ (c .before .before .before .before .before .before .before .before .before .before .before .before .before .if3 .left)) (first-holds _ _ _ (eq-eqb _ _ (bound _ _ _ _ (c .before .before .before .before .before .before .before .before .before .before .before .field-at2 .ensures .0) (c .before .before .before .before .before .before .before .before .before .before .before .before .field-at .ensures .0) (c .before .before .before .before .before .before .before .before .before .before .elements-bound .ensures .0) (c .before .before .before .before .before .before .before .before .before .if4 .left))) (first-holds _ _ _ (le-leb _ _ (rw (c .before .before .before .before .before .before .before .before .cells .ensures) at (c .before .before .before .before .before .before .before .if5 .left))) (first-holds _ _ _ (sym (c .before .before .before .before .before .used-once .ensures .once) ∙ not-false _ (c .before .if6 .left)) (c .nodes-fit .ensures)))))))
+returns-7 c = first-holds _ _ _ (right-with-head _ _ (count-opened _ _ _ (c .before .before .before .before .before .before .before .before .before .before .before .before .before .before .before .before .before .before .count-in .ensures) _ (c .before .before .before .before .before .before .before .before .before .before .before .before .before .before .before .before .before .before .before .before .before .pre .0)) (c .before .before .before .before .before .before .before .before .before .before .before .before .before .before .before .before .before .if1 .left)) (first-holds _ _ _ (eq-eqb _ _ (sym (count-opened _ _ _ (c .before .before .before .before .before .before .before .before .before .before .before .before .before .before .before .before .before .before .count-in .ensures) _ (c .before .before .before .before .before .before .before .before .before .before .before .before .before .before .before .before .before .before .before .before .before .pre .0)) ∙ c .before .before .before .before .before .before .before .before .before .before .before .before .before .before .before .before .before .if1 .left)) (first-holds _ _ _ (sym (c .before .before .before .before .before .before .before .before .before .before .before .before .before .before .before .before .sections-fit .ensures) ∙ not-false _ (c .before .before .before .before .before .before .before .before .before .before .before .before .before .before .before .if2 .left)) (first-holds _ _ _ (sym (c .before .before .before .before .before .before .before .before .before .before .before .before .before .before .bodies-covered .ensures) ∙ not-false _ (c .before .before .before .before .before .before .before .before .before .before .before .before .before .if3 .left)) (first-holds _ _ _ (eq-eqb _ _ (bound _ _ _ _ (c .before .before .before .before .before .before .before .before .before .before .before .field-at2 .ensures .0) (c .before .before .before .before .before .before .before .before .before .before .before .before .field-at .ensures .0) (c .before .before .before .before .before .before .before .before .before .before .elements-bound .ensures .0) (c .before .before .before .before .before .before .before .before .before .if4 .left))) (first-holds _ _ _ (le-leb _ _ (rw (c .before .before .before .before .before .before .before .before .cells .ensures) at (c .before .before .before .before .before .before .before .if5 .left))) (first-holds _ _ _ (sym (c .before .before .before .before .before .used-once .ensures .once) ∙ not-false _ (c .before .if6 .left)) (c .nodes-fit .ensures)))))))
 
 pub shape-holds-spec : {M : Type 1} → statement M
 shape-holds-spec =

@@ -3,7 +3,7 @@ use Prim.Native.Nat.{ℕ, _≤_}
 use mathlib.Core.Path.{_≡_, sym}
 use lib.ListN.{length, take, replicate, length-replicate}
 use lib.Seq.{length-take-le}
-use Rattle.sheet.proofs.Sheet.{count-limit}
+use Rattle.sheet.proofs.Sheet.{count-limit, count-opened}
 use borrow.Author.Needs.{needs}
 use Rattle.checker.proofs.shaped.Statement.{statement}
 use Rattle.checker.proofs.shaped.Tie as tie
@@ -25,19 +25,19 @@ slice-aggregate-shape-holds : tie.Need-slice-aggregate-shape-holds
 slice-aggregate-shape-holds c = front (c .before .before .count-in .result) 512 (c .before .if1 .taken)
 
 shape-holds-requires : tie.Need-shape-holds-requires
-shape-holds-requires c κs = (c .before .before .before .before .pre, room _ (c .before .before .count-in .result) 512 (c .before .before .count-in .ensures (c .before .before .before .before .args .sheet .now) (c .before .before .before .before .pre)) (c .before .if1 .taken))
+shape-holds-requires c κs = (c .before .before .before .before .pre, room _ (c .before .before .count-in .result) 512 (count-opened _ _ _ (c .before .before .count-in .ensures) (c .before .before .before .before .args .sheet .now) (c .before .before .before .before .pre)) (c .before .if1 .taken))
 
 returns : tie.Need-returns
 returns c = search needs
 
 array-borrow-prefix-marks : tie.Need-array-borrow-prefix-marks
-array-borrow-prefix-marks c = omega (arith, count-limit (c .before .before .before .args .sheet .now) 6, c .before .count-in .ensures (c .before .before .before .args .sheet .now) (c .before .before .before .pre))
+array-borrow-prefix-marks c = omega (arith, count-limit (c .before .before .before .args .sheet .now) 6, count-opened _ _ _ (c .before .count-in .ensures) (c .before .before .before .args .sheet .now) (c .before .before .before .pre))
 
 slice-aggregate-shape-holds-2 : tie.Need-slice-aggregate-shape-holds-2
-slice-aggregate-shape-holds-2 c = front (c .before .before .count-in .result) 4096 (omega (arith, count-limit (c .before .before .before .before .args .sheet .now) 6, c .before .before .count-in .ensures (c .before .before .before .before .args .sheet .now) (c .before .before .before .before .pre)))
+slice-aggregate-shape-holds-2 c = front (c .before .before .count-in .result) 4096 (omega (arith, count-limit (c .before .before .before .before .args .sheet .now) 6, count-opened _ _ _ (c .before .before .count-in .ensures) (c .before .before .before .before .args .sheet .now) (c .before .before .before .before .pre)))
 
 shape-holds-requires-2 : tie.Need-shape-holds-requires-2
-shape-holds-requires-2 c κs = (c .before .before .before .before .pre, room _ (c .before .before .count-in .result) 4096 (c .before .before .count-in .ensures (c .before .before .before .before .args .sheet .now) (c .before .before .before .before .pre)) (omega (arith, count-limit (c .before .before .before .before .args .sheet .now) 6, c .before .before .count-in .ensures (c .before .before .before .before .args .sheet .now) (c .before .before .before .before .pre))))
+shape-holds-requires-2 c κs = (c .before .before .before .before .pre, room _ (c .before .before .count-in .result) 4096 (count-opened _ _ _ (c .before .before .count-in .ensures) (c .before .before .before .before .args .sheet .now) (c .before .before .before .before .pre)) (omega (arith, count-limit (c .before .before .before .before .args .sheet .now) 6, count-opened _ _ _ (c .before .before .count-in .ensures) (c .before .before .before .before .args .sheet .now) (c .before .before .before .before .pre))))
 
 returns-2 : tie.Need-returns-2
 returns-2 c = search needs

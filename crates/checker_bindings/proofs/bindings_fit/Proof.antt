@@ -4,7 +4,7 @@ use Prim.Native.Nat.{_+_, _-_}
 use borrow.Author.Tests.{not-true, not-false}
 use borrow.Author.Needs.{needs}
 use Rattle.sheet.specs.Sheet.{countOf}
-use Rattle.sheet.proofs.Sheet.{count-limit}
+use Rattle.sheet.proofs.Sheet.{count-limit, count-opened}
 use Rattle.sheet_rules.specs.Shape.{bindingShape, bindingsShape}
 use Rattle.sheet_rules.proofs.Bindings.{Walked, walked-begins, walked-on, walked-fails, walked-ends, behind-near}
 use Rattle.checker_bindings.proofs.bindings_fit.Statement.{statement}
@@ -20,7 +20,7 @@ count-in-requires : tie.Need-count-in-requires Inv-loop μ-loop
 count-in-requires c κs = search needs
 
 loop-holds : tie.Need-loop-holds Inv-loop μ-loop
-loop-holds c = (c .count-in .ensures _ (c .before .before .pre), walked-begins _ _)
+loop-holds c = (count-opened _ _ _ (c .count-in .ensures) _ (c .before .before .pre), walked-begins _ _)
 
 binding-fits-requires : tie.Need-binding-fits-requires Inv-loop μ-loop
 binding-fits-requires c κs = let l = c .loop-test .taken in (c .before .before .before .before .pre, omega (arith, c .before .loop .inv .0, count-limit (c .before .before .before .before .args .sheet .now) 7))

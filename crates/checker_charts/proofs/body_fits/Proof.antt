@@ -2,6 +2,7 @@ use mathlib.Core.Path.{sym, ap, _∙_}
 use borrow.Author.Tests.{le-leb, lt-leb, not-true, not-false}
 use borrow.Author.Needs.{needs}
 use lib.Dec.{ltb}
+use Rattle.sheet.proofs.Sheet.{count-opened}
 use Rattle.sheet.proofs.All.{first-fails, rest-fails, first-holds}
 use Rattle.sheet_rules.specs.Shape.{bodyShape}
 use Rattle.checker_charts.proofs.body_fits.Statement.{statement}
@@ -57,7 +58,7 @@ count-in-requires c κs = search needs
 
 returns-7 : tie.Need-returns-7
 unfolding bodyShape
-returns-7 c = first-holds _ _ _ (le-leb _ _ (c .before .before .before .before .before .before .before .before .before .before .before .before .before .if1 .left)) (first-holds _ _ _ (sym (c .before .before .before .before .before .before .before .before .before .before .before .before .reaction-fits .ensures) ∙ not-false _ (c .before .before .before .before .before .before .before .before .before .before .before .if2 .left)) (first-holds _ _ _ (sym (c .before .before .before .before .before .before .before .before .before .before .in-section .ensures) ∙ not-false _ (c .before .before .before .before .before .before .before .before .before .if3 .left)) (first-holds _ _ _ (le-leb _ _ (c .before .before .before .before .before .before .before .if4 .left)) (first-holds _ _ _ (sym (c .before .before .before .before .before .before .in-section2 .ensures) ∙ not-false _ (c .before .before .before .before .before .if5 .left)) (first-holds _ _ _ (le-leb _ _ (c .before .before .if6 .left)) (ap (ltb _) (c .count-in .ensures _ (c .before .before .before .before .before .before .before .before .before .before .before .before .before .before .before .before .pre))))))))
+returns-7 c = first-holds _ _ _ (le-leb _ _ (c .before .before .before .before .before .before .before .before .before .before .before .before .before .if1 .left)) (first-holds _ _ _ (sym (c .before .before .before .before .before .before .before .before .before .before .before .before .reaction-fits .ensures) ∙ not-false _ (c .before .before .before .before .before .before .before .before .before .before .before .if2 .left)) (first-holds _ _ _ (sym (c .before .before .before .before .before .before .before .before .before .before .in-section .ensures) ∙ not-false _ (c .before .before .before .before .before .before .before .before .before .if3 .left)) (first-holds _ _ _ (le-leb _ _ (c .before .before .before .before .before .before .before .if4 .left)) (first-holds _ _ _ (sym (c .before .before .before .before .before .before .in-section2 .ensures) ∙ not-false _ (c .before .before .before .before .before .if5 .left)) (first-holds _ _ _ (le-leb _ _ (c .before .before .if6 .left)) (ap (ltb _) (count-opened _ _ _ (c .count-in .ensures) _ (c .before .before .before .before .before .before .before .before .before .before .before .before .before .before .before .before .pre))))))))
 
 pub body-fits-spec : {M : Type 1} → statement M
 body-fits-spec =

@@ -7,6 +7,7 @@ use Prim.Native.Nat.{ℕ}
 use lib.Dec.{ltb, leb, eqb}
 use borrow.Author.Needs.{needs}
 use native.Mathlib.Decide.{decLt}
+use Rattle.sheet.proofs.Sheet.{count-opened}
 use Rattle.sheet.proofs.All.{false-and, and-false, first-fails, first-holds}
 use Rattle.sheet.specs.declared.Record.{Record}
 use Rattle.sheet.specs.All.{_and_}
@@ -61,10 +62,10 @@ returns-3 : tie.Need-returns-3
 returns-3 c = first-fails _ _ (ne-eqb _ _ (c .if3 .taken)) ∙ sym (neither _ _ (c .before .before .match .rest .0 .1) (c .before .before .match .rest .1))
 
 returns-4 : tie.Need-returns-4
-returns-4 c = first-holds _ _ _ (lt-ltb _ _ (c .before .before .if1 .left)) (ap (ltb _) (c .count-in .ensures _ (c .before .before .before .before .before .before .before .pre))) ∙ sym (external _ _ _ (c .before .before .before .before .before .match .keys1) (c .before .before .before .before .field-at .ensures .0))
+returns-4 c = first-holds _ _ _ (lt-ltb _ _ (c .before .before .if1 .left)) (ap (ltb _) (count-opened _ _ _ (c .count-in .ensures) _ (c .before .before .before .before .before .before .before .pre))) ∙ sym (external _ _ _ (c .before .before .before .before .before .match .keys1) (c .before .before .before .before .field-at .ensures .0))
 
 returns-5 : tie.Need-returns-5
-returns-5 c = first-holds _ _ _ (eq-eqb _ _ (c .before .before .if2 .left)) (ap (ltb _) (c .count-in2 .ensures _ (c .before .before .before .before .before .before .pre))) ∙ sym (internal _ _ (c .before .before .before .before .match .keys2))
+returns-5 c = first-holds _ _ _ (eq-eqb _ _ (c .before .before .if2 .left)) (ap (ltb _) (count-opened _ _ _ (c .count-in2 .ensures) _ (c .before .before .before .before .before .before .pre))) ∙ sym (internal _ _ (c .before .before .before .before .match .keys2))
 
 returns-6 : tie.Need-returns-6
 returns-6 c = first-holds _ _ _ (eq-eqb _ _ (c .before .if3 .left)) (refl) ∙ sym (neither _ _ (c .before .before .before .match .rest .0 .1) (c .before .before .before .match .rest .1))

@@ -5,6 +5,7 @@ use mathlib.Core.List.{List}
 use Prim.Native.Nat.{ℕ, _≤_, _<_}
 use lib.Dec.{ltb}
 use borrow.Author.Needs.{needs}
+use Rattle.sheet.proofs.Sheet.{count-opened}
 use Rattle.sheet.proofs.All.{false-and}
 use Rattle.sheet_rules.specs.Shape.{typeExists}
 use Rattle.sheet_indices.proofs.Laws.{type-there}
@@ -29,7 +30,7 @@ count-in-requires : tie.Need-count-in-requires
 count-in-requires c κs = search needs
 
 returns-3 : tie.Need-returns-3
-returns-3 c = ap (ltb _) (c .count-in .ensures _ (c .before .before .before .before .pre)) ∙ sym (type-there _ _ (c .before .if2 .left))
+returns-3 c = ap (ltb _) (count-opened _ _ _ (c .count-in .ensures) _ (c .before .before .before .before .pre)) ∙ sym (type-there _ _ (c .before .if2 .left))
 
 pub type-exists-spec : {M : Type 1} → statement M
 type-exists-spec = tie.close (tie.spec returns returns-2 count-in-requires returns-3)

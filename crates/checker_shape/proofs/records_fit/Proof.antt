@@ -5,6 +5,7 @@ use mathlib.Core.List.{List}
 use Prim.Native.Nat.{ℕ, _-_, _≤_}
 use borrow.Author.Tests.{not-true, not-false}
 use borrow.Author.Needs.{needs}
+use Rattle.sheet.proofs.Sheet.{count-opened}
 use Rattle.sheet.specs.All.{allBelow}
 use Rattle.sheet.proofs.All.{all-more, loop-fails, loop-ends}
 use Rattle.sheet_rules.proofs.Fields.{holds-present, holds-absent}
@@ -41,14 +42,14 @@ enum-told c = search needs
 
 returns : tie.Need-returns Inv-loop μ-loop
 unfolding eachShape
-returns c = loop-fails _ _ _ _ (c .before .before .before .before .before .count-in .ensures _ (c .before .before .before .before .before .before .before .pre)) (c .before .before .before .loop-test .taken) (holds-absent _ _ (sym (c .before .before .read .ensures) ∙ c .enum-told .given .1))
+returns c = loop-fails _ _ _ _ (count-opened _ _ _ (c .before .before .before .before .before .count-in .ensures) _ (c .before .before .before .before .before .before .before .pre)) (c .before .before .before .loop-test .taken) (holds-absent _ _ (sym (c .before .before .read .ensures) ∙ c .enum-told .given .1))
 
 record-fits-requires : tie.Need-record-fits-requires Inv-loop μ-loop
 record-fits-requires c κs = search needs
 
 returns-2 : tie.Need-returns-2 Inv-loop μ-loop
 unfolding eachShape
-returns-2 c = loop-fails _ _ _ _ (c .before .before .before .before .before .before .before .before .count-in .ensures _ (c .before .before .before .before .before .before .before .before .before .before .pre)) (c .before .before .before .before .before .before .loop-test .taken) (holds-present _ _ _ (sym (c .before .before .before .before .before .read .ensures) ∙ c .before .before .before .r .given .1) ∙ sym (c .before .record-fits .ensures) ∙ not-true _ (c .if1 .taken))
+returns-2 c = loop-fails _ _ _ _ (count-opened _ _ _ (c .before .before .before .before .before .before .before .before .count-in .ensures) _ (c .before .before .before .before .before .before .before .before .before .before .pre)) (c .before .before .before .before .before .before .loop-test .taken) (holds-present _ _ _ (sym (c .before .before .before .before .before .read .ensures) ∙ c .before .before .before .r .given .1) ∙ sym (c .before .record-fits .ensures) ∙ not-true _ (c .if1 .taken))
 
 add-i : tie.Need-add-i Inv-loop μ-loop
 add-i c = search needs
@@ -61,7 +62,7 @@ loop-again c = (omega arith, all-more (c .before .before .before .before .before
 
 returns-3 : tie.Need-returns-3 Inv-loop μ-loop
 unfolding eachShape
-returns-3 c = loop-ends _ _ _ _ (c .before .before .count-in .ensures _ (c .before .before .before .before .pre)) (c .before .loop .inv .0) (c .loop-test .left) (c .before .loop .inv .1)
+returns-3 c = loop-ends _ _ _ _ (count-opened _ _ _ (c .before .before .count-in .ensures) _ (c .before .before .before .before .pre)) (c .before .loop .inv .0) (c .loop-test .left) (c .before .loop .inv .1)
 
 pub records-fit-spec : {M : Type 1} → statement M
 records-fit-spec =

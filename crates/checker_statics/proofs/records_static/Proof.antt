@@ -5,6 +5,7 @@ use mathlib.Core.List.{List}
 use Prim.Native.Nat.{ℕ, _-_, _≤_}
 use borrow.Author.Tests.{not-true, not-false}
 use borrow.Author.Needs.{needs}
+use Rattle.sheet.proofs.Sheet.{count-opened}
 use Rattle.sheet.specs.All.{allBelow}
 use Rattle.sheet.proofs.All.{all-more, loop-fails, loop-ends}
 use Rattle.sheet_rules.proofs.Fields.{holds-present, holds-absent}
@@ -42,14 +43,14 @@ enum-told c = search needs
 
 returns : tie.Need-returns Inv-loop μ-loop
 unfolding eachStatic
-returns c = (loop-fails _ _ _ _ (c .before .before .before .before .before .count-in .ensures _ (c .before .before .before .before .before .before .before .pre .0)) (c .before .before .before .loop-test .taken) (holds-absent _ _ (sym (c .before .before .read .ensures) ∙ c .enum-told .given .1)), c .before .before .before .before .loop .inv .2)
+returns c = (loop-fails _ _ _ _ (count-opened _ _ _ (c .before .before .before .before .before .count-in .ensures) _ (c .before .before .before .before .before .before .before .pre .0)) (c .before .before .before .loop-test .taken) (holds-absent _ _ (sym (c .before .before .read .ensures) ∙ c .enum-told .given .1)), c .before .before .before .before .loop .inv .2)
 
 record-static-requires : tie.Need-record-static-requires Inv-loop μ-loop
 record-static-requires c κs = (c .before .before .before .before .before .before .before .before .before .before .before .pre .0, c .before .before .before .before .before .before .before .before .loop .inv .2)
 
 returns-2 : tie.Need-returns-2 Inv-loop μ-loop
 unfolding eachStatic
-returns-2 c = (loop-fails _ _ _ _ (c .before .before .before .before .before .before .before .before .before .before .before .count-in .ensures _ (c .before .before .before .before .before .before .before .before .before .before .before .before .before .pre .0)) (c .before .before .before .before .before .before .before .before .before .loop-test .taken) (holds-present _ _ _ (sym (c .before .before .before .before .before .before .before .before .read .ensures) ∙ c .before .before .before .before .before .before .r .given .1) ∙ sym (c .before .record-static .ensures .0) ∙ not-true _ (c .if1 .taken)), c .before .record-static .ensures .1)
+returns-2 c = (loop-fails _ _ _ _ (count-opened _ _ _ (c .before .before .before .before .before .before .before .before .before .before .before .count-in .ensures) _ (c .before .before .before .before .before .before .before .before .before .before .before .before .before .pre .0)) (c .before .before .before .before .before .before .before .before .before .loop-test .taken) (holds-present _ _ _ (sym (c .before .before .before .before .before .before .before .before .read .ensures) ∙ c .before .before .before .before .before .before .r .given .1) ∙ sym (c .before .record-static .ensures .0) ∙ not-true _ (c .if1 .taken)), c .before .record-static .ensures .1)
 
 add-i : tie.Need-add-i Inv-loop μ-loop
 add-i c = search needs
@@ -62,7 +63,7 @@ loop-again c = (omega arith, all-more (c .before .before .before .before .before
 
 returns-3 : tie.Need-returns-3 Inv-loop μ-loop
 unfolding eachStatic
-returns-3 c = (loop-ends _ _ _ _ (c .before .before .count-in .ensures _ (c .before .before .before .before .pre .0)) (c .before .loop .inv .0) (c .loop-test .left) (c .before .loop .inv .1), c .before .loop .inv .2)
+returns-3 c = (loop-ends _ _ _ _ (count-opened _ _ _ (c .before .before .count-in .ensures) _ (c .before .before .before .before .pre .0)) (c .before .loop .inv .0) (c .loop-test .left) (c .before .loop .inv .1), c .before .loop .inv .2)
 
 pub records-static-spec : {M : Type 1} → statement M
 records-static-spec =

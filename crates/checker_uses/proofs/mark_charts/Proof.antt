@@ -2,7 +2,7 @@ use borrow.Author.Needs.{needs}
 use native.Mathlib.Omega.{arith}
 use Prim.Native.Nat.{_-_, _*_, _≤_}
 use mathlib.Core.Path.{_≡_}
-use Rattle.sheet.proofs.Sheet.{count-limit}
+use Rattle.sheet.proofs.Sheet.{count-limit, count-opened}
 use Rattle.sheet_rules.specs.Fields.{sumBelow}
 use Rattle.sheet_rules.specs.Uses.{overCharts}
 use Rattle.checker_pass.specs.Marks.{RootsMarked}
@@ -28,7 +28,7 @@ mark-chart-requires : tie.Need-mark-chart-requires Inv-loop μ-loop
 mark-chart-requires c κs = (c .before .before .before .before .before .before .pre .0, omega (arith, c .before .before .loop .inv .3 .kept .long, c .before .before .before .before .before .before .pre .1 .0))
 
 add-gone : tie.Need-add-gone Inv-loop μ-loop
-add-gone c = omega (arith, c .before .before .before .before .before .loop .inv .1, c .before .before .mark-chart .ensures .1, count-limit (c .before .before .before .before .before .before .before .before .before .args .sheet .now) 4, c .before .before .before .before .before .before .count-in .ensures (c .before .before .before .before .before .before .before .before .before .args .sheet .now) (c .before .before .before .before .before .before .before .before .before .pre .0))
+add-gone c = omega (arith, c .before .before .before .before .before .loop .inv .1, c .before .before .mark-chart .ensures .1, count-limit (c .before .before .before .before .before .before .before .before .before .args .sheet .now) 4, count-opened _ _ _ (c .before .before .before .before .before .before .count-in .ensures) (c .before .before .before .before .before .before .before .before .before .args .sheet .now) (c .before .before .before .before .before .before .before .before .before .pre .0))
 
 add-i : tie.Need-add-i Inv-loop μ-loop
 add-i c = search needs
@@ -44,7 +44,7 @@ same-length c = c .before .loop .inv .3 .kept .long
 
 returns : tie.Need-returns Inv-loop μ-loop
 unfolding overCharts
-returns c = (count-end _ (c .before .loop .i) _ _ (omega (arith, c .before .before .count-in .ensures (c .before .before .before .before .before .args .sheet .now) (c .before .before .before .before .before .pre .0))) (c .before .loop .inv .2), omega (arith, c .before .loop .inv .1, count-limit (c .before .before .before .before .before .args .sheet .now) 4, c .before .before .count-in .ensures (c .before .before .before .before .before .args .sheet .now) (c .before .before .before .before .before .pre .0)), roots-end _ _ _ _ _ _ (omega (arith, c .before .before .count-in .ensures (c .before .before .before .before .before .args .sheet .now) (c .before .before .before .before .before .pre .0))) (c .before .loop .inv .3))
+returns c = (count-end _ (c .before .loop .i) _ _ (omega (arith, count-opened _ _ _ (c .before .before .count-in .ensures) (c .before .before .before .before .before .args .sheet .now) (c .before .before .before .before .before .pre .0))) (c .before .loop .inv .2), omega (arith, c .before .loop .inv .1, count-limit (c .before .before .before .before .before .args .sheet .now) 4, count-opened _ _ _ (c .before .before .count-in .ensures) (c .before .before .before .before .before .args .sheet .now) (c .before .before .before .before .before .pre .0)), roots-end _ _ _ _ _ _ (omega (arith, count-opened _ _ _ (c .before .before .count-in .ensures) (c .before .before .before .before .before .args .sheet .now) (c .before .before .before .before .before .pre .0))) (c .before .loop .inv .3))
 
 pub mark-charts-spec : {M : Type 1} → statement M
 mark-charts-spec =

@@ -3,7 +3,7 @@ use native.Mathlib.Omega.{arith}
 use Prim.Native.Nat.{_+_, _-_, _≤_}
 use mathlib.Core.Path.{_≡_, refl, _∙_}
 use Rattle.sheet.specs.Sheet.{countOf}
-use Rattle.sheet.proofs.Sheet.{count-limit, record-present}
+use Rattle.sheet.proofs.Sheet.{count-limit, record-present, count-opened}
 use Rattle.sheet_rules.specs.Uses.{goneOver}
 use Rattle.sheet_rules.proofs.Fields.{number-present}
 use Rattle.checker_pass.specs.Marks.{Kept}
@@ -23,20 +23,20 @@ count-in-requires : tie.Need-count-in-requires Inv-loop μ-loop
 count-in-requires c κs = search needs
 
 clear-requires : tie.Need-clear-requires Inv-loop μ-loop
-clear-requires c κs = omega (arith, c .before .count-in .ensures (c .before .before .before .before .args .sheet .now) (c .before .before .before .before .pre .0), c .before .before .before .before .pre .1)
+clear-requires c κs = omega (arith, count-opened _ _ _ (c .before .count-in .ensures) (c .before .before .before .before .args .sheet .now) (c .before .before .before .before .pre .0), c .before .before .before .before .pre .1)
 
 mark-charts-requires : tie.Need-mark-charts-requires Inv-loop μ-loop
-mark-charts-requires c κs = (c .before .before .before .before .before .before .before .before .pre .0, (omega (arith, c .before .before .before .before .before .count-in .ensures (c .before .before .before .before .before .before .before .before .args .sheet .now) (c .before .before .before .before .before .before .before .before .pre .0), c .before .before .before .before .before .before .before .before .pre .1, c .before .before .before .clear .ensures .kept .long), c .before .before .before .clear .ensures .inside))
+mark-charts-requires c κs = (c .before .before .before .before .before .before .before .before .pre .0, (omega (arith, count-opened _ _ _ (c .before .before .before .before .before .count-in .ensures) (c .before .before .before .before .before .before .before .before .args .sheet .now) (c .before .before .before .before .before .before .before .before .pre .0), c .before .before .before .before .before .before .before .before .pre .1, c .before .before .before .clear .ensures .kept .long), c .before .before .before .clear .ensures .inside))
 
 mark-bindings-requires : tie.Need-mark-bindings-requires Inv-loop μ-loop
-mark-bindings-requires c κs = (c .before .before .before .before .before .before .before .before .before .before .before .before .pre .0, omega (arith, c .before .before .before .before .before .before .before .before .before .count-in .ensures (c .before .before .before .before .before .before .before .before .before .before .before .before .args .sheet .now) (c .before .before .before .before .before .before .before .before .before .before .before .before .pre .0), c .before .before .before .before .before .before .before .before .before .before .before .before .pre .1, c .before .before .before .before .before .before .before .clear .ensures .kept .long, c .before .before .before .mark-charts .ensures .2 .kept .long))
+mark-bindings-requires c κs = (c .before .before .before .before .before .before .before .before .before .before .before .before .pre .0, omega (arith, count-opened _ _ _ (c .before .before .before .before .before .before .before .before .before .count-in .ensures) (c .before .before .before .before .before .before .before .before .before .before .before .before .args .sheet .now) (c .before .before .before .before .before .before .before .before .before .before .before .before .pre .0), c .before .before .before .before .before .before .before .before .before .before .before .before .pre .1, c .before .before .before .before .before .before .before .clear .ensures .kept .long, c .before .before .before .mark-charts .ensures .2 .kept .long))
 
 add-gone : tie.Need-add-gone Inv-loop μ-loop
 add-gone c = omega (arith, c .before .before .before .before .before .before .mark-charts .ensures .1, c .before .before .mark-bindings .ensures .0, count-limit (c .before .before .before .before .before .before .before .before .before .before .before .before .before .before .before .args .sheet .now) 7)
 
 loop-holds : tie.Need-loop-holds Inv-loop μ-loop
 unfolding goneOver
-loop-holds c = (omega (arith, c .before .before .before .before .before .before .mark-charts .ensures .0, c .before .before .mark-bindings .ensures .0, c .before .before .before .before .before .before .before .before .before .before .before .before .count-in .ensures (c .before .before .before .before .before .before .before .before .before .before .before .before .before .before .before .args .sheet .now) (c .before .before .before .before .before .before .before .before .before .before .before .before .before .before .before .pre .0)), omega (arith, c .before .before .before .before .before .before .mark-charts .ensures .1, c .before .before .mark-bindings .ensures .0, count-limit (c .before .before .before .before .before .before .before .before .before .before .before .before .before .before .before .args .sheet .now) 7, count-limit (c .before .before .before .before .before .before .before .before .before .before .before .before .before .before .before .args .sheet .now) 6, c .before .before .before .before .before .before .before .before .before .before .before .before .count-in .ensures (c .before .before .before .before .before .before .before .before .before .before .before .before .before .before .before .args .sheet .now) (c .before .before .before .before .before .before .before .before .before .before .before .before .before .before .before .pre .0)), kept-all _ _, going-start _ _ _ (c .before .before .before .before .before .before .before .before .before .before .before .before .count-in .ensures (c .before .before .before .before .before .before .before .before .before .before .before .before .before .before .before .args .sheet .now) (c .before .before .before .before .before .before .before .before .before .before .before .before .before .before .before .pre .0)) (agreed-start _ _ _ _ _ _ (c .before .before .before .before .before .before .before .before .before .before .before .before .count-in .ensures (c .before .before .before .before .before .before .before .before .before .before .before .before .before .before .before .args .sheet .now) (c .before .before .before .before .before .before .before .before .before .before .before .before .before .before .before .pre .0)) refl (c .before .before .before .before .before .before .mark-charts .ensures .2) (c .before .before .mark-bindings .ensures .1)))
+loop-holds c = (omega (arith, c .before .before .before .before .before .before .mark-charts .ensures .0, c .before .before .mark-bindings .ensures .0, count-opened _ _ _ (c .before .before .before .before .before .before .before .before .before .before .before .before .count-in .ensures) (c .before .before .before .before .before .before .before .before .before .before .before .before .before .before .before .args .sheet .now) (c .before .before .before .before .before .before .before .before .before .before .before .before .before .before .before .pre .0)), omega (arith, c .before .before .before .before .before .before .mark-charts .ensures .1, c .before .before .mark-bindings .ensures .0, count-limit (c .before .before .before .before .before .before .before .before .before .before .before .before .before .before .before .args .sheet .now) 7, count-limit (c .before .before .before .before .before .before .before .before .before .before .before .before .before .before .before .args .sheet .now) 6, count-opened _ _ _ (c .before .before .before .before .before .before .before .before .before .before .before .before .count-in .ensures) (c .before .before .before .before .before .before .before .before .before .before .before .before .before .before .before .args .sheet .now) (c .before .before .before .before .before .before .before .before .before .before .before .before .before .before .before .pre .0)), kept-all _ _, going-start _ _ _ (count-opened _ _ _ (c .before .before .before .before .before .before .before .before .before .before .before .before .count-in .ensures) (c .before .before .before .before .before .before .before .before .before .before .before .before .before .before .before .args .sheet .now) (c .before .before .before .before .before .before .before .before .before .before .before .before .before .before .before .pre .0)) (agreed-start _ _ _ _ _ _ (count-opened _ _ _ (c .before .before .before .before .before .before .before .before .before .before .before .before .count-in .ensures) (c .before .before .before .before .before .before .before .before .before .before .before .before .before .before .before .args .sheet .now) (c .before .before .before .before .before .before .before .before .before .before .before .before .before .before .before .pre .0)) refl (c .before .before .before .before .before .before .mark-charts .ensures .2) (c .before .before .mark-bindings .ensures .1)))
 
 sub-n : tie.Need-sub-n Inv-loop μ-loop
 sub-n c = search needs
@@ -72,7 +72,7 @@ same-length : tie.Need-same-length Inv-loop μ-loop
 same-length c = c .before .loop .inv .2 .long ∙ c .before .before .before .before .mark-bindings .ensures .1 .kept .long ∙ c .before .before .before .before .before .before .before .before .mark-charts .ensures .2 .kept .long ∙ c .before .before .before .before .before .before .before .before .before .before .before .before .clear .ensures .kept .long
 
 returns : tie.Need-returns Inv-loop μ-loop
-returns c = test-gives _ _ _ _ _ _ (omega arith) (kept-then _ _ _ _ (kept-at _ _ _ _ (c .before .before .before .before .before .before .before .before .before .before .before .before .before .before .count-in .ensures (c .before .before .before .before .before .before .before .before .before .before .before .before .before .before .before .before .before .args .sheet .now) (c .before .before .before .before .before .before .before .before .before .before .before .before .before .before .before .before .before .pre .0)) (kept-then _ _ _ _ (c .before .before .before .before .before .before .before .before .before .before .before .before .clear .ensures .kept) (kept-then _ _ _ _ (c .before .before .before .before .before .before .before .before .mark-charts .ensures .2 .kept) (c .before .before .before .before .mark-bindings .ensures .1 .kept)))) (c .before .loop .inv .2)) (c .before .loop .inv .3) (c .before .loop .inv .0)
+returns c = test-gives _ _ _ _ _ _ (omega arith) (kept-then _ _ _ _ (kept-at _ _ _ _ (count-opened _ _ _ (c .before .before .before .before .before .before .before .before .before .before .before .before .before .before .count-in .ensures) (c .before .before .before .before .before .before .before .before .before .before .before .before .before .before .before .before .before .args .sheet .now) (c .before .before .before .before .before .before .before .before .before .before .before .before .before .before .before .before .before .pre .0)) (kept-then _ _ _ _ (c .before .before .before .before .before .before .before .before .before .before .before .before .clear .ensures .kept) (kept-then _ _ _ _ (c .before .before .before .before .before .before .before .before .mark-charts .ensures .2 .kept) (c .before .before .before .before .mark-bindings .ensures .1 .kept)))) (c .before .loop .inv .2)) (c .before .loop .inv .3) (c .before .loop .inv .0)
 
 pub used-once-spec : {M : Type 1} → statement M
 used-once-spec =

@@ -1,5 +1,6 @@
 use native.Mathlib.Omega.{arith}
 use borrow.Author.Needs.{needs}
+use Rattle.sheet.proofs.Sheet.{count-opened}
 use Rattle.sheet.proofs.All.{first-fails, rest-fails, first-holds}
 use Rattle.machine.specs.State.{wordOf}
 use Rattle.machine.specs.Valid.{nameFits}
@@ -18,7 +19,7 @@ below-at-requires c κs = search needs
 
 returns : tie.Need-returns
 unfolding nameFits
-returns c = first-fails _ _ (no (below-same _ _ _ _ (c .before .below-at .ensures) (c .before .before .count-in .ensures _ (c .before .before .before .before .pre .0))) (c .if1 .taken))
+returns c = first-fails _ _ (no (below-same _ _ _ _ (c .before .below-at .ensures) (count-opened _ _ _ (c .before .before .count-in .ensures) _ (c .before .before .before .before .pre .0))) (c .if1 .taken))
 
 number-at-requires : tie.Need-number-at-requires
 number-at-requires c κs = (omega arith, below-from _ _ (so (c .before .below-at .ensures) (c .if1 .left)))
@@ -41,7 +42,7 @@ data-fit-requires c κs = search needs
 
 returns-3 : tie.Need-returns-3
 unfolding nameFits
-returns-3 c = first-holds _ _ _ (so (below-same _ _ _ _ (c .before .before .before .before .before .before .below-at .ensures) (c .before .before .before .before .before .before .before .count-in .ensures _ (c .before .before .before .before .before .before .before .before .before .pre .0))) (c .before .before .before .before .before .if1 .left)) (first-holds _ _ _ (so (name-class _ _ (wordOf (c .before .before .before .before .before .before .before .before .before .args .st .now) (c .before .before .before .before .before .before .before .before .before .args .at)) _ (c .before .before .before .before .number-at .ensures) _ (c .before .before .before .has-class .ensures)) (c .before .before .if2 .left)) (name-data _ _ (wordOf (c .before .before .before .before .before .before .before .before .before .args .st .now) (c .before .before .before .before .before .before .before .before .before .args .at)) _ (c .before .before .before .before .number-at .ensures) _ _ (c .before .name-range .ensures .0) (c .data-fit .ensures)))
+returns-3 c = first-holds _ _ _ (so (below-same _ _ _ _ (c .before .before .before .before .before .before .below-at .ensures) (count-opened _ _ _ (c .before .before .before .before .before .before .before .count-in .ensures) _ (c .before .before .before .before .before .before .before .before .before .pre .0))) (c .before .before .before .before .before .if1 .left)) (first-holds _ _ _ (so (name-class _ _ (wordOf (c .before .before .before .before .before .before .before .before .before .args .st .now) (c .before .before .before .before .before .before .before .before .before .args .at)) _ (c .before .before .before .before .number-at .ensures) _ (c .before .before .before .has-class .ensures)) (c .before .before .if2 .left)) (name-data _ _ (wordOf (c .before .before .before .before .before .before .before .before .before .args .st .now) (c .before .before .before .before .before .before .before .before .before .args .at)) _ (c .before .before .before .before .number-at .ensures) _ _ (c .before .name-range .ensures .0) (c .data-fit .ensures)))
 
 pub name-fits-spec : {M : Type 1} → statement M
 name-fits-spec =

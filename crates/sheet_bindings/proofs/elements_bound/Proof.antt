@@ -3,7 +3,7 @@ use mathlib.Core.Path.{_≡_, sym}
 use Prim.Native.Nat.{_+_, _-_, _≤_}
 use borrow.Author.Needs.{needs}
 use Rattle.sheet.specs.Sheet.{countOf}
-use Rattle.sheet.proofs.Sheet.{count-limit}
+use Rattle.sheet.proofs.Sheet.{count-limit, count-opened}
 use Rattle.sheet_rules.proofs.Bindings.{Walk, walk-begins, walk-on, walk-ends, behind-near}
 use Rattle.sheet_bindings.proofs.elements_bound.Statement.{statement}
 use Rattle.sheet_bindings.proofs.elements_bound.Tie as tie
@@ -18,7 +18,7 @@ count-in-requires : tie.Need-count-in-requires Inv-loop μ-loop
 count-in-requires c κs = search needs
 
 loop-holds : tie.Need-loop-holds Inv-loop μ-loop
-loop-holds c = (c .count-in .ensures _ (c .before .before .pre), omega arith, omega arith, walk-begins _)
+loop-holds c = (count-opened _ _ _ (c .count-in .ensures) _ (c .before .before .pre), omega arith, omega arith, walk-begins _)
 
 record-behind-requires : tie.Need-record-behind-requires Inv-loop μ-loop
 record-behind-requires c κs = (c .before .before .before .before .pre, omega (arith, c .before .loop .inv .0, c .before .loop .inv .2, count-limit (c .before .before .before .before .args .sheet .now) 7))

@@ -1,5 +1,6 @@
 use mathlib.Core.Path.{sym, ap, _∙_}
 use lib.Dec.{ltb}
+use Rattle.sheet.proofs.Sheet.{count-opened}
 use Rattle.sheet_rules.specs.Shape.{typeExists, indexExists}
 use Rattle.sheet_indices.proofs.Laws.{index-none, index-enumerated, index-number, index-past, type-there, low-exists}
 use borrow.Author.Needs.{needs}
@@ -21,7 +22,7 @@ returns-2 c = sym (ap (indexExists _) (index-none _ _ (c .before .if1 .left) (c 
 
 returns-3 : tie.Need-returns-3
 unfolding indexExists
-returns-3 c = ap (ltb _) (c .count-in .ensures _ (c .before .before .before .before .before .pre)) ∙ sym (ap (indexExists _) (index-enumerated _ _ (c .before .before .if2 .left) (c .before .if3 .taken)) ∙ type-there _ _ (c .before .before .if2 .left))
+returns-3 c = ap (ltb _) (count-opened _ _ _ (c .count-in .ensures) _ (c .before .before .before .before .before .pre)) ∙ sym (ap (indexExists _) (index-enumerated _ _ (c .before .before .if2 .left) (c .before .if3 .taken)) ∙ type-there _ _ (c .before .before .if2 .left))
 
 returns-4 : tie.Need-returns-4
 unfolding indexExists typeExists
