@@ -91,7 +91,7 @@ unfoldable pub alone : Found → Found
 alone (Present b) = elim (eqb (bodyParameters b .count) 0) [ true ↦ Present b | false ↦ Absent ]
 alone Absent = Absent
 
--- an event's body: "6 to 10", and 11 and 12 "with the same remains", leave a copy of the old state
+-- an event's body: 6 to 12 leave a copy of the old state
 unfoldable pub eventEndWithin : ℕ → List ℤ → Ran → List ℤ → Outcome
 eventEndWithin limit old (Done l) st = ended (answer 0 (limit - l) Nothing) st
 eventEndWithin limit old (Refused n l) st = ended (answer n (limit - l) Nothing) old
@@ -138,7 +138,7 @@ elementThere s e = holds (chartOf s e) (λ c. allBelow (chartVariables c .count)
 unfoldable pub elementsThere : List ℕ → Bool
 elementsThere s = hasHead s and allBelow (elementsOf s) (λ i. elementThere s (externalsOf s + i))
 
--- a body of start ended after earlier ones took k steps; "after 6 to 10 its state is all zeros"
+-- a body of start ended after earlier ones took k steps; after 6 to 12 "its state is all zeros"
 unfoldable pub startNextWithin : List ℕ → ℕ → ℕ → Ran → List ℤ → (ℕ → List ℤ → Outcome) → Outcome
 startNextWithin s limit k (Done l) st K = K (k + (limit - l)) st
 startNextWithin s limit k (Refused n l) st K = ended (answer n (k + (limit - l)) Nothing) (replicate (stateLength s) (pos 0))
@@ -327,7 +327,7 @@ happensAsWithin s limit st ev kind.noKind = stuck
 unfoldable pub happensWithin : List ℕ → ℕ → List ℤ → List ℤ → Outcome
 happensWithin s limit st ev = happensAsWithin s limit st ev (kindOf (wordOf ev 0))
 
--- ---- the answers of start and event, with what the result state then holds: "1 to 5 in that order; 6 to 10, the first met"
+-- ---- the answers of start and event, with what the result state then holds: "1 to 5 in that order"; 6 to 12, "the first met"
 
 abbrev pub turnedDown : ℕ → List ℤ → Outcome
 turnedDown n result = ended (answer n 0 Nothing) result

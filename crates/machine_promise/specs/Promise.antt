@@ -40,8 +40,8 @@ unfoldable pub reactionsTo : List ℕ → ℕ → ℕ → ℕ
 reactionsTo s e n = numberOr0 (chartOf s e) (λ c. countBelow (chartBodies c .count) (λ j. holds (recordOf s bodies (chartBodies c .first + j)) (reactsTo n)))
 
 -- the first word of clock j of element e, whose chart is c
-abbrev pub clockWord : List ℕ → ℕ → Record → ℕ → ℕ
-clockWord s e c j = cellOf s e c j 0
+abbrev pub clockAt : List ℕ → ℕ → Record → ℕ → ℕ
+clockAt s e c j = cellOf s e c j 0
 
 -- variable j of element e, whose chart is c, is a Timeout or a Cycler, and runs
 pub record Armed (s : List ℕ) (st : List ℤ) (e : ℕ) (c : Record) (j : ℕ) : Type 0 where
@@ -49,11 +49,11 @@ pub record Armed (s : List ℕ) (st : List ℤ) (e : ℕ) (c : Record) (j : ℕ)
   pub variable : j < chartVariables c .count
   pub clock : isClock (typeAt s (chartVariables c .first + j)) ≡ true
   pub noTimer : eqb (typeAt s (chartVariables c .first + j)) Timer-type ≡ false
-  pub runs : isZero (wordOf st (clockWord s e c j)) ≡ false
+  pub runs : isZero (wordOf st (clockAt s e c j)) ≡ false
 
 -- its name is the fourth word of its cell
 abbrev pub armedName : List ℕ → List ℤ → ℕ → Record → ℕ → ℕ
-armedName s st e c j = natAbs (wordOf st (clockWord s e c j + 3))
+armedName s st e c j = natAbs (wordOf st (clockAt s e c j + 3))
 
 pub record OneReaction (s : List ℕ) (st : List ℤ) : Type 0 where
   pub waits : (j : ℕ) → j < waiting st → isInternal (telegramOf s st j) ≡ true → reactionsTo s (natAbs (telegramOf s st j .receiver)) (natAbs (telegramOf s st j .name)) ≡ 1

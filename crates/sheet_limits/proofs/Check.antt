@@ -8,7 +8,7 @@ use Rattle.sheet.specs.All.{_and_, allBelow}
 use Rattle.sheet.specs.Names.{head, charts}
 use Rattle.sheet_rules.specs.declared.Checked.the-variants.{Passed, Shape, Static}
 use Rattle.sheet_rules.specs.Fields.{holds}
-use Rattle.sheet_rules.specs.Check.{nodesShape, sectionsShape, shapeWith, shape, otherwiseInShape, checkOf, checkCall}
+use Rattle.sheet_rules.specs.Check.{nodesShape, sectionsShape, shapeWith, shape, checkOf, checkCall}
 use Rattle.sheet_limits.specs.ButLimit.{ButLimit}
 use Rattle.sheet_limits.proofs.Records.{same-charts, same-countOf, same-directoryRight}
 use Rattle.sheet_limits.proofs.Shape.{same-bodiesCovered, same-cellsOf, same-elementsBound, same-sectionShape, same-treesShape}
@@ -39,10 +39,6 @@ module _ {s s′ : List ℕ} (h : ButLimit s s′) where
   pub same-shape : shape s ≡ shape s′
   unfolding shape
   same-shape = λ q. same-shapeWith (same-usedOnce h q) q
-
-  pub same-otherwiseInShape : otherwiseInShape s ≡ otherwiseInShape s′
-  unfolding otherwiseInShape
-  same-otherwiseInShape = λ q. same-shapeWith true q
 
   pub same-checkOf : checkOf s ≡ checkOf s′
   unfolding checkOf

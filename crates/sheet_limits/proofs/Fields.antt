@@ -1,12 +1,12 @@
 -- Fields and ranges are the same on both sheets. Here and behind, a law has the body of its definition, read on the way from one sheet to the other.
-use Prim.Native.Nat.{ℕ, suc, _+_, _-_}
+use Prim.Native.Nat.{ℕ, _+_, _-_}
 use mathlib.Core.List.{List}
 use mathlib.Core.Path.{_≡_, refl}
 use lib.Dec.{leb}
 use Rattle.sheet.specs.Names.{components, externals, ports, size, declaredType}
-use Rattle.sheet_rules.specs.Fields.{fieldOf, fieldAt, holds, numberOr0, componentsOf, externalsOf, portsOf, membersOf, elementsOf, declaredSo, typeAt, inSection}
+use Rattle.sheet_rules.specs.Fields.{holds, numberOr0, componentsOf, externalsOf, portsOf, membersOf, elementsOf, declaredSo, typeAt, inSection}
 use Rattle.sheet_limits.specs.ButLimit.{ButLimit}
-use Rattle.sheet_limits.proofs.Records.{same-countOf, same-declarations, same-enumeratedTypes, same-head-number, same-recordOf}
+use Rattle.sheet_limits.proofs.Records.{same-countOf, same-declarations, same-enumeratedTypes, same-head-number}
 
 module _ {s s′ : List ℕ} (h : ButLimit s s′) where
   pub same-componentsOf : componentsOf s ≡ componentsOf s′
@@ -20,11 +20,6 @@ module _ {s s′ : List ℕ} (h : ButLimit s s′) where
   pub same-portsOf : portsOf s ≡ portsOf s′
   unfolding portsOf
   same-portsOf = same-head-number h ports (λ r. refl) 0
-
-  -- a field of any section but the head's
-  pub same-fieldAt : (k : ℕ) → fieldAt s (suc k) ≡ fieldAt s′ (suc k)
-  unfolding fieldAt
-  same-fieldAt k = λ q n i. numberOr0 (same-recordOf h k q n) (λ r. fieldOf r i)
 
   pub same-membersOf : membersOf s ≡ membersOf s′
   unfolding membersOf

@@ -6,11 +6,11 @@ use mathlib.Core.Path.{_≡_, refl}
 use lib.Dec.{ltb, eqb}
 use Rattle.sheet.specs.declared.Record.{Record}
 use Rattle.sheet.specs.All.{allBelow}
-use Rattle.sheet.specs.Names.{charts, nodes, bindings, chartParameters, chartBodies, root}
+use Rattle.sheet.specs.Names.{charts, nodes, chartParameters, chartBodies, root}
 use Rattle.sheet_rules.specs.Fields.{holds, numberOr0, oneIf, sumBelow, countBelow}
 use Rattle.sheet_rules.specs.Forms.{operandCount, operandAt}
 use Rattle.sheet_rules.specs.Bindings.{constantOf}
-use Rattle.sheet_rules.specs.Uses.{lowerOnly, standsStep, standsF, standsIn, overBodies, overCharts, overBindings, standsInBodies, homeBelow, homeOf, noChart, chartOr, homeChart, operandFields, operandUses, rootUses, constantUses, usesOf, usedOnce, bodiesHolding, isCall, callsInOneBody, goneOver}
+use Rattle.sheet_rules.specs.Uses.{lowerOnly, standsStep, standsF, standsIn, overBodies, overCharts, overBindings, standsInBodies, homeBelow, homeOf, noChart, chartOr, homeChart, operandFields, operandUses, rootUses, constantUses, usesOf, usedOnce}
 use Rattle.sheet_limits.specs.ButLimit.{ButLimit}
 use Rattle.sheet_limits.proofs.Forms.{same-operandsOf}
 use Rattle.sheet_limits.proofs.Records.{same-bodies, same-charts, same-countOf, same-nodes}
@@ -94,15 +94,3 @@ module _ {s s′ : List ℕ} (h : ButLimit s s′) where
   pub same-usedOnce : usedOnce s ≡ usedOnce s′
   unfolding usedOnce
   same-usedOnce = λ q. allBelow (same-countOf h q nodes) (λ n. eqb (same-usesOf q n) 1)
-
-  pub same-bodiesHolding : bodiesHolding s ≡ bodiesHolding s′
-  unfolding bodiesHolding
-  same-bodiesHolding = λ q n. same-overCharts q (λ c. same-overBodies q (λ b. oneIf (ltb 0 (same-standsIn q c n (root b)))) c)
-
-  pub same-callsInOneBody : callsInOneBody s ≡ callsInOneBody s′
-  unfolding callsInOneBody
-  same-callsInOneBody = λ q. allBelow (same-countOf h q nodes) (λ m. holds (same-nodes h q m) (λ r. elim (isCall r) [ true ↦ eqb (same-bodiesHolding q m) 1 | false ↦ true ]))
-
-  pub same-goneOver : goneOver s ≡ goneOver s′
-  unfolding goneOver
-  same-goneOver = λ q. same-overCharts q (same-overBodies q (λ b. 1)) + same-countOf h q nodes + same-countOf h q bindings

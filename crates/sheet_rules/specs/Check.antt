@@ -9,7 +9,7 @@ use Rattle.sheet.specs.Sheet.{countOf, directoryRight, recordOf}
 use Rattle.sheet_rules.specs.declared.Checked.{Checked}
 use Rattle.sheet_rules.specs.declared.Checked.the-variants.{Passed, Shape, Static}
 use Rattle.sheet_rules.specs.Fields.{holds}
-use Rattle.sheet_rules.specs.Shape.{sectionShape, bodiesCovered, elementsBound, cellsOf, treesShape}
+use Rattle.sheet_rules.specs.Shape.{mostCells, sectionShape, bodiesCovered, elementsBound, cellsOf, treesShape}
 use Rattle.sheet_rules.specs.Uses.{usedOnce}
 use Rattle.sheet_rules.specs.Static.{static}
 
@@ -28,7 +28,7 @@ shapeWith once s =
     and sectionsShape s
     and bodiesCovered s
     and elementsBound s
-    and leb (cellsOf s) 512
+    and leb (cellsOf s) mostCells
     and once
     and nodesShape s
 

@@ -14,6 +14,38 @@ use Rattle.sheet_rules.specs.Forms.{Form, literal, read, unary, binary, 
 use Rattle.sheet_rules.specs.Indices.{Index, plain, over, noIndex, indexOf, cellsBefore}
 use Rattle.sheet_rules.specs.Bindings.{constantsInRecord, chartBound, firstBinding, elementsBoundIn, constantBinding, constantOf}
 
+-- ---- limits, each in the paper's words where it is asked for
+
+abbrev pub mostComponents : ℕ
+mostComponents = 64
+
+abbrev pub mostPorts : ℕ
+mostPorts = 64
+
+abbrev pub mostMembers : ℕ
+mostMembers = 256
+
+abbrev pub mostData : ℕ
+mostData = 4
+
+abbrev pub mostParameters : ℕ
+mostParameters = 14
+
+abbrev pub mostVariables : ℕ
+mostVariables = 32
+
+abbrev pub mostBodyParameters : ℕ
+mostBodyParameters = 4
+
+abbrev pub mostBodyVariables : ℕ
+mostBodyVariables = 16
+
+abbrev pub mostLevels : ℕ
+mostLevels = 64
+
+abbrev pub mostCells : ℕ
+mostCells = 512
+
 -- a number of a record of section k
 abbrev exists : List ℕ → ℕ → ℕ → Bool
 exists s k n = ltb n (countOf s k)
@@ -21,12 +53,12 @@ exists s k n = ltb n (countOf s k)
 -- ---- 0 Head: components (up to 64), of them external (2 to f0), ports (2 to 64), step limit
 
 unfoldable pub headShape : Record → Bool
-headShape r = leb (components r) 64 and leb 2 (externals r) and leb (externals r) (components r) and leb 2 (ports r) and leb (ports r) 64 and zeroFrom 4 r
+headShape r = leb (components r) mostComponents and leb 2 (externals r) and leb (externals r) (components r) and leb 2 (ports r) and leb (ports r) mostPorts and zeroFrom 4 r
 
 -- ---- 1 Enumerated types: size 1 to 256, default member
 
 unfoldable pub enumeratedShape : Record → Bool
-enumeratedShape r = leb 1 (size r) and leb (size r) 256 and ltb (defaultMember r) (size r) and zeroFrom 2 r
+enumeratedShape r = leb 1 (size r) and leb (size r) mostMembers and ltb (defaultMember r) (size r) and zeroFrom 2 r
 
 -- ---- 2 Declarations: a type, an index. There is no type 7; 8 + k is enumerated type k
 
@@ -45,7 +77,7 @@ declarationShape s r = typeExists s (declaredType r) and indexExists s (indexOf 
 -- ---- 3 Telegram names: data (up to 4), class
 
 unfoldable pub nameShape : List ℕ → Record → Bool
-nameShape s r = inSection s declarations (dataOf r) and leb (dataOf r .count) 4 and leb (class r) 1 and zeroFrom 3 r
+nameShape s r = inSection s declarations (dataOf r) and leb (dataOf r .count) mostData and leb (class r) 1 and zeroFrom 3 r
 
 -- ---- 4 Charts: parameters (up to 14), variables (up to 32), bodies
 
@@ -57,9 +89,9 @@ bodiesUpTo s (suc k) = numberOr0 (recordOf s charts k) (λ c. chartBodies c .fir
 unfoldable pub chartShape : List ℕ → ℕ → Record → Bool
 chartShape s k r =
     inSection s declarations (chartParameters r)
-    and leb (chartParameters r .count) 14
+    and leb (chartParameters r .count) mostParameters
     and inSection s declarations (chartVariables r)
-    and leb (chartVariables r .count) 32
+    and leb (chartVariables r .count) mostVariables
     and eqb (chartBodies r .first) (bodiesUpTo s k)
     and zeroFrom 6 r
 
@@ -81,9 +113,9 @@ bodyShape s r =
     leb (role r) procedure
     and reactionShape s r
     and inSection s declarations (bodyParameters r)
-    and leb (bodyParameters r .count) 4
+    and leb (bodyParameters r .count) mostBodyParameters
     and inSection s declarations (bodyLocals r)
-    and leb (bodyParameters r .count + bodyLocals r .count) 16
+    and leb (bodyParameters r .count + bodyLocals r .count) mostBodyVariables
     and exists s nodes (root r)
 
 -- ---- 6 Nodes
@@ -145,7 +177,7 @@ module _ (s : List ℕ) (c b : Record) where
 
 -- the trees of the bodies of chart c
 unfoldable pub treesShape : List ℕ → Record → Bool
-treesShape s c = allBelow (chartBodies c .count) (λ j. holds (recordOf s bodies (chartBodies c .first + j)) (λ b. treeShape s c b 64 (root b)))
+treesShape s c = allBelow (chartBodies c .count) (λ j. holds (recordOf s bodies (chartBodies c .first + j)) (λ b. treeShape s c b mostLevels (root b)))
 
 -- ---- 7 Bindings: chart, one literal node per parameter, in one record or two for each bound element
 
@@ -178,7 +210,7 @@ bindingShape s k = holds (recordOf s bindings k) (λ r. holds (recordOf s charts
 unfoldable pub bindingsShape : List ℕ → Bool
 bindingsShape s = allBelow (elementsBoundIn s) (λ i. bindingShape s (firstBinding s i))
 
--- "The binding section has as many records as its charts need": it binds the components from f1 on
+-- "The rest are bound elements": the section binds the components from f1 on. That it has "as many records as its charts need" follows from the whole shape (`as-many-records`)
 unfoldable pub elementsBound : List ℕ → Bool
 elementsBound s = eqb (externalsOf s + elementsBoundIn s) (componentsOf s)
 
