@@ -15,8 +15,8 @@ use Rattle.machine.specs.Play.{limitOf}
 use Rattle.machine.specs.Lists.{played, playOf}
 use Rattle.machine_promise.specs.Promise.{OneOf, OneReaction}
 use Rattle.machine_claim.specs.Claim.{Call, eventsCalled, AllLent, Claim}
-use Rattle.machine_claim.proofs.Claim.{every-list}
-use Rattle.machine_claim.proofs.Machine.{some-engine}
+use Rattle.machine_claim.proofs.Claim.{Plays, claim-given}
+use Rattle.machine_claim.proofs.Machine.{machine, machine-start, machine-event}
 use Rattle.engine_answers.specs.Words.{eventsFrom, eventsIn, answersWords}
 use Rattle.engine_lists.specs.ListCall.{Listed, listed, unlisted, listOf}
 use Rattle.engine_demand.specs.Demand.{Demand, EveryPlay}
@@ -39,6 +39,12 @@ module _ (lent : List ℤ) where
   all-lent s l [] = tt
   all-lent s l (ev ∷ evs) = (l, all-lent s l evs)
 
+  -- the machine's own calls
+  all-played : (s : List ℕ) (evs : List (List ℤ)) → Plays machine s (callsOf evs)
+  unfolding callsOf
+  all-played s [] = tt
+  all-played s (ev ∷ evs) = (λ st o. machine-event s st lent ev, all-played s evs)
+
 events-count : (ws : List ℤ) (n i : ℕ) → length (eventsFrom ws n i) ≡ n
 unfolding eventsFrom
 events-count ws zero i = refl
@@ -58,7 +64,7 @@ answersIn : Listed → List ℤ
 answersIn (listed a st answers) = answers
 answersIn unlisted = []
 
-module _ (s : List ℕ) (events lent room : List ℤ) (c : Claim (some-engine .0) s lent (callsOf lent (eventsIn events))) (a : Answer) (st answers : List ℤ) where
+module _ (s : List ℕ) (events lent room : List ℤ) (c : Claim machine s lent (callsOf lent (eventsIn events))) (a : Answer) (st answers : List ℤ) where
   given-demand : listed a st answers ≡ listed (c .first) (c .last) (elim (eqb (c .first .number) 0) [ true ↦ answersWords (c .answers) | false ↦ room ]) → Demand s events room a st answers
   unfolding answerIn stateIn answersIn
   given-demand e =
@@ -88,5 +94,6 @@ module _ (s : List ℕ) (events lent room : List ℤ) (c : Claim (some-engine .0
 pub every-play : EveryPlay
 unfolding listOf
 every-play s events lent spare room ok l k u v a st answers e =
-    let c = every-list (some-engine .0) (some-engine .1) s ok lent l (callsOf lent (eventsIn events)) (all-lent lent s l (eventsIn events)) in
+    let calls = callsOf lent (eventsIn events) in
+    let c = claim-given machine s ok lent l (machine-start s lent) calls (all-lent lent s l (eventsIn events)) (all-played lent s (eventsIn events)) in
     given-demand s events lent room c a st answers (e ∙ whole-list s events lent spare room ok (stateLength s) refl l k u v ∙ ap (λ evs. listOf room (playOf s evs)) (sym (events-called lent (eventsIn events))) ∙ ap (listOf room) (c .machine))

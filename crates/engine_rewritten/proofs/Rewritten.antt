@@ -16,16 +16,18 @@ use Rattle.sheet_limits.proofs.Records.{itself}
 use Rattle.sheet_limits.proofs.Written.{with-limit, has-limit}
 use Rattle.sheet_limits.proofs.Check.{same-checkOf, same-checkCall}
 use Rattle.machine.specs.Play.{Outcome, ended, defaultLimit, writtenLimit, limitBy}
-use Rattle.machine.specs.Lists.{played, afterAnswer, goesOn}
+use Rattle.machine.specs.Lists.{Played, played, afterAnswer, goesOn}
 use Rattle.machine_passed.proofs.Records.{head-there}
 use Rattle.machine_limits.proofs.Limit.{limit-zero, limit-given}
 use Rattle.machine_limits.proofs.State.{same-stateLength}
 use Rattle.machine_limits.proofs.Calls.{same-startCallBy, same-eventCallBy, same-playOfBy}
-use Rattle.machine_claim.specs.Claim.{Returned, Engine, MeetsBy, Meets, Call, calledFrom, runOfEngine}
-use Rattle.machine_claim.proofs.Machine.{returnedOf, some-engine}
+use Rattle.machine_words.specs.Words.{Bytes, Words}
+use Rattle.machine_claim.specs.Claim.{Returned, Engine, MeetsBy, Meets, Call, AllWords, calledFrom, runOfEngine}
+use Rattle.machine_claim.proofs.Machine.{returnedOf, machine, machine-start, machine-event}
 use Rattle.engine_answers.specs.Words.{eventsIn}
 use Rattle.engine_lists.specs.ListCall.{turnedDown, wholeEvents, listOf, listCall, listCallBy}
 use Rattle.engine_rewritten.specs.Rewritten.{formerLimit, rewritten, EveryRewritten, SomeFormer}
+use Rattle.engine_rewritten.proofs.Words.{rewritten-bytes, start-words, event-words, goes-on-words}
 
 -- ---- the limits
 
@@ -44,23 +46,44 @@ module _ (s : List ℕ) where
 left-same : (r r′ : Returned) (w w′ : Outcome) → ended (r .answer) (r .state) ≡ w → ended (r′ .answer) (r′ .state) ≡ w′ → w ≡ w′ → r ≡ r′
 left-same r r′ w w′ e e′ same = ap returnedOf (e ∙ same ∙ sym e′)
 
-module _ (before today : Engine) (m : MeetsBy formerLimit before) (n : Meets today) (s : List ℕ) (z : writtenLimit s ≡ 0) where
-  start-kept : before .start s ≡ today .start (rewritten s)
-  start-kept = λ q lent. left-same (before .start s lent) (today .start (rewritten s) lent) _ _ (m .start s lent) (n .start (rewritten s) lent) (λ q. same-startCallBy (alike s) formerLimit defaultLimit (limits s z) q lent) q
+module _ (before today : Engine) (m : MeetsBy formerLimit before) (n : Meets today) (s : List ℕ) (y : Bytes s) (z : writtenLimit s ≡ 0) where
+  start-kept : (lent : List ℤ) → Words lent → before .start s lent ≡ today .start (rewritten s) lent
+  start-kept lent v =
+      left-same (before .start s lent) (today .start (rewritten s) lent) _ _ (m .start s y lent v) (n .start (rewritten s) (rewritten-bytes s y) lent v)
+      (λ q. same-startCallBy (alike s) formerLimit defaultLimit (limits s z) q lent)
 
-  event-kept : before .event s ≡ today .event (rewritten s)
-  event-kept = λ q old lent ev. left-same (before .event s old lent ev) (today .event (rewritten s) old lent ev) _ _ (m .event s old lent ev) (n .event (rewritten s) old lent ev) (λ q. same-eventCallBy (alike s) formerLimit defaultLimit (limits s z) q old lent ev) q
+  event-kept : (old lent ev : List ℤ) → Words old → Words lent → Words ev → before .event s old lent ev ≡ today .event (rewritten s) old lent ev
+  event-kept old lent ev u v w =
+      left-same (before .event s old lent ev) (today .event (rewritten s) old lent ev) _ _ (m .event s y old lent ev u v w) (n .event (rewritten s) (rewritten-bytes s y) old lent ev u v w)
+      (λ q. same-eventCallBy (alike s) formerLimit defaultLimit (limits s z) q old lent ev)
 
   -- ---- a list
 
-  calls-kept : (calls : List Call) (st : List ℤ) → calledFrom before s st calls ≡ calledFrom today (rewritten s) st calls
+  calls-kept : (calls : List Call) → AllWords calls → (st : List ℤ) → Words st → calledFrom before s st calls ≡ calledFrom today (rewritten s) st calls
   unfolding calledFrom
-  calls-kept [] st = refl
-  calls-kept (c ∷ calls) st = λ q. let r = event-kept q st (c .lent) (c .words) in afterAnswer (r .answer) (calls-kept calls (goesOn (r .answer) st (r .state)) q)
+  calls-kept [] ws st u = refl
+  calls-kept (c ∷ calls) ws st u =
+      let r = today .event (rewritten s) st (c .lent) (c .words) in
+      let gives = n .event (rewritten s) (rewritten-bytes s y) st (c .lent) (c .words) u (ws .1) (ws .0) in
+      let on = goes-on-words (r .answer) st (r .state) u (event-words (rewritten s) st (c .lent) (c .words) (r .answer) (r .state) gives) in
+      ap (λ r. afterAnswer (r .answer) (calledFrom before s (goesOn (r .answer) st (r .state)) calls)) (event-kept st (c .lent) (c .words) u (ws .1) (ws .0))
+      ∙ ap (afterAnswer (r .answer)) (calls-kept calls (ws .2) (goesOn (r .answer) st (r .state)) on)
 
-  run-kept : (lent : List ℤ) (calls : List Call) → runOfEngine before s lent calls ≡ runOfEngine today (rewritten s) lent calls
+  run-kept : (lent : List ℤ) → Words lent → (calls : List Call) → AllWords calls → runOfEngine before s lent calls ≡ runOfEngine today (rewritten s) lent calls
   unfolding runOfEngine
-  run-kept lent calls = λ q. let r = start-kept q lent in afterAnswer (r .answer) (elim (eqb (r .answer .number) 0) [ true ↦ calls-kept calls (r .state) q | false ↦ played [] (r .state) ])
+  run-kept lent v calls ws =
+      ap (λ r. afterAnswer (r .answer) (elim (eqb (r .answer .number) 0) as (λ b. Played) [ true ↦ calledFrom before s (r .state) calls | false ↦ played [] (r .state) ])) (start-kept lent v)
+      ∙ ap (afterAnswer (r .answer)) (go (eqb (r .answer .number) 0) refl)
+    where
+      r : Returned
+      r = today .start (rewritten s) lent
+
+      after : Bool → Played → Played
+      after b p = elim b [ true ↦ p | false ↦ played [] (r .state) ]
+
+      go : (b : Bool) → eqb (r .answer .number) 0 ≡ b → after b (calledFrom before s (r .state) calls) ≡ after b (calledFrom today (rewritten s) (r .state) calls)
+      go true q = calls-kept calls ws (r .state) (start-words (rewritten s) lent (r .answer) (r .state) (n .start (rewritten s) (rewritten-bytes s y) lent v) (eqb-true _ _ q))
+      go false q = refl
 
   play-kept : (events lent spare room : List ℤ) → listCallBy formerLimit s events lent spare room ≡ listCall (rewritten s) events lent spare room
   unfolding listCallBy
@@ -75,12 +98,12 @@ module _ (before today : Engine) (m : MeetsBy formerLimit before) (n : Meets tod
       ]
 
 pub every-rewritten : EveryRewritten
-every-rewritten before today m n s z = record {
+every-rewritten before today m n s y z = record {
   check = same-checkCall (alike s);
-  start = λ lent q. start-kept before today m n s z q lent;
-  event = λ old lent ev q. event-kept before today m n s z q old lent ev;
-  list = run-kept before today m n s z;
-  play = play-kept before today m n s z;
+  start = start-kept before today m n s y z;
+  event = event-kept before today m n s y z;
+  list = run-kept before today m n s y z;
+  play = play-kept before today m n s y z;
 }
 
 -- ---- an engine of before: the one of today, on sheets whose 0 is rewritten
@@ -106,12 +129,10 @@ module _ (s : List ℕ) where
       go false e = limit-given formerLimit s (eqb-false _ _ e) ∙ sym (limit-given defaultLimit s (eqb-false _ _ e))
 
 pub some-former : SomeFormer
-some-former =
-    let e = some-engine .0 in
-    let m = some-engine .1 in (
-      record { start = λ s lent. e .start (reformed s) lent; event = λ s old lent ev. e .event (reformed s) old lent ev },
-      record {
-        start = λ s lent. m .start (reformed s) lent ∙ sym (λ q. same-startCallBy (reformed-alike s) formerLimit defaultLimit (reformed-limits s) q lent);
-        event = λ s old lent ev. m .event (reformed s) old lent ev ∙ sym (λ q. same-eventCallBy (reformed-alike s) formerLimit defaultLimit (reformed-limits s) q old lent ev);
-      },
-    )
+some-former = (
+  record { start = λ s lent. machine .start (reformed s) lent; event = λ s old lent ev. machine .event (reformed s) old lent ev },
+  record {
+    start = λ s y lent v. machine-start (reformed s) lent ∙ sym (λ q. same-startCallBy (reformed-alike s) formerLimit defaultLimit (reformed-limits s) q lent);
+    event = λ s y old lent ev u v w. machine-event (reformed s) old lent ev ∙ sym (λ q. same-eventCallBy (reformed-alike s) formerLimit defaultLimit (reformed-limits s) q old lent ev);
+  },
+)

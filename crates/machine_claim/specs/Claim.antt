@@ -14,6 +14,7 @@ use Rattle.machine.specs.Valid.{OfSheet}
 use Rattle.machine.specs.Play.{defaultLimit, limitOf}
 use Rattle.sheet_rules.specs.Check.{checkOf}
 use Rattle.machine.specs.Lists.{Played, played, afterAnswer, goesOn, playOf, StartGivesBy, EventGivesBy}
+use Rattle.machine_words.specs.Words.{Bytes, Words}
 use Rattle.machine_promise.specs.Promise.{OneOf, AllAnswered, OneReaction}
 
 -- ---- an engine
@@ -28,10 +29,10 @@ pub record Engine : Type 0 where
   pub start : List ℕ → List ℤ → Returned
   pub event : List ℕ → List ℤ → List ℤ → List ℤ → Returned
 
--- the contracts of start and event, whatever the bytes, the words and their number, by a machine with that default limit
+-- the contracts of start and event, by a machine with that default limit: whatever the bytes, the words and their number. That is what the compiled pair gets
 pub record MeetsBy (default : ℕ) (e : Engine) : Type 0 where
-  pub start : (s : List ℕ) (lent : List ℤ) → StartGivesBy default s lent (e .start s lent .answer) (e .start s lent .state)
-  pub event : (s : List ℕ) (old lent ev : List ℤ) → EventGivesBy default s old lent ev (e .event s old lent ev .answer) (e .event s old lent ev .state)
+  pub start : (s : List ℕ) → Bytes s → (lent : List ℤ) → Words lent → StartGivesBy default s lent (e .start s lent .answer) (e .start s lent .state)
+  pub event : (s : List ℕ) → Bytes s → (old lent ev : List ℤ) → Words old → Words lent → Words ev → EventGivesBy default s old lent ev (e .event s old lent ev .answer) (e .event s old lent ev .state)
 
 abbrev pub Meets : Engine → Type 0
 Meets e = MeetsBy defaultLimit e
@@ -50,6 +51,11 @@ eventsCalled calls = map (λ c. c .words) calls
 abbrev pub AllLent : List ℕ → List Call → Type 0
 AllLent s [] = Unit {0}
 AllLent s (c ∷ calls) = (length (c .lent) ≡ stateLength s) × AllLent s calls
+
+-- every event, and every state that is lent, is words
+abbrev pub AllWords : List Call → Type 0
+AllWords [] = Unit {0}
+AllWords (c ∷ calls) = Words (c .words) × Words (c .lent) × AllWords calls
 
 -- "Each event gets the same sheet .. and the state that the last accepted one (or start) left, unchanged in between."
 unfoldable pub calledFrom : Engine → List ℕ → List ℤ → List Call → Played
@@ -91,9 +97,10 @@ pub record Claim (e : Engine) (s : List ℕ) (lent : List ℤ) (calls : List Cal
   -- every internal name that waits or is armed has one reaction in its element's chart
   pub reactions : first .number ≡ 0 → OneReaction s last
 
--- for every engine that meets the contracts, every sheet that check passes, every list of events of any number of words, and states lent at their length
+-- for every engine that meets the contracts, every sheet that check passes, every list of events of any number of words, and states lent at their length.
+-- The states between the calls are the engine's own, and nothing is asked of them
 abbrev pub EveryList : Type 0
-EveryList = (e : Engine) → Meets e → (s : List ℕ) → checkOf s ≡ Passed → (lent : List ℤ) → length lent ≡ stateLength s → (calls : List Call) → AllLent s calls → Claim e s lent calls
+EveryList = (e : Engine) → Meets e → (s : List ℕ) → Bytes s → checkOf s ≡ Passed → (lent : List ℤ) → Words lent → length lent ≡ stateLength s → (calls : List Call) → AllWords calls → AllLent s calls → Claim e s lent calls
 
 -- it speaks of something: there is an engine that meets the contracts (the machine's own calls, which never end stuck)
 abbrev pub SomeEngine : Type 0
