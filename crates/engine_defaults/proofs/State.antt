@@ -129,7 +129,11 @@ module _ (s : List ℕ) (ok : checkOf s ≡ Passed) where
     before = refl;
   }
 
-  pub filled-more : (st st′ : List ℤ) (cell next i k : ℕ) (c : Record) → i < elementsOf s → k ≡ firstBinding s i → chartBound s k ≡ Present c → cell ≡ sumBelow i (cellsBound s) → ((done : List ℤ) (m : ℕ) → Blank st done cell (8 * cellsBefore s c (chartVariables c .count) + m) → Blank st′ (done ++ defaultCells s (chartVariables c .count) (chartVariables c .first)) (cell + cellsBefore s c (chartVariables c .count)) m) → next ≡ cell + cellsBefore s c (chartVariables c .count) → Filled s st cell i → Filled s st′ next (i + 1)
+  pub filled-more : (st st′ : List ℤ) (cell next i k : ℕ) (c : Record) → i < elementsOf s → k ≡ firstBinding s i → chartBound s k ≡ Present c →
+      cell ≡ sumBelow i (cellsBound s) →
+      ((done : List ℤ) (m : ℕ) → Blank st done cell (8 * cellsBefore s c (chartVariables c .count) + m) →
+      Blank st′ (done ++ defaultCells s (chartVariables c .count) (chartVariables c .first)) (cell + cellsBefore s c (chartVariables c .count)) m) →
+      next ≡ cell + cellsBefore s c (chartVariables c .count) → Filled s st cell i → Filled s st′ next (i + 1)
   unfolding elementCells
   filled-more st st′ cell next i k c l at p q h x b =
       let n : ℕ = cellsBefore s c (chartVariables c .count) in

@@ -15,7 +15,13 @@ use Rattle.machine.specs.Valid.{dataFit, nameFits, reactionAwaits, zeroW
 use Rattle.machine.specs.Eval.{val, isVariable, isPlainVariable, andThen, needs, onRecord, intOut, dividing, notVal, onInts, combined, binaryVal, written, literalValue, within, ofType, parameterVal, variableAtCell, reached, elementAs, elementVal, readAs, readVal, clockWord, clockVal, evalIn, evalStep, evalF, evalOf}
 use Rattle.machine.specs.Run.{goOn, thenOperand, withRecord, provided, before, nextValue, valuesFrom, thenValues, areOf, wordsIn, localAt, listFrom, localsOf, localsThere, append, armed, clockSet, fewer, assigned, hasVariable, assignOf, elementAssigned, assignElementOf, nameValues, externalSendOf, internalSendOf, armOf, clockActOf, entered, callOf, choiceOf, runIn, runStep, runF, runOf}
 use Rattle.machine.specs.Kinds.{kindOf}
-use Rattle.machine.specs.Play.{Outcome, ended, stuck, answer, limitBy, limitOf, bodyFrom, bodyWhere, ranBodyWithin, elementBody, alone, eventEndWithin, defaultCell, alike, defaultCells, elementCells, cellsFrom, defaultState, hasHead, elementThere, elementsThere, startNextWithin, startFromWithin, startedWithin, oldestFrom, oldest, taking, sameDeclared, brought, reactingWithin, panickingWithin, withNumber, outside, bodiesThere, receivedWithin, deliveredWithin, deliverWithin, corruptWithin, innerWithin, thenSlice, fires, ticks, slicedCell, slicedEach, slicedVariable, slicedCells, slicedElement, slicedFrom, changeEnd, slice, restZero, wellFormed, isEvent, happensAsWithin, happens, happensWithin, ifPassed, startCall, startCallBy, eventCallBy}
+use Rattle.machine.specs.Play.{Outcome, ended, stuck, answer, limitBy, limitOf, bodyFrom, bodyWhere, ranBodyWithin, elementBody, alone, eventEndWithin}
+use Rattle.machine.specs.Play.{defaultCell, alike, defaultCells, elementCells, cellsFrom, defaultState, hasHead, elementThere, elementsThere}
+use Rattle.machine.specs.Play.{startNextWithin, startFromWithin, startedWithin, oldestFrom, oldest, taking, sameDeclared, brought, reactingWithin}
+use Rattle.machine.specs.Play.{panickingWithin, withNumber, outside, bodiesThere, receivedWithin, deliveredWithin, deliverWithin, corruptWithin}
+use Rattle.machine.specs.Play.{innerWithin, thenSlice, fires, ticks, slicedCell, slicedEach, slicedVariable, slicedCells, slicedElement, slicedFrom}
+use Rattle.machine.specs.Play.{changeEnd, slice, restZero, wellFormed, isEvent, happensAsWithin, happens, happensWithin, ifPassed, startCall, startCallBy}
+use Rattle.machine.specs.Play.{eventCallBy}
 use Rattle.machine.specs.declared.Out.{Out}
 use Rattle.machine.specs.declared.Out.the-variants.{Val, Refused}
 use Rattle.machine.specs.declared.Handed.the-variants.{Nothing}
@@ -53,7 +59,18 @@ mod-zero l = refl
 -- ---- start and events, with every definition open
 
 unfoldable pub start : List (List ℕ) → Outcome
-unfolding check fits32 isBelow recordBy isZero inDataType inType defaultIn defaultOf hasDefault isBound bindingAt bindingOf chartOf firstCell cellAt cellOf placeAt stateLength wordOf waiting setWaiting telegramIn telegramOf putWords withTelegram classOf sameClass waitingLike appended withoutTelegram dataFit nameFits reactionAwaits zeroWords runningClock clockCell cellFits variableFits elementFits internalFits externalFits telegramFits headFits cellsFit waitingFit unusedZero classesFit contentFits andThen needs onRecord intOut quotient remainder dividing notVal onInts combined binaryVal written literalValue within ofType parameterVal variableAtCell reached elementAs elementVal readAs readVal clockWord clockVal evalIn evalStep evalF evalOf goOn thenOperand withRecord provided before nextValue valuesFrom thenValues areOf wordsIn localAt listFrom localsOf localsThere append armed clockSet fewer assigned hasVariable assignOf elementAssigned assignElementOf nameValues externalSendOf internalSendOf isVariable isPlainVariable armOf clockActOf entered callOf choiceOf runIn runStep runF runOf limitBy bodyFrom bodyWhere ranBodyWithin elementBody alone eventEndWithin defaultCell alike defaultCells elementCells cellsFrom defaultState hasHead elementThere elementsThere startNextWithin startFromWithin startedWithin oldestFrom oldest taking sameDeclared brought reactingWithin panickingWithin withNumber outside bodiesThere receivedWithin deliveredWithin deliverWithin corruptWithin innerWithin thenSlice fires ticks slicedCell slicedEach slicedVariable slicedCells slicedElement slicedFrom changeEnd slice restZero wellFormed kindOf isEvent happensAsWithin happensWithin ifPassed startCallBy eventCallBy
+unfolding check fits32 isBelow recordBy isZero inDataType inType defaultIn defaultOf hasDefault isBound bindingAt bindingOf chartOf firstCell cellAt cellOf
+    placeAt stateLength wordOf waiting setWaiting telegramIn telegramOf putWords withTelegram classOf sameClass waitingLike appended withoutTelegram dataFit
+    nameFits reactionAwaits zeroWords runningClock clockCell cellFits variableFits elementFits internalFits externalFits telegramFits headFits cellsFit
+    waitingFit unusedZero classesFit contentFits andThen needs onRecord intOut quotient remainder dividing notVal onInts combined binaryVal written literalValue
+    within ofType parameterVal variableAtCell reached elementAs elementVal readAs readVal clockWord clockVal evalIn evalStep evalF evalOf goOn thenOperand
+    withRecord provided before nextValue valuesFrom thenValues areOf wordsIn localAt listFrom localsOf localsThere append armed clockSet fewer assigned
+    hasVariable assignOf elementAssigned assignElementOf nameValues externalSendOf internalSendOf isVariable isPlainVariable armOf clockActOf entered callOf
+    choiceOf runIn runStep runF runOf limitBy bodyFrom bodyWhere ranBodyWithin elementBody alone eventEndWithin defaultCell alike defaultCells elementCells
+    cellsFrom defaultState hasHead elementThere elementsThere startNextWithin startFromWithin startedWithin oldestFrom oldest taking sameDeclared brought
+    reactingWithin panickingWithin withNumber outside bodiesThere receivedWithin deliveredWithin deliverWithin corruptWithin innerWithin thenSlice fires ticks
+    slicedCell slicedEach slicedVariable slicedCells slicedElement slicedFrom changeEnd slice restZero wellFormed kindOf isEvent happensAsWithin happensWithin
+    ifPassed startCallBy eventCallBy
 start ss = startCall (sheetOf ss) (replicate (stateLength (sheetOf ss)) (pos 0))
 
 -- the machine alone, without the tests of sheet, state and event that a call makes before

@@ -22,7 +22,11 @@ use Rattle.machine.specs.State.{stateLength, wordOf, waiting, Changed, lost, co
 use Rattle.machine.specs.Valid.{nameFits, externalFits, telegramFits, contentFits}
 use Rattle.machine.specs.Kinds.{kindOf}
 use Rattle.machine.specs.Run.{withRecord, provided, runOf, datum, localAt, listFrom, localsOf, localsThere}
-use Rattle.machine.specs.Play.{Outcome, ended, answer, limitOf, bodyWhere, hasPanic, isInitial, reactsOn, ranBody, ranBodyWithin, elementBody, alone, eventEnd, bodyEvent, oldest, taking, brought, reacting, reactingWithin, panicking, panickingWithin, outside, bodiesThere, received, receivedWithin, delivered, deliveredWithin, deliver, corrupt, inner, changeEnd, isEvent, telegramOfEvent, slicedFrom, slice, happensAs, happensAsWithin, happens, happensWithin, turnedDown, ifPassed, started, startCall, startCallBy, eventCall, eventCallBy}
+use Rattle.machine.specs.Play.{Outcome, ended, answer, limitOf, bodyWhere, hasPanic, isInitial, reactsOn, ranBody, ranBodyWithin, elementBody, alone, eventEnd}
+use Rattle.machine.specs.Play.{bodyEvent, oldest, taking, brought, reacting, reactingWithin, panicking, panickingWithin, outside, bodiesThere, received}
+use Rattle.machine.specs.Play.{receivedWithin, delivered, deliveredWithin, deliver, corrupt, inner, changeEnd, isEvent, telegramOfEvent, slicedFrom, slice}
+use Rattle.machine.specs.Play.{happensAs, happensAsWithin, happens, happensWithin, turnedDown, ifPassed, started, startCall, startCallBy, eventCall}
+use Rattle.machine.specs.Play.{eventCallBy}
 use Rattle.sheet_rules.specs.Check.{checkOf}
 use Rattle.machine_passed.proofs.Declared.{has-head}
 use Rattle.machine_promise.proofs.Events.{number-is}

@@ -21,7 +21,12 @@ use Rattle.machine.specs.State.{places, cellAt, wordOf, waiting, putWords, on, 
 use Rattle.machine.specs.Valid.{datumOf}
 use Rattle.machine.specs.Run.{withRecord, provided}
 use Rattle.machine.specs.Kinds.{Kind, kindOf}
-use Rattle.machine.specs.Play.{answer, bodyFrom, bodyWhere, hasPanic, isInitial, reactsOn, ranBodyWithin, elementBody, alone, eventEndWithin, bodyEventWithin, defaultCell, alike, defaultCells, elementCells, cellsFrom, defaultState, hasHead, elementThere, elementsThere, startNextWithin, startFromWithin, startedWithin, oldestFrom, oldest, goesFrom, innerOf, taking, sameDeclared, brought, reactingWithin, panickingWithin, withNumber, changeEnd, outside, bodiesThere, receivedWithin, deliveredWithin, deliverWithin, corruptWithin, innerWithin, thenSlice, clockTelegram, fires, ticks, slicedCell, slicedEach, slicedVariable, slicedCells, slicedElement, slicedFrom, slice, restZero, boundWord, wellFormed, isEvent, telegramOfEvent, happensAsWithin, happensWithin, ended, stuck}
+use Rattle.machine.specs.Play.{answer, bodyFrom, bodyWhere, hasPanic, isInitial, reactsOn, ranBodyWithin, elementBody, alone, eventEndWithin, bodyEventWithin}
+use Rattle.machine.specs.Play.{defaultCell, alike, defaultCells, elementCells, cellsFrom, defaultState, hasHead, elementThere, elementsThere, startNextWithin}
+use Rattle.machine.specs.Play.{startFromWithin, startedWithin, oldestFrom, oldest, goesFrom, innerOf, taking, sameDeclared, brought, reactingWithin}
+use Rattle.machine.specs.Play.{panickingWithin, withNumber, changeEnd, outside, bodiesThere, receivedWithin, deliveredWithin, deliverWithin, corruptWithin}
+use Rattle.machine.specs.Play.{innerWithin, thenSlice, clockTelegram, fires, ticks, slicedCell, slicedEach, slicedVariable, slicedCells, slicedElement}
+use Rattle.machine.specs.Play.{slicedFrom, slice, restZero, boundWord, wellFormed, isEvent, telegramOfEvent, happensAsWithin, happensWithin, ended, stuck}
 use Rattle.machine.specs.Kinds as kind
 use Rattle.sheet_limits.specs.ButLimit.{ButLimit}
 use Rattle.sheet_limits.proofs.Fields.{same-componentsOf, same-declaredSo, same-elementsOf, same-externalsOf, same-inSection, same-portsOf, same-typeAt}

@@ -134,7 +134,9 @@ module _ (s : List ℕ) (ok : checkOf s ≡ Passed) where
       unfolding variablesAt variableAt
       variable-declared place n = go (eqb place chartParameter) (eqb place chartVariable) (eqb place bodyVariable) (ltb n (bodyParameters b .count)) refl
         where
-          go : (u v w t : Bool) → ltb n (bodyParameters b .count) ≡ t → n < elim u as (λ u. ℕ) [ true ↦ chartParameters c .count | false ↦ elim v [ true ↦ chartVariables c .count | false ↦ elim w [ true ↦ bodyParameters b .count + bodyLocals b .count | false ↦ 0 ] ] ] → elim u as (λ u. ℕ) [ true ↦ chartParameters c .first + n | false ↦ elim v [ true ↦ chartVariables c .first + n | false ↦ elim t [ true ↦ bodyParameters b .first + n | false ↦ bodyLocals b .first + (n - bodyParameters b .count) ] ] ] < countOf s declarations
+          go : (u v w t : Bool) → ltb n (bodyParameters b .count) ≡ t →
+              n < elim u as (λ u. ℕ) [ true ↦ chartParameters c .count | false ↦ elim v [ true ↦ chartVariables c .count | false ↦ elim w [ true ↦ bodyParameters b .count + bodyLocals b .count | false ↦ 0 ] ] ] →
+              elim u as (λ u. ℕ) [ true ↦ chartParameters c .first + n | false ↦ elim v [ true ↦ chartVariables c .first + n | false ↦ elim t [ true ↦ bodyParameters b .first + n | false ↦ bodyLocals b .first + (n - bodyParameters b .count) ] ] ] < countOf s declarations
           go true v w t q l = chart-parameter-declared n l
           go false true w t q l = chart-variable-declared n l
           go false false true true q l = parameter-declared n (ltb-true _ _ q)

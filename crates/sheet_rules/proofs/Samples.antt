@@ -48,7 +48,19 @@ body role name root = role ∷ 0 ∷ name ∷ 0 ∷ 0 ∷ 0 ∷ 0 ∷ root ∷ [
 
 -- the number that check gives to a sheet, with every definition open
 unfoldable pub check : List (List ℕ) → ℕ
-unfolding _and_ allBelow isClock isLiteral startOf pairRight directoryRight countOf recordAt recordOf fieldOf zeroFrom holds numberOr0 sumBelow countBelow componentsOf externalsOf portsOf membersOf elementsOf declaredSo typeAt inSection lookUp formOf literalOf binaryOf dataTypeOf indexOf indexAt isPlain cellsBy cellsTaken cellsBefore recordsFor chartBound behind firstBinding elementsBoundIn constantRecord constantField nameData calledBody callData operandsIn operandsOf operandAt headShape enumeratedShape typeExists indexExists declarationShape nameShape bodiesUpTo chartShape bodiesCovered isReaction reactionShape bodyShape literalFields literalShape variablesAt sendShape fieldsShape treeShape treesShape constantShape secondShape constantsShape recordsShape bindingShape bindingsShape elementsBound cellsBound cellsOf recordShape eachShape sectionShape lowerOnly standsStep standsF standsIn overBodies overCharts standsInBodies homeBelow homeOf chartOr homeChart operandFields operandUses rootUses constantUses usesOf usedOnce markOf bodiesHolding callsInOneBody goneOver given isOf isStatement sameType writtenType literalType variableAt ofInts combinedType binaryType hasClass hasReaction internalName nameRange parametersOf clockOf dataMatch lowerType readType notType clockType assignType indexedBy readElementType assignElementType externalType internalType armType clockActType callType choiceType loopType sequenceType typeIn typeStep typeF typeOf declarationStatic plainData nameStatic sameTypes reactionStatic roleStatic bodyStatic hasRole bodiesWith sameReaction noTwin bodiesStatic chartStatic constantStatic constantsStatic bindingStatic bindingsStatic recordStatic eachStatic sectionStatic static nodesShape sectionsShape shapeWith shape otherwiseInShape checkOf bytesOf directoryFor fieldsOf sheetOf rec3 rec6 body
+unfolding _and_ allBelow isClock isLiteral startOf pairRight directoryRight countOf recordAt recordOf fieldOf zeroFrom holds numberOr0 sumBelow countBelow
+    componentsOf externalsOf portsOf membersOf elementsOf declaredSo typeAt inSection lookUp formOf literalOf binaryOf dataTypeOf indexOf indexAt isPlain
+    cellsBy cellsTaken cellsBefore recordsFor chartBound behind firstBinding elementsBoundIn constantRecord constantField nameData calledBody callData
+    operandsIn operandsOf operandAt headShape enumeratedShape typeExists indexExists declarationShape nameShape bodiesUpTo chartShape bodiesCovered isReaction
+    reactionShape bodyShape literalFields literalShape variablesAt sendShape fieldsShape treeShape treesShape constantShape secondShape constantsShape
+    recordsShape bindingShape bindingsShape elementsBound cellsBound cellsOf recordShape eachShape sectionShape lowerOnly standsStep standsF standsIn overBodies
+    overCharts standsInBodies homeBelow homeOf chartOr homeChart operandFields operandUses rootUses constantUses usesOf usedOnce markOf bodiesHolding
+    callsInOneBody goneOver given isOf isStatement sameType writtenType literalType variableAt ofInts combinedType binaryType hasClass hasReaction internalName
+    nameRange parametersOf clockOf dataMatch lowerType readType notType clockType assignType indexedBy readElementType assignElementType externalType
+    internalType armType clockActType callType choiceType loopType sequenceType typeIn typeStep typeF typeOf declarationStatic plainData nameStatic sameTypes
+    reactionStatic roleStatic bodyStatic hasRole bodiesWith sameReaction noTwin bodiesStatic chartStatic constantStatic constantsStatic bindingStatic
+    bindingsStatic recordStatic eachStatic sectionStatic static nodesShape sectionsShape shapeWith shape otherwiseInShape checkOf bytesOf directoryFor fieldsOf
+    sheetOf rec3 rec6 body
 check ss = checkNumber (checkOf (sheetOf ss))
 
 -- ---- static rules

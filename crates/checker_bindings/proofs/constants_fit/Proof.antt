@@ -57,7 +57,17 @@ constant-fits-requires c κs = c .before .before .before .before .before .before
 
 returns-2 : tie.Need-returns-2 Inv-loop μ-loop
 unfolding constantsShape
-returns-2 c = loop-fails _ _ _ _ refl (c .before .before .before .before .before .before .before .before .before .loop-test .taken) (constant-present _ _ _ _ (c .before .before .before .before .before .before .before .before .constant-record .ensures) (constantShape _) _ _ _ _ (sym (c .before .before .before .before .before .before .before .read .ensures) ∙ c .before .before .before .before .before .b .given .1) (c .before .before .before .constant-field .ensures) (c .before .before .field .ensures .0) (c .before .constant-fits .ensures) ∙ not-true _ (c .if1 .taken))
+returns-2 c =
+    let constant-field = c .before .before .before .constant-field in
+    let b = c .before .before .before .before .before .b in
+    let read = c .before .before .before .before .before .before .before .read in
+    let constant-record = c .before .before .before .before .before .before .before .before .constant-record in
+    let loop-test = c .before .before .before .before .before .before .before .before .before .loop-test in
+    let b-is = sym (read .ensures) ∙ b .given .1 in
+    loop-fails _ _ _ _ refl (loop-test .taken)
+    (constant-present _ _ _ _ (constant-record .ensures) (constantShape _) _ _ _ _ b-is (constant-field .ensures) (c .before .before .field .ensures .0)
+    (c .before .constant-fits .ensures)
+    ∙ not-true _ (c .if1 .taken))
 
 add-j : tie.Need-add-j Inv-loop μ-loop
 add-j c = search needs
@@ -66,7 +76,20 @@ loop-less : tie.Need-loop-less Inv-loop μ-loop
 loop-less c = search needs
 
 loop-again : tie.Need-loop-again Inv-loop μ-loop
-loop-again c = (omega arith, c .before .before .before .before .before .before .before .before .before .before .loop .inv .1, all-more (c .before .before .before .before .before .before .before .before .before .before .loop .j) _ (c .before .before .before .before .before .before .before .before .before .before .loop .inv .2) (constant-present _ _ _ _ (c .before .before .before .before .before .before .before .before .constant-record .ensures) (constantShape _) _ _ _ _ (sym (c .before .before .before .before .before .before .before .read .ensures) ∙ c .before .before .before .before .before .b .given .1) (c .before .before .before .constant-field .ensures) (c .before .before .field .ensures .0) (c .before .constant-fits .ensures) ∙ not-false _ (c .if1 .left)))
+loop-again c =
+    let constant-field = c .before .before .before .constant-field in
+    let b = c .before .before .before .before .before .b in
+    let read = c .before .before .before .before .before .before .before .read in
+    let constant-record = c .before .before .before .before .before .before .before .before .constant-record in
+    let loop = c .before .before .before .before .before .before .before .before .before .before .loop in
+    let b-is = sym (read .ensures) ∙ b .given .1 in (
+      omega arith,
+      loop .inv .1,
+      all-more (loop .j) _ (loop .inv .2)
+          (constant-present _ _ _ _ (constant-record .ensures) (constantShape _) _ _ _ _ b-is (constant-field .ensures)
+          (c .before .before .field .ensures .0) (c .before .constant-fits .ensures)
+          ∙ not-false _ (c .if1 .left)),
+    )
 
 returns-3 : tie.Need-returns-3 Inv-loop μ-loop
 unfolding constantsShape

@@ -60,17 +60,55 @@ body-static-requires c κs = (c .before .before .before .before .before .before 
 
 returns-2 : tie.Need-returns-2 Inv-loop μ-loop
 unfolding bodiesStatic
-returns-2 c = (loop-fails _ _ _ _ refl (c .before .before .before .before .before .before .before .loop-test .taken) (holds-present _ _ _ (sym (c .before .before .before .before .before .before .read .ensures) ∙ c .before .before .before .before .b .given .1) ∙ sym (rest-fails _ _ (sym (sym (c .before .body-static .ensures) ∙ not-true _ (c .if1 .taken))))), ready _ _ _ _ _ _ (c .before .before .before .before .before .before .before .before .before .before .before .fill .ensures .0) (c .before .before .before .before .before .before .before .before .loop .inv .3))
+returns-2 c =
+    let b = c .before .before .before .before .b in
+    let read = c .before .before .before .before .before .before .read in
+    let loop-test = c .before .before .before .before .before .before .before .loop-test in
+    let loop = c .before .before .before .before .before .before .before .before .loop in
+    let fill = c .before .before .before .before .before .before .before .before .before .before .before .fill in
+    let b-is = sym (read .ensures) ∙ b .given .1 in
+    let body-static-is = sym (sym (c .before .body-static .ensures) ∙ not-true _ (c .if1 .taken)) in (
+      loop-fails _ _ _ _ refl (loop-test .taken) (holds-present _ _ _ b-is ∙ sym (rest-fails _ _ body-static-is)),
+      ready _ _ _ _ _ _ (fill .ensures .0) (loop .inv .3),
+    )
 
 no-twin-requires : tie.Need-no-twin-requires Inv-loop μ-loop
-no-twin-requires c κs = (c .before .before .before .before .before .before .before .before .before .before .before .before .before .before .before .before .pre .0, (omega arith, (omega (arith, body-small _ _ _ (sym (c .before .before .before .before .before .before .before .before .read .ensures) ∙ c .before .before .before .before .before .before .b .given .1)), (c .before .before .before .before .before .before .before .before .before .before .loop .inv .3, static-small _ _ _ (sym (c .before .before .before .body-static .ensures) ∙ not-false _ (c .before .before .if1 .left))))))
+no-twin-requires c κs =
+    let at8 = c .before .before .before .before .before .before .before .before in
+    let body-static = c .before .before .before .body-static in
+    let b = c .before .before .before .before .before .before .b in
+    let read = at8 .read in
+    let loop = at8 .before .before .loop in
+    let pre = at8 .before .before .before .before .before .before .before .before .pre in
+    let body-static-is = sym (body-static .ensures) ∙ not-false _ (c .before .before .if1 .left) in
+    (pre .0, (omega arith, (omega (arith, body-small _ _ _ (sym (read .ensures) ∙ b .given .1)), (loop .inv .3, static-small _ _ _ body-static-is))))
 
 returns-3 : tie.Need-returns-3 Inv-loop μ-loop
 unfolding bodiesStatic
-returns-3 c = (loop-fails _ _ _ _ refl (c .before .before .before .before .before .before .before .before .before .before .before .loop-test .taken) (holds-present _ _ _ (sym (c .before .before .before .before .before .before .before .before .before .before .read .ensures) ∙ c .before .before .before .before .before .before .before .before .b .given .1) ∙ sym (first-fails _ _ (sym (c .before .no-twin .ensures) ∙ not-true _ (c .if2 .taken)))), ready _ _ _ _ _ _ (c .before .before .before .before .before .before .before .before .before .before .before .before .before .before .before .fill .ensures .0) (c .before .before .before .before .before .before .before .before .before .before .before .before .loop .inv .3))
+returns-3 c =
+    let at8 = c .before .before .before .before .before .before .before .before in
+    let b = at8 .b in
+    let read = at8 .before .before .read in
+    let loop-test = at8 .before .before .before .loop-test in
+    let loop = at8 .before .before .before .before .loop in
+    let fill = at8 .before .before .before .before .before .before .before .fill in
+    let b-is = sym (read .ensures) ∙ b .given .1 in
+    let no-twin-is = sym (c .before .no-twin .ensures) ∙ not-true _ (c .if2 .taken) in (
+      loop-fails _ _ _ _ refl (loop-test .taken) (holds-present _ _ _ b-is ∙ sym (first-fails _ _ no-twin-is)),
+      ready _ _ _ _ _ _ (fill .ensures .0) (loop .inv .3),
+    )
 
 link-requires : tie.Need-link-requires Inv-loop μ-loop
-link-requires c κs = ((c .before .before .before .before .before .before .before .before .before .before .before .before .before .before .loop .inv .3 .entries .size, c .before .before .before .before .before .before .before .before .before .before .before .before .before .before .loop .inv .3 .size, omega (arith, body-small _ _ _ (sym (c .before .before .before .before .before .before .before .before .before .before .before .before .read .ensures) ∙ c .before .before .before .before .before .before .before .before .before .before .b .given .1))), static-small _ _ _ (sym (c .before .before .before .before .before .before .before .body-static .ensures) ∙ not-false _ (c .before .before .before .before .before .before .if1 .left)))
+link-requires c κs =
+    let at8 = c .before .before .before .before .before .before .before .before in
+    let if1 = c .before .before .before .before .before .before .if1 in
+    let body-static = c .before .before .before .before .before .before .before .body-static in
+    let b = at8 .before .before .b in
+    let read = at8 .before .before .before .before .read in
+    let loop = at8 .before .before .before .before .before .before .loop in
+    let b-is = sym (read .ensures) ∙ b .given .1 in
+    let body-static-is = sym (body-static .ensures) ∙ not-false _ (if1 .left) in
+    ((loop .inv .3 .entries .size, loop .inv .3 .size, omega (arith, body-small _ _ _ b-is)), static-small _ _ _ body-static-is)
 
 add-j : tie.Need-add-j Inv-loop μ-loop
 add-j c = search needs
@@ -79,7 +117,23 @@ loop-less : tie.Need-loop-less Inv-loop μ-loop
 loop-less c = search needs
 
 loop-again : tie.Need-loop-again Inv-loop μ-loop
-loop-again c = (omega arith, c .before .before .before .before .before .before .before .before .before .before .before .before .before .before .before .loop .inv .1, all-more (c .before .before .before .before .before .before .before .before .before .before .before .before .before .before .before .loop .j) _ (c .before .before .before .before .before .before .before .before .before .before .before .before .before .before .before .loop .inv .2) (holds-present _ _ _ (sym (c .before .before .before .before .before .before .before .before .before .before .before .before .before .read .ensures) ∙ c .before .before .before .before .before .before .before .before .before .before .before .b .given .1) ∙ and-true _ _ (sym (c .before .before .before .before .no-twin .ensures) ∙ not-false _ (c .before .before .before .if2 .left)) (sym (c .before .before .before .before .before .before .before .before .body-static .ensures) ∙ not-false _ (c .before .before .before .before .before .before .before .if1 .left))), chained-next _ _ _ _ _ _ _ _ (sym (c .before .before .before .before .before .before .before .before .before .before .before .before .before .read .ensures) ∙ c .before .before .before .before .before .before .before .before .before .before .before .b .given .1) (c .before .before .before .before .before .before .before .before .before .before .before .before .before .before .before .loop .inv .3) (c .link .ensures))
+loop-again c =
+    let at8 = c .before .before .before .before .before .before .before .before in
+    let if2 = c .before .before .before .if2 in
+    let no-twin = c .before .before .before .before .no-twin in
+    let if1 = c .before .before .before .before .before .before .before .if1 in
+    let body-static = at8 .body-static in
+    let b = at8 .before .before .before .b in
+    let read = at8 .before .before .before .before .before .read in
+    let loop = at8 .before .before .before .before .before .before .before .loop in
+    let no-twin-is = sym (no-twin .ensures) ∙ not-false _ (if2 .left) in
+    let body-static-is = sym (body-static .ensures) ∙ not-false _ (if1 .left) in
+    let b-is = sym (read .ensures) ∙ b .given .1 in (
+      omega arith,
+      loop .inv .1,
+      all-more (loop .j) _ (loop .inv .2) (holds-present _ _ _ b-is ∙ and-true _ _ no-twin-is body-static-is),
+      chained-next _ _ _ _ _ _ _ _ b-is (loop .inv .3) (c .link .ensures),
+    )
 
 returns-4 : tie.Need-returns-4 Inv-loop μ-loop
 unfolding bodiesStatic

@@ -45,7 +45,21 @@ is-statement-requires c κs = search needs
 
 returns-4 : tie.Need-returns-4
 unfolding bodyStatic
-returns-4 c = first-holds _ _ _ (sym (c .before .before .before .before .before .before .before .before .before .plain-data .ensures ∙ ap (plainData _) (c .before .before .before .before .before .before .before .before .before .before .parameters .ensures .0)) ∙ not-false _ (c .before .before .before .before .before .before .before .before .if1 .left)) (first-holds _ _ _ (sym (c .before .before .before .before .before .before .plain-data2 .ensures ∙ ap (plainData _) (c .before .before .before .before .before .before .before .locals .ensures .0)) ∙ not-false _ (c .before .before .before .before .before .if2 .left)) (first-holds _ _ _ (sym (c .before .before .before .before .role-static .ensures) ∙ not-false _ (c .before .before .before .if3 .left)) (c .is-statement .ensures ∙ ap isStatement (c .before .type-of .ensures))))
+returns-4 c =
+    let at8 = c .before .before .before .before .before .before .before .before in
+    let if3 = c .before .before .before .if3 in
+    let role-static = c .before .before .before .before .role-static in
+    let if2 = c .before .before .before .before .before .if2 in
+    let plain-data2 = c .before .before .before .before .before .before .plain-data2 in
+    let locals = c .before .before .before .before .before .before .before .locals in
+    let if1 = at8 .if1 in
+    let plain-data = at8 .before .plain-data in
+    let parameters = at8 .before .before .parameters in
+    let role-static-is = sym (role-static .ensures) ∙ not-false _ (if3 .left) in
+    let plain-data2-is = sym (plain-data2 .ensures ∙ ap (plainData _) (locals .ensures .0)) ∙ not-false _ (if2 .left) in
+    let plain-data-is = sym (plain-data .ensures ∙ ap (plainData _) (parameters .ensures .0)) ∙ not-false _ (if1 .left) in
+    first-holds _ _ _ plain-data-is
+    (first-holds _ _ _ plain-data2-is (first-holds _ _ _ role-static-is (c .is-statement .ensures ∙ ap isStatement (c .before .type-of .ensures))))
 
 pub body-static-spec : {M : Type 1} → statement M
 body-static-spec =

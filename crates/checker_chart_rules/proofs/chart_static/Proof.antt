@@ -38,7 +38,20 @@ bodies-static-requires c κs = search needs
 
 returns-4 : tie.Need-returns-4
 unfolding chartStatic
-returns-4 c = (first-holds _ _ _ (sym (c .before .before .before .before .before .before .before .before .before .plain-data .ensures) ∙ not-false _ (c .before .before .before .before .before .before .before .before .if1 .left)) (first-holds _ _ _ (eq-eqb _ _ (sym (c .before .before .before .before .before .before .before .bodies-with .ensures) ∙ c .before .before .before .before .before .before .if2 .left)) (first-holds _ _ _ (eq-eqb _ _ (sym (c .before .before .before .before .before .bodies-with2 .ensures) ∙ c .before .before .before .before .if3 .left)) (c .bodies-static .ensures .0))), c .bodies-static .ensures .1)
+returns-4 c =
+    let if3 = c .before .before .before .before .if3 in
+    let bodies-with2 = c .before .before .before .before .before .bodies-with2 in
+    let if2 = c .before .before .before .before .before .before .if2 in
+    let bodies-with = c .before .before .before .before .before .before .before .bodies-with in
+    let if1 = c .before .before .before .before .before .before .before .before .if1 in
+    let plain-data = c .before .before .before .before .before .before .before .before .before .plain-data in
+    let bodies-with-is = sym (bodies-with .ensures) ∙ if2 .left in
+    let bodies-with2-is = sym (bodies-with2 .ensures) ∙ if3 .left in
+    let plain-data-is = sym (plain-data .ensures) ∙ not-false _ (if1 .left) in (
+      first-holds _ _ _ plain-data-is
+          (first-holds _ _ _ (eq-eqb _ _ bodies-with-is) (first-holds _ _ _ (eq-eqb _ _ bodies-with2-is) (c .bodies-static .ensures .0))),
+      c .bodies-static .ensures .1,
+    )
 
 pub chart-static-spec : {M : Type 1} → statement M
 chart-static-spec =

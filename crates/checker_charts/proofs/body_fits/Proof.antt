@@ -58,7 +58,25 @@ count-in-requires c κs = search needs
 
 returns-7 : tie.Need-returns-7
 unfolding bodyShape
-returns-7 c = first-holds _ _ _ (le-leb _ _ (c .before .before .before .before .before .before .before .before .before .before .before .before .before .if1 .left)) (first-holds _ _ _ (sym (c .before .before .before .before .before .before .before .before .before .before .before .before .reaction-fits .ensures) ∙ not-false _ (c .before .before .before .before .before .before .before .before .before .before .before .if2 .left)) (first-holds _ _ _ (sym (c .before .before .before .before .before .before .before .before .before .before .in-section .ensures) ∙ not-false _ (c .before .before .before .before .before .before .before .before .before .if3 .left)) (first-holds _ _ _ (le-leb _ _ (c .before .before .before .before .before .before .before .if4 .left)) (first-holds _ _ _ (sym (c .before .before .before .before .before .before .in-section2 .ensures) ∙ not-false _ (c .before .before .before .before .before .if5 .left)) (first-holds _ _ _ (le-leb _ _ (c .before .before .if6 .left)) (ap (ltb _) (count-opened _ _ _ (c .count-in .ensures) _ (c .before .before .before .before .before .before .before .before .before .before .before .before .before .before .before .before .pre))))))))
+returns-7 c =
+    let at8 = c .before .before .before .before .before .before .before .before in
+    let if5 = c .before .before .before .before .before .if5 in
+    let in-section2 = c .before .before .before .before .before .before .in-section2 in
+    let if4 = c .before .before .before .before .before .before .before .if4 in
+    let if3 = at8 .before .if3 in
+    let in-section = at8 .before .before .in-section in
+    let if2 = at8 .before .before .before .if2 in
+    let reaction-fits = at8 .before .before .before .before .reaction-fits in
+    let if1 = at8 .before .before .before .before .before .if1 in
+    let pre = at8 .before .before .before .before .before .before .before .before .pre in
+    let in-section-is = sym (in-section .ensures) ∙ not-false _ (if3 .left) in
+    let in-section2-is = sym (in-section2 .ensures) ∙ not-false _ (if5 .left) in
+    let reaction-fits-is = sym (reaction-fits .ensures) ∙ not-false _ (if2 .left) in
+    first-holds _ _ _ (le-leb _ _ (if1 .left))
+    (first-holds _ _ _ reaction-fits-is
+    (first-holds _ _ _ in-section-is
+    (first-holds _ _ _ (le-leb _ _ (if4 .left))
+    (first-holds _ _ _ in-section2-is (first-holds _ _ _ (le-leb _ _ (c .before .before .if6 .left)) (ap (ltb _) (c .count-in .ensures _ pre)))))))
 
 pub body-fits-spec : {M : Type 1} → statement M
 body-fits-spec =

@@ -43,7 +43,20 @@ zero-from-requires c κs = search needs
 
 returns-6 : tie.Need-returns-6
 unfolding chartShape
-returns-6 c = first-holds _ _ _ (sym (c .before .before .before .before .before .before .before .before .before .before .before .in-section .ensures) ∙ not-false _ (c .before .before .before .before .before .before .before .before .before .before .if1 .left)) (first-holds _ _ _ (le-leb _ _ (c .before .before .before .before .before .before .before .before .if2 .left)) (first-holds _ _ _ (sym (c .before .before .before .before .before .before .before .in-section2 .ensures) ∙ not-false _ (c .before .before .before .before .before .before .if3 .left)) (first-holds _ _ _ (le-leb _ _ (c .before .before .before .before .if4 .left)) (first-holds _ _ _ (eq-eqb _ _ (c .before .if5 .left ∙ c .before .before .bodies-up-to .ensures)) (c .zero-from .ensures)))))
+returns-6 c =
+    let at8 = c .before .before .before .before .before .before .before .before in
+    let if4 = c .before .before .before .before .if4 in
+    let if3 = c .before .before .before .before .before .before .if3 in
+    let in-section2 = c .before .before .before .before .before .before .before .in-section2 in
+    let if2 = at8 .if2 in
+    let if1 = at8 .before .before .if1 in
+    let in-section = at8 .before .before .before .in-section in
+    let in-section-is = sym (in-section .ensures) ∙ not-false _ (if1 .left) in
+    let in-section2-is = sym (in-section2 .ensures) ∙ not-false _ (if3 .left) in
+    let eq-eqb-here = eq-eqb _ _ (c .before .if5 .left ∙ c .before .before .bodies-up-to .ensures) in
+    first-holds _ _ _ in-section-is
+    (first-holds _ _ _ (le-leb _ _ (if2 .left))
+    (first-holds _ _ _ in-section2-is (first-holds _ _ _ (le-leb _ _ (if4 .left)) (first-holds _ _ _ eq-eqb-here (c .zero-from .ensures)))))
 
 pub chart-fits-spec : {M : Type 1} → statement M
 chart-fits-spec =

@@ -72,7 +72,19 @@ constant-static-requires c κs = c .before .before .before .before .before .befo
 
 returns-2 : tie.Need-returns-2 Inv-loop μ-loop
 unfolding constantsStatic
-returns-2 c = loop-fails _ _ _ _ refl (c .before .before .before .before .before .before .before .before .before .before .loop-test .taken) (of-type _ _ _ _ _ _ _ _ _ _ (c .before .before .before .before .before .before .before .before .constant-record .ensures) (sym (c .before .before .before .before .before .before .before .read .ensures) ∙ c .before .before .before .before .before .b .given .1) (c .before .before .before .constant-field .ensures) (c .before .before .field .ensures .0) (c .before .before .before .before .before .before .before .before .before .type-at .ensures) (c .before .constant-static .ensures) ∙ not-true _ (c .if1 .taken))
+returns-2 c =
+    let at8 = c .before .before .before .before .before .before .before .before in
+    let constant-field = c .before .before .before .constant-field in
+    let b = c .before .before .before .before .before .b in
+    let read = c .before .before .before .before .before .before .before .read in
+    let constant-record = at8 .constant-record in
+    let type-at = at8 .before .type-at in
+    let loop-test = at8 .before .before .loop-test in
+    let b-is = sym (read .ensures) ∙ b .given .1 in
+    loop-fails _ _ _ _ refl (loop-test .taken)
+    (of-type _ _ _ _ _ _ _ _ _ _ (constant-record .ensures) b-is (constant-field .ensures) (c .before .before .field .ensures .0) (type-at .ensures)
+    (c .before .constant-static .ensures)
+    ∙ not-true _ (c .if1 .taken))
 
 add-j : tie.Need-add-j Inv-loop μ-loop
 add-j c = search needs
@@ -81,7 +93,22 @@ loop-less : tie.Need-loop-less Inv-loop μ-loop
 loop-less c = search needs
 
 loop-again : tie.Need-loop-again Inv-loop μ-loop
-loop-again c = (omega arith, c .before .before .before .before .before .before .before .before .before .before .before .loop .inv .1, all-more (c .before .before .before .before .before .before .before .before .before .before .before .loop .j) _ (c .before .before .before .before .before .before .before .before .before .before .before .loop .inv .2) (of-type _ _ _ _ _ _ _ _ _ _ (c .before .before .before .before .before .before .before .before .constant-record .ensures) (sym (c .before .before .before .before .before .before .before .read .ensures) ∙ c .before .before .before .before .before .b .given .1) (c .before .before .before .constant-field .ensures) (c .before .before .field .ensures .0) (c .before .before .before .before .before .before .before .before .before .type-at .ensures) (c .before .constant-static .ensures) ∙ not-false _ (c .if1 .left)))
+loop-again c =
+    let at8 = c .before .before .before .before .before .before .before .before in
+    let constant-field = c .before .before .before .constant-field in
+    let b = c .before .before .before .before .before .b in
+    let read = c .before .before .before .before .before .before .before .read in
+    let constant-record = at8 .constant-record in
+    let type-at = at8 .before .type-at in
+    let loop = at8 .before .before .before .loop in
+    let b-is = sym (read .ensures) ∙ b .given .1 in (
+      omega arith,
+      loop .inv .1,
+      all-more (loop .j) _ (loop .inv .2)
+          (of-type _ _ _ _ _ _ _ _ _ _ (constant-record .ensures) b-is (constant-field .ensures) (c .before .before .field .ensures .0) (type-at .ensures)
+          (c .before .constant-static .ensures)
+          ∙ not-false _ (c .if1 .left)),
+    )
 
 returns-3 : tie.Need-returns-3 Inv-loop μ-loop
 unfolding constantsStatic

@@ -47,7 +47,19 @@ add-mark-root : tie.Need-add-mark-root Inv-loop μ-loop
 add-mark-root c = search needs
 
 mark-root-requires : tie.Need-mark-root-requires Inv-loop μ-loop
-mark-root-requires c κs = (c .before .before .before .before .before .before .before .before .before .before .before .pre .0, (omega (arith, c .before .before .loop .inv .3 .kept .long, c .before .before .before .before .before .before .before .before .before .before .before .pre .1), omega (arith, count-limit (c .before .before .before .before .before .before .before .before .before .before .before .args .sheet .now) 4, present-below (c .before .before .before .before .before .before .before .before .before .before .before .args .sheet .now) 4 (c .before .before .before .before .before .before .before .before .before .before .before .args .i) _ (sym (c .before .before .before .before .before .before .before .before .read .ensures) ∙ c .before .before .before .before .before .before .c .given .1))))
+mark-root-requires c κs =
+    let at8 = c .before .before .before .before .before .before .before .before in
+    let c-here = c .before .before .before .before .before .before .c in
+    let read = at8 .read in
+    let args = at8 .before .before .before .args in
+    let pre = at8 .before .before .before .pre in
+    let c-here-is = sym (read .ensures) ∙ c-here .given .1 in (
+      pre .0,
+      (
+        omega (arith, c .before .before .loop .inv .3 .kept .long, pre .1),
+        omega (arith, count-limit (args .sheet .now) 4, present-below (args .sheet .now) 4 (args .i) _ c-here-is),
+      ),
+    )
 
 add-gone : tie.Need-add-gone Inv-loop μ-loop
 add-gone c = omega (arith, c .before .before .before .before .before .loop .inv .1, c .before .before .mark-root .ensures .1)
@@ -59,7 +71,15 @@ loop-less : tie.Need-loop-less Inv-loop μ-loop
 loop-less c = search needs
 
 loop-again : tie.Need-loop-again Inv-loop μ-loop
-loop-again c = (omega arith, omega (arith, c .before .before .before .before .before .loop .inv .1, c .before .before .mark-root .ensures .1), count-more _ (c .before .before .before .before .before .loop .j) _ _ (c .before .before .before .before .before .loop .inv .2) (c .before .before .mark-root .ensures .0), loop-more _ _ _ _ _ (rootTurn (c .before .before .before .before .before .before .before .before .before .before .before .before .before .before .args .sheet .now) _) (c .before .before .before .before .before .loop .j) (c .before .before .before .before .before .loop .inv .3) (c .before .before .mark-root .ensures .2))
+loop-again c =
+    let mark-root = c .before .before .mark-root in
+    let loop = c .before .before .before .before .before .loop in
+    let args = c .before .before .before .before .before .before .before .before .before .before .before .before .before .before .args in (
+      omega arith,
+      omega (arith, loop .inv .1, mark-root .ensures .1),
+      count-more _ (loop .j) _ _ (loop .inv .2) (mark-root .ensures .0),
+      loop-more _ _ _ _ _ (rootTurn (args .sheet .now) _) (loop .j) (loop .inv .3) (mark-root .ensures .2),
+    )
 
 same-length : tie.Need-same-length Inv-loop μ-loop
 same-length c = c .before .loop .inv .3 .kept .long

@@ -76,7 +76,21 @@ loop-less : tie.Need-loop-less Inv-loop μ-loop
 loop-less c = omega (arith, c .earlier2 .ensures .1)
 
 loop-again : tie.Need-loop-again Inv-loop μ-loop
-loop-again c = walk-more _ _ _ _ _ _ (c .before .before .before .before .before .before .before .before .before .before .before .before .before .before .before .before .before .pre .1 .1 .1 .0) (c .before .before .before .before .before .before .before .before .before .before .before .before .before .before .before .before .before .pre .1 .1 .1 .1 (sym (c .before .before .before .before .before .before .before .before .before .before .before .before .before .before .before .is-reaction .ensures) ∙ not-false _ (c .before .before .before .before .before .before .before .before .before .before .before .before .before .before .if1 .left))) _ _ _ (c .before .before .before .before .before .before .before .before .before .loop .inv) (c .before .before .before .before .before .before .before .before .loop-test .taken) (sym (c .before .before .before .before .before .before .before .read .ensures) ∙ c .before .before .before .before .before .a .given .1) (sym (c .before .before .before .same-reaction .ensures) ∙ c .before .before .if2 .left) (c .earlier2 .ensures .0) (c .earlier2 .ensures .1)
+loop-again c =
+    let at8 = c .before .before .before .before .before .before .before .before in
+    let same-reaction = c .before .before .before .same-reaction in
+    let a = c .before .before .before .before .before .a in
+    let read = c .before .before .before .before .before .before .before .read in
+    let loop-test = at8 .loop-test in
+    let loop = at8 .before .loop in
+    let if1 = at8 .before .before .before .before .before .before .if1 in
+    let is-reaction = at8 .before .before .before .before .before .before .before .is-reaction in
+    let pre = at8 .before .before .before .before .before .before .before .before .before .pre in
+    let a-is = sym (read .ensures) ∙ a .given .1 in
+    let is-reaction-is = sym (is-reaction .ensures) ∙ not-false _ (if1 .left) in
+    let same-reaction-is = sym (same-reaction .ensures) ∙ c .before .before .if2 .left in
+    walk-more _ _ _ _ _ _ (pre .1 .1 .1 .0) (pre .1 .1 .1 .1 is-reaction-is) _ _ _ (loop .inv) (loop-test .taken) a-is same-reaction-is
+    (c .earlier2 .ensures .0) (c .earlier2 .ensures .1)
 
 returns-4 : tie.Need-returns-4 Inv-loop μ-loop
 returns-4 c = no-twins _ _ _ _ (λ m a l. c .before .loop .inv .seen m a (omega arith) l)

@@ -50,7 +50,18 @@ record-static-requires c κs = (c .before .before .before .before .before .befor
 
 returns-2 : tie.Need-returns-2 Inv-loop μ-loop
 unfolding eachStatic
-returns-2 c = (loop-fails _ _ _ _ (count-opened _ _ _ (c .before .before .before .before .before .before .before .before .before .before .before .count-in .ensures) _ (c .before .before .before .before .before .before .before .before .before .before .before .before .before .pre .0)) (c .before .before .before .before .before .before .before .before .before .loop-test .taken) (holds-present _ _ _ (sym (c .before .before .before .before .before .before .before .before .read .ensures) ∙ c .before .before .before .before .before .before .r .given .1) ∙ sym (c .before .record-static .ensures .0) ∙ not-true _ (c .if1 .taken)), c .before .record-static .ensures .1)
+returns-2 c =
+    let at8 = c .before .before .before .before .before .before .before .before in
+    let r = c .before .before .before .before .before .before .r in
+    let read = at8 .read in
+    let loop-test = at8 .before .loop-test in
+    let count-in = at8 .before .before .before .count-in in
+    let pre = at8 .before .before .before .before .before .pre in
+    let r-is = sym (read .ensures) ∙ r .given .1 in (
+      loop-fails _ _ _ _ (count-in .ensures _ (pre .0)) (loop-test .taken)
+          (holds-present _ _ _ r-is ∙ sym (c .before .record-static .ensures .0) ∙ not-true _ (c .if1 .taken)),
+      c .before .record-static .ensures .1,
+    )
 
 add-i : tie.Need-add-i Inv-loop μ-loop
 add-i c = search needs
@@ -59,7 +70,15 @@ loop-less : tie.Need-loop-less Inv-loop μ-loop
 loop-less c = search needs
 
 loop-again : tie.Need-loop-again Inv-loop μ-loop
-loop-again c = (omega arith, all-more (c .before .before .before .before .before .before .before .before .before .before .loop .i) _ (c .before .before .before .before .before .before .before .before .before .before .loop .inv .1) (holds-present _ _ _ (sym (c .before .before .before .before .before .before .before .before .read .ensures) ∙ c .before .before .before .before .before .before .r .given .1) ∙ sym (c .before .record-static .ensures .0) ∙ not-false _ (c .if1 .left)), c .before .record-static .ensures .1)
+loop-again c =
+    let r = c .before .before .before .before .before .before .r in
+    let read = c .before .before .before .before .before .before .before .before .read in
+    let loop = c .before .before .before .before .before .before .before .before .before .before .loop in
+    let r-is = sym (read .ensures) ∙ r .given .1 in (
+      omega arith,
+      all-more (loop .i) _ (loop .inv .1) (holds-present _ _ _ r-is ∙ sym (c .before .record-static .ensures .0) ∙ not-false _ (c .if1 .left)),
+      c .before .record-static .ensures .1,
+    )
 
 returns-3 : tie.Need-returns-3 Inv-loop μ-loop
 unfolding eachStatic

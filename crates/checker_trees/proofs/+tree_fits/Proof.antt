@@ -140,7 +140,15 @@ tree-fits-operand-requires : (t : ℕ) → tree-fits-lts.Need-operand-requires (
 tree-fits-operand-requires t c κs = (c .before .before .before .operands .ensures .1, small-index _ _ (c .before .before .before .operands .ensures .1) (c .loop-test .taken))
 
 tree-fits-returns-4 : (t : ℕ) → tree-fits-lts.Need-returns-4 (tree-fits-callees t) (tree-fits-at t) tree-fits.Post tree-fits-Inv-loop tree-fits-μ-loop
-tree-fits-returns-4 t c = one-fails _ _ _ _ _ (c .before .before .before .before .before .before .before .before .before .before .before .before .if1 .left) _ (sym (c .before .before .before .before .before .before .before .before .before .before .before .read .ensures) ∙ c .before .before .before .before .before .before .before .before .before .r .given .1) _ (c .before .before .before .before .before .operands .ensures .0) _ (c .before .before .loop-test .taken) (operand-high _ _ _ _ _ _ _ _ (c .before .before .before .before .before .operands .ensures .0) (c .before .operand .ensures .0) (c .if3 .taken))
+tree-fits-returns-4 t c =
+    let at8 = c .before .before .before .before .before .before .before .before in
+    let operands-here = c .before .before .before .before .before .operands in
+    let r-here = at8 .before .r in
+    let read-here = at8 .before .before .before .read in
+    let if1 = at8 .before .before .before .before .if1 in
+    let r-here-is = sym (read-here .ensures) ∙ r-here .given .1 in
+    let operand-high-here = operand-high _ _ _ _ _ _ _ _ (operands-here .ensures .0) (c .before .operand .ensures .0) (c .if3 .taken) in
+    one-fails _ _ _ _ _ (if1 .left) _ r-here-is _ (operands-here .ensures .0) _ (c .before .before .loop-test .taken) operand-high-here
 
 tree-fits-sub-tree-fits : (t : ℕ) → tree-fits-lts.Need-sub-tree-fits (tree-fits-callees t) (tree-fits-at t) tree-fits.Post tree-fits-Inv-loop tree-fits-μ-loop
 tree-fits-sub-tree-fits t c = search needs
@@ -149,7 +157,18 @@ tree-fits-tree-fits-requires : (t : ℕ) → tree-fits-lts.Need-tree-fits-requir
 tree-fits-tree-fits-requires t c κs = (omega arith, c .before .before .before .before .before .before .before .before .before .before .before .before .before .before .pre .1)
 
 tree-fits-returns-5 : (t : ℕ) → tree-fits-lts.Need-returns-5 (tree-fits-callees t) (tree-fits-at t) tree-fits.Post tree-fits-Inv-loop tree-fits-μ-loop
-tree-fits-returns-5 t c = one-fails _ _ _ _ _ (c .before .before .before .before .before .before .before .before .before .before .before .before .before .before .if1 .left) _ (sym (c .before .before .before .before .before .before .before .before .before .before .before .before .before .read .ensures) ∙ c .before .before .before .before .before .before .before .before .before .before .before .r .given .1) _ (c .before .before .before .before .before .before .before .operands .ensures .0) _ (c .before .before .before .before .loop-test .taken) (operand-tree _ _ _ _ _ _ _ _ _ (c .before .before .before .before .before .before .before .operands .ensures .0) (c .before .before .before .operand .ensures .0) (c .before .before .if3 .left) (c .before .tree-fits .ensures) ∙ not-true _ (c .if4 .taken))
+tree-fits-returns-5 t c =
+    let at8 = c .before .before .before .before .before .before .before .before in
+    let operand-here = c .before .before .before .operand in
+    let loop-test = c .before .before .before .before .loop-test in
+    let operands-here = c .before .before .before .before .before .before .before .operands in
+    let r-here = at8 .before .before .before .r in
+    let read-here = at8 .before .before .before .before .before .read in
+    let if1 = at8 .before .before .before .before .before .before .if1 in
+    let r-here-is = sym (read-here .ensures) ∙ r-here .given .1 in
+    one-fails _ _ _ _ _ (if1 .left) _ r-here-is _ (operands-here .ensures .0) _ (loop-test .taken)
+    (operand-tree _ _ _ _ _ _ _ _ _ (operands-here .ensures .0) (operand-here .ensures .0) (c .before .before .if3 .left) (c .before .tree-fits .ensures)
+    ∙ not-true _ (c .if4 .taken))
 
 tree-fits-add-j : (t : ℕ) → tree-fits-lts.Need-add-j (tree-fits-callees t) (tree-fits-at t) tree-fits.Post tree-fits-Inv-loop tree-fits-μ-loop
 tree-fits-add-j t c = search needs
@@ -161,7 +180,18 @@ tree-fits-loop-again : (t : ℕ) → tree-fits-lts.Need-loop-again (tree-fits-ca
 tree-fits-loop-again t c = (omega arith, all-more (c .before .before .before .before .before .loop .j) _ (c .before .before .before .before .before .loop .inv .1) (operand-tree _ _ _ _ _ _ _ _ _ (c .before .before .before .before .before .before .before .operands .ensures .0) (c .before .before .before .operand .ensures .0) (c .before .before .if3 .left) (c .before .tree-fits .ensures) ∙ not-false _ (c .if4 .left)))
 
 tree-fits-returns-6 : (t : ℕ) → tree-fits-lts.Need-returns-6 (tree-fits-callees t) (tree-fits-at t) tree-fits.Post tree-fits-Inv-loop tree-fits-μ-loop
-tree-fits-returns-6 t c = all-fit _ _ _ _ _ (c .before .before .before .before .before .before .before .before .before .before .if1 .left) _ (sym (c .before .before .before .before .before .before .before .before .before .read .ensures) ∙ c .before .before .before .before .before .before .before .r .given .1) _ (c .before .before .before .operands .ensures .0) _ (sym (c .before .before .before .before .before .fields-fit .ensures) ∙ not-false _ (c .before .before .before .before .if2 .left)) (c .before .loop .inv .0) (c .loop-test .left) (c .before .loop .inv .1)
+tree-fits-returns-6 t c =
+    let at8 = c .before .before .before .before .before .before .before .before in
+    let operands-here = c .before .before .before .operands in
+    let if2 = c .before .before .before .before .if2 in
+    let fields-fit = c .before .before .before .before .before .fields-fit in
+    let r-here = c .before .before .before .before .before .before .before .r in
+    let read-here = at8 .before .read in
+    let if1 = at8 .before .before .if1 in
+    let r-here-is = sym (read-here .ensures) ∙ r-here .given .1 in
+    let fields-fit-is = sym (fields-fit .ensures) ∙ not-false _ (if2 .left) in
+    all-fit _ _ _ _ _ (if1 .left) _ r-here-is _ (operands-here .ensures .0) _ fields-fit-is (c .before .loop .inv .0) (c .loop-test .left)
+    (c .before .loop .inv .1)
 
 pub +tree-fits-spec : {M : Type 1} → statement M
 +tree-fits-spec = close μ-tree-fits λ t. tree-fits-lts.spec (tree-fits-callees t)

@@ -141,7 +141,13 @@ returns-13 c = of-form _ _ _ _ _ clock (form-clock _ (c .before .before .if3 .le
 
 returns-14 : tie.Need-returns-14
 unfolding fieldsShape
-returns-14 c = of-form _ _ _ _ _ arm (form-arm _ (from-next 35 _ (from-next 34 _ (from-next 33 _ (from-next 32 _ (c .before .before .if5 .left) (c .before .before .before .before .before .before .before .match .rest .0 .0 .0 .0 .0 .0 .1)) (c .before .before .before .before .before .before .before .match .rest .0 .0 .0 .0 .0 .1)) (c .before .before .before .before .before .before .before .match .rest .0 .0 .0 .0 .1)) (c .before .before .before .before .before .before .before .match .rest .0 .0 .0 .1)) (below-is _ _ (c .before .if6 .taken))) (c .arm-fits .ensures)
+returns-14 c =
+    let match = c .before .before .before .before .before .before .before .match in
+    let from-next-here = from-next 35 _
+    (from-next 34 _ (from-next 33 _ (from-next 32 _ (c .before .before .if5 .left) (match .rest .0 .0 .0 .0 .0 .0 .1)) (match .rest .0 .0 .0 .0 .0 .1))
+    (match .rest .0 .0 .0 .0 .1))
+    (match .rest .0 .0 .0 .1) in
+    of-form _ _ _ _ _ arm (form-arm _ from-next-here (below-is _ _ (c .before .if6 .taken))) (c .arm-fits .ensures)
 
 returns-15 : tie.Need-returns-15
 unfolding fieldsShape

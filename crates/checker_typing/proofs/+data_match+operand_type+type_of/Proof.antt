@@ -341,7 +341,9 @@ type-of-name-range-requires-3 : (t : ℕ) → type-of-lts.Need-name-range-requir
 type-of-name-range-requires-3 t c κs = search needs
 
 type-of-data-match-requires-4 : (t : ℕ) → type-of-lts.Need-data-match-requires-4 (type-of-callees t) (type-of-at t) type-of.Post
-type-of-data-match-requires-4 t c κs = (omega (arith, c .before .before .before .before .before .before .before .before .before .before .before .before .before .before .before .pre .0), (c .before .before .before .before .before .before .before .before .before .before .before .before .before .before .before .pre .1 .0, (c .before .before .before .before .before .before .before .before .before .before .before .before .before .before .before .pre .1 .1, (c .name-range3 .ensures .1, c .name-range3 .ensures .2))))
+type-of-data-match-requires-4 t c κs =
+    let pre = c .before .before .before .before .before .before .before .before .before .before .before .before .before .before .before .pre in
+    (omega (arith, pre .0), (pre .1 .0, (pre .1 .1, (c .name-range3 .ensures .1, c .name-range3 .ensures .2))))
 
 type-of-arm-type-requires : (t : ℕ) → type-of-lts.Need-arm-type-requires (type-of-callees t) (type-of-at t) type-of.Post
 type-of-arm-type-requires t c κs = c .before .before .before .before .before .before .before .before .before .before .before .before .before .before .before .before .pre .1
@@ -365,7 +367,15 @@ type-of-returns-6 : (t : ℕ) → type-of-lts.Need-returns-6 (type-of-callees t)
 type-of-returns-6 t c = typed-assign _ _ _ _ _ (sym (c .before .before .before .before .before .before .read .ensures) ∙ c .before .before .before .before .r .given .1) _ _ (c .before .before .match2 .keys5) (c .before .operand-type3 .ensures) (c .assign-type .ensures)
 
 type-of-returns-7 : (t : ℕ) → type-of-lts.Need-returns-7 (type-of-callees t) (type-of-at t) type-of.Post
-type-of-returns-7 t c = typed-external _ _ _ _ _ (sym (c .before .before .before .before .before .before .before .before .before .before .read .ensures) ∙ c .before .before .before .before .before .before .before .before .r .given .1) _ _ _ _ _ (c .before .before .before .before .before .before .match2 .keys6) (c .before .before .before .before .before .operand-type4 .ensures) (c .before .before .before .before .operand-type5 .ensures) (c .before .before .name-range .ensures .0) (c .before .data-match .ensures) (c .external-type .ensures)
+type-of-returns-7 t c =
+    let operand-type5 = c .before .before .before .before .operand-type5 in
+    let operand-type4 = c .before .before .before .before .before .operand-type4 in
+    let match2 = c .before .before .before .before .before .before .match2 in
+    let r = c .before .before .before .before .before .before .before .before .r in
+    let read-here = c .before .before .before .before .before .before .before .before .before .before .read in
+    let r-is = sym (read-here .ensures) ∙ r .given .1 in
+    typed-external _ _ _ _ _ r-is _ _ _ _ _ (match2 .keys6) (operand-type4 .ensures) (operand-type5 .ensures) (c .before .before .name-range .ensures .0)
+    (c .before .data-match .ensures) (c .external-type .ensures)
 
 type-of-returns-8 : (t : ℕ) → type-of-lts.Need-returns-8 (type-of-callees t) (type-of-at t) type-of.Post
 type-of-returns-8 t c = typed-internal _ _ _ _ _ (sym (c .before .before .before .before .before .before .before .before .read .ensures) ∙ c .before .before .before .before .before .before .r .given .1) _ _ _ (c .before .before .before .before .match2 .keys7) (c .before .before .name-range2 .ensures .0) (c .before .data-match2 .ensures) (c .internal-type .ensures)
@@ -389,13 +399,32 @@ type-of-returns-14 : (t : ℕ) → type-of-lts.Need-returns-14 (type-of-callees 
 type-of-returns-14 t c = typed-literal _ _ _ _ _ (sym (c .before .before .before .before .before .before .before .read .ensures) ∙ c .before .before .before .before .before .r .given .1) _ (c .before .before .if1 .left) (c .before .if2 .taken) (c .literal-type .ensures)
 
 type-of-returns-15 : (t : ℕ) → type-of-lts.Need-returns-15 (type-of-callees t) (type-of-at t) type-of.Post
-type-of-returns-15 t c = typed-binary _ _ _ _ _ (sym (c .before .before .before .before .before .before .before .before .before .before .read .ensures) ∙ c .before .before .before .before .before .before .before .before .r .given .1) _ _ _ (c .before .before .before .before .if2 .left) (c .before .before .before .before .before .before .match2 .rest .0 .0 .0 .0 .0 .0 .0 .0 .0 .0 .0 .1) (c .before .before .before .before .before .before .match2 .rest .0 .0 .0 .0 .0 .0 .0 .0 .0 .0 .1) (c .before .before .before .if3 .taken) (c .before .before .operand-type15 .ensures) (c .before .operand-type16 .ensures) (c .binary-type .ensures)
+type-of-returns-15 t c =
+    let if3 = c .before .before .before .if3 in
+    let if2 = c .before .before .before .before .if2 in
+    let match2 = c .before .before .before .before .before .before .match2 in
+    let r = c .before .before .before .before .before .before .before .before .r in
+    let read-here = c .before .before .before .before .before .before .before .before .before .before .read in
+    let r-is = sym (read-here .ensures) ∙ r .given .1 in
+    typed-binary _ _ _ _ _ r-is _ _ _ (if2 .left) (match2 .rest .0 .0 .0 .0 .0 .0 .0 .0 .0 .0 .0 .1) (match2 .rest .0 .0 .0 .0 .0 .0 .0 .0 .0 .0 .1)
+    (if3 .taken) (c .before .before .operand-type15 .ensures) (c .before .operand-type16 .ensures) (c .binary-type .ensures)
 
 type-of-returns-16 : (t : ℕ) → type-of-lts.Need-returns-16 (type-of-callees t) (type-of-at t) type-of.Post
 type-of-returns-16 t c = typed-clock _ _ _ _ _ (sym (c .before .before .before .before .before .before .before .before .before .read .ensures) ∙ c .before .before .before .before .before .before .before .r .given .1) _ (c .before .before .if3 .left) (c .before .if4 .taken) (c .clock-type .ensures)
 
 type-of-returns-17 : (t : ℕ) → type-of-lts.Need-returns-17 (type-of-callees t) (type-of-at t) type-of.Post
-type-of-returns-17 t c = typed-arm _ _ _ _ _ (sym (c .before .before .before .before .before .before .before .before .before .before .before .before .before .before .before .read .ensures) ∙ c .before .before .before .before .before .before .before .before .before .before .before .before .before .r .given .1) _ _ _ _ (c .before .before .before .before .before .before .if5 .left) (c .before .before .before .before .before .before .before .before .before .before .before .match2 .rest .0 .0 .0 .0 .0 .0 .0 .0 .1) (c .before .before .before .before .before .before .before .before .before .before .before .match2 .rest .0 .0 .0 .0 .0 .0 .0 .1) (c .before .before .before .before .before .before .before .before .before .before .before .match2 .rest .0 .0 .0 .0 .0 .0 .1) (c .before .before .before .before .before .before .before .before .before .before .before .match2 .rest .0 .0 .0 .0 .0 .1) (c .before .before .before .before .before .if6 .taken) (c .before .before .before .before .operand-type17 .ensures) (c .before .before .name-range3 .ensures .0) (c .before .data-match4 .ensures) (c .arm-type .ensures)
+type-of-returns-17 t c =
+    let at8 = c .before .before .before .before .before .before .before .before in
+    let operand-type17 = c .before .before .before .before .operand-type17 in
+    let if6 = c .before .before .before .before .before .if6 in
+    let if5 = c .before .before .before .before .before .before .if5 in
+    let match2 = at8 .before .before .before .match2 in
+    let r = at8 .before .before .before .before .before .r in
+    let read-here = at8 .before .before .before .before .before .before .before .read in
+    let r-is = sym (read-here .ensures) ∙ r .given .1 in
+    typed-arm _ _ _ _ _ r-is _ _ _ _ (if5 .left) (match2 .rest .0 .0 .0 .0 .0 .0 .0 .0 .1) (match2 .rest .0 .0 .0 .0 .0 .0 .0 .1)
+    (match2 .rest .0 .0 .0 .0 .0 .0 .1) (match2 .rest .0 .0 .0 .0 .0 .1) (if6 .taken) (operand-type17 .ensures) (c .before .before .name-range3 .ensures .0)
+    (c .before .data-match4 .ensures) (c .arm-type .ensures)
 
 type-of-returns-18 : (t : ℕ) → type-of-lts.Need-returns-18 (type-of-callees t) (type-of-at t) type-of.Post
 type-of-returns-18 t c = typed-act _ _ _ _ _ (sym (c .before .before .before .before .before .before .before .before .before .before .before .before .read .ensures) ∙ c .before .before .before .before .before .before .before .before .before .before .r .given .1) _ (c .before .before .if6 .left) (c .before .if7 .taken) (c .clock-act-type .ensures)
@@ -407,7 +436,14 @@ type-of-returns-20 : (t : ℕ) → type-of-lts.Need-returns-20 (type-of-callees 
 type-of-returns-20 t c = typed-gap _ _ _ _ _ (sym (c .before .before .before .before .before .before .before .before .before .read .ensures) ∙ c .before .before .before .before .before .before .before .r .given .1) (c .before .if4 .left) (c .before .before .before .before .before .match2 .rest .0 .0 .0 .0 .0 .0 .0 .0 .0 .1) (c .if5 .taken)
 
 type-of-returns-21 : (t : ℕ) → type-of-lts.Need-returns-21 (type-of-callees t) (type-of-at t) type-of.Post
-type-of-returns-21 t c = typed-past _ _ _ _ _ (sym (c .before .before .before .before .before .before .before .before .before .before .before .read .ensures) ∙ c .before .before .before .before .before .before .before .before .before .r .given .1) (c .if7 .left) (c .before .before .before .before .before .before .before .match2 .rest .0 .0 .0 .0 .1) (c .before .before .before .before .before .before .before .match2 .rest .0 .0 .0 .1) (c .before .before .before .before .before .before .before .match2 .rest .0 .0 .1) (c .before .before .before .before .before .before .before .match2 .rest .0 .1) (c .before .before .before .before .before .before .before .match2 .rest .1)
+type-of-returns-21 t c =
+    let at8 = c .before .before .before .before .before .before .before .before in
+    let match2 = c .before .before .before .before .before .before .before .match2 in
+    let r = at8 .before .r in
+    let read-here = at8 .before .before .before .read in
+    let r-is = sym (read-here .ensures) ∙ r .given .1 in
+    typed-past _ _ _ _ _ r-is (c .if7 .left) (match2 .rest .0 .0 .0 .0 .1) (match2 .rest .0 .0 .0 .1) (match2 .rest .0 .0 .1) (match2 .rest .0 .1)
+    (match2 .rest .1)
 
 pub +data-match+operand-type+type-of-spec : {M : Type 1} → statement M
 +data-match+operand-type+type-of-spec =

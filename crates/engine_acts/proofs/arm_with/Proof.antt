@@ -21,7 +21,14 @@ cast-t18 : tie.Need-cast-t18
 cast-t18 c = search needs
 
 gather-requires : tie.Need-gather-requires
-gather-requires c κs = (c .before .before .before .before .before .pre .0, c .before .before .before .before .before .pre .1 .ready, arm-data _ _ _ _ (c .before .before .before .before .before .pre .1 .ready) _ _ (c .before .before .before .before .before .pre .1 .there) (c .before .before .before .before .before .pre .1 .statement) (c .before .before .before .before .before .pre .1 .form) _ (c .before .before .before .before .before .pre .2), four-data _ _ (c .before .before .before .before .before .pre .1 .ready .running) _ _ (c .before .before .before .before .before .pre .2), refl)
+gather-requires c κs =
+    let pre = c .before .before .before .before .before .pre in (
+      pre .0,
+      pre .1 .ready,
+      arm-data _ _ _ _ (pre .1 .ready) _ _ (pre .1 .there) (pre .1 .statement) (pre .1 .form) _ (pre .2),
+      four-data _ _ (pre .1 .ready .running) _ _ (pre .2),
+      refl,
+    )
 
 enum-known-o : tie.Need-enum-known-o
 enum-known-o c = search needs
@@ -30,7 +37,13 @@ same-length : tie.Need-same-length
 same-length c = search needs
 
 returns : tie.Need-returns
-returns c = let d = data-given _ _ (sym (c .before .before .o .given .1) ∙ c .before .before .before .before .gather .ensures .1) in armed-not _ (clockOf (c .before .before .before .before .before .before .before .before .before .before .args .r .f0)) _ (c .before .before .before .before .before .before .before .before .before .before .args .r .f3) (d .0) _ _ _ (rw (back (c .before .before .before .before .before .before .before .before .before .before .fits .period)) at (c .if1 .taken)) ∙ on-given _ _ _ _ _ _ (d .1)
+returns c =
+    let at8 = c .before .before .before .before .before .before .before .before in
+    let gather = c .before .before .before .before .gather in
+    let args = at8 .before .before .args in
+    let fits = at8 .before .before .fits in
+    let d = data-given _ _ (sym (c .before .before .o .given .1) ∙ gather .ensures .1) in
+    armed-not _ (clockOf (args .r .f0)) _ (args .r .f3) (d .0) _ _ _ (rw (back (fits .period)) at (c .if1 .taken)) ∙ on-given _ _ _ _ _ _ (d .1)
 
 cast-first-word : tie.Need-cast-first-word
 cast-first-word c = search needs
@@ -57,7 +70,29 @@ same-length-2 : tie.Need-same-length-2
 same-length-2 c = search needs
 
 returns-2 : tie.Need-returns-2
-returns-2 c = let d = data-given _ _ (sym (c .before .before .before .before .before .before .before .before .before .before .o .given .1) ∙ c .before .before .before .before .before .before .before .before .before .before .before .before .gather .ensures .1) in let f = c .before .before .before .before .before .before .before .before .before .before .before .before .gather .ensures .2 _ _ (d .1) in let k : c .before .before .before .before .before .before .before .before .before .before .before .before .before .before .before .before .before .before .args .r .f3 < 65536 = c .before .before .before .struct-known4 .given .1 .1 .1 .0 .fits in ap (λ st. world (Done (c .before .before .before .before .before .before .before .before .before .before .o .given .0 .0)) st (c .before .before .before .before .before .before .before .before .before .before .before .before .before .before .before .before .before .before .args .lo .now)) (rw (value-back (clockOf (c .before .before .before .before .before .before .before .before .before .before .before .before .before .before .before .before .before .before .args .r .f0)) _ _ (c .before .before .before .before .before .before .before .before .before .before .before .before .before .before .before .before .before .before .fits .period) (rw (back (c .before .before .before .before .before .before .before .before .before .before .before .before .before .before .before .before .before .before .fits .period)) at (c .before .before .before .before .first-value .ensures)), back (c .before .before .before .before .before .before .before .before .before .before .before .before .before .before .before .before .before .before .fits .period), given (pos (c .before .before .before .before .before .before .before .before .before .before .before .before .before .before .before .before .before .before .args .r .f3)) (omega arith), f) at (rw (c .before .before .before .before .before .first-word .ensures) at (c .before .put-clock .ensures))) ∙ armed-so _ (clockOf (c .before .before .before .before .before .before .before .before .before .before .before .before .before .before .before .before .before .before .args .r .f0)) _ (c .before .before .before .before .before .before .before .before .before .before .before .before .before .before .before .before .before .before .args .r .f3) (d .0) _ _ _ (rw (back (c .before .before .before .before .before .before .before .before .before .before .before .before .before .before .before .before .before .before .fits .period)) at (c .before .before .before .before .before .before .before .before .if1 .left)) ∙ on-given _ _ _ _ _ _ (d .1)
+returns-2 c =
+    let at8 = c .before .before .before .before .before .before .before .before in
+    let at16 = at8 .before .before .before .before .before .before .before .before in
+    let struct-known4 = c .before .before .before .struct-known4 in
+    let first-value = c .before .before .before .before .first-value in
+    let first-word = c .before .before .before .before .before .first-word in
+    let if1 = at8 .if1 in
+    let o = at8 .before .before .o in
+    let gather = at8 .before .before .before .before .gather in
+    let args = at16 .before .before .args in
+    let fits = at16 .before .before .fits in
+    let d = data-given _ _ (sym (o .given .1) ∙ gather .ensures .1) in
+    let f = gather .ensures .2 _ _ (d .1) in
+    let k : args .r .f3 < 65536 = struct-known4 .given .1 .1 .1 .0 .fits in
+    ap (λ st. world (Done (o .given .0 .0)) st (args .lo .now))
+    (rw (
+      value-back (clockOf (args .r .f0)) _ _ (fits .period) (rw (back (fits .period)) at (first-value .ensures)),
+      back (fits .period),
+      given (pos (args .r .f3)) (omega arith),
+      f,
+    ) at (rw (first-word .ensures) at (c .before .put-clock .ensures)))
+    ∙ armed-so _ (clockOf (args .r .f0)) _ (args .r .f3) (d .0) _ _ _ (rw (back (fits .period)) at (if1 .left))
+    ∙ on-given _ _ _ _ _ _ (d .1)
 
 same-length-3 : tie.Need-same-length-3
 same-length-3 c = search needs

@@ -30,19 +30,43 @@ same-length : tie.Need-same-length
 same-length c = search needs
 
 returns : tie.Need-returns
-returns c = (c .before .put .ensures .0, λ depth. (rw (given (c .before .before .before .before .before .x .given .0 .0) (c .before .before .before .before .known-told .given .0 .1)) at (c .before .put .ensures .1 (c .before .before .before .before .before .before .before .before .before .before .before .before .args .sheet .now) (contextAt (c .before .before .before .before .before .before .before .before .before .before .before .before .args .sheet .now) (c .before .before .before .before .before .before .before .before .before .before .before .before .args .context .now)) (assign-at _ _ _ _ _ _ (c .before .before .before .before .before .before .before .before .before .before .before .before .pre .1)))) ∙ on-word _ _ _ _ _ _ (sym (c .before .before .before .before .before .x .given .1) ∙ c .before .before .before .before .before .before .before .eval .ensures) ∙ sym (assign-word _ _ _ _ (c .before .before .before .before .before .before .before .before .before .before .before .before .pre .1 .ready) _ _ (c .before .before .before .before .before .before .before .before .before .before .before .before .pre .1 .there) (c .before .before .before .before .before .before .before .before .before .before .before .before .pre .1 .statement) (c .before .before .before .before .before .before .before .before .before .before .before .before .pre .1 .form) depth _))
+returns c =
+    let at8 = c .before .before .before .before .before .before .before .before in
+    let known-told = c .before .before .before .before .known-told in
+    let x = c .before .before .before .before .before .x in
+    let eval = c .before .before .before .before .before .before .before .eval in
+    let args = at8 .before .before .before .before .args in
+    let pre = at8 .before .before .before .before .pre in
+    let x-is = sym (x .given .1) ∙ eval .ensures in
+    let put-here = c .before .put .ensures .1 (args .sheet .now) (contextAt (args .sheet .now) (args .context .now)) (assign-at _ _ _ _ _ _ (pre .1)) in (
+      c .before .put .ensures .0,
+      λ depth. (rw (given (x .given .0 .0) (known-told .given .0 .1)) at put-here)
+          ∙ on-word _ _ _ _ _ _ x-is
+          ∙ sym (assign-word _ _ _ _ (pre .1 .ready) _ _ (pre .1 .there) (pre .1 .statement) (pre .1 .form) depth _),
+    )
 
 same-length-2 : tie.Need-same-length-2
 same-length-2 c = search needs
 
 returns-2 : tie.Need-returns-2
-returns-2 c = (c .before .before .before .before .before .before .before .before .pre .1 .ready .locals .sixteen, λ depth. on-refused _ _ _ _ _ _ (sym (c .before .x2 .given .1) ∙ c .before .before .before .eval .ensures) ∙ sym (assign-word _ _ _ _ (c .before .before .before .before .before .before .before .before .pre .1 .ready) _ _ (c .before .before .before .before .before .before .before .before .pre .1 .there) (c .before .before .before .before .before .before .before .before .pre .1 .statement) (c .before .before .before .before .before .before .before .before .pre .1 .form) depth _))
+returns-2 c =
+    let eval = c .before .before .before .eval in
+    let pre = c .before .before .before .before .before .before .before .before .pre in
+    let x2-is = sym (c .before .x2 .given .1) ∙ eval .ensures in (
+      pre .1 .ready .locals .sixteen,
+      λ depth. on-refused _ _ _ _ _ _ x2-is ∙ sym (assign-word _ _ _ _ (pre .1 .ready) _ _ (pre .1 .there) (pre .1 .statement) (pre .1 .form) depth _),
+    )
 
 same-length-3 : tie.Need-same-length-3
 same-length-3 c = search needs
 
 returns-3 : tie.Need-returns-3
-returns-3 c = (c .before .before .before .before .before .before .before .pre .1 .ready .locals .sixteen, λ depth. on-stuck _ _ _ _ (sym (c .enum-told .given .1) ∙ c .before .before .eval .ensures) ∙ sym (assign-word _ _ _ _ (c .before .before .before .before .before .before .before .pre .1 .ready) _ _ (c .before .before .before .before .before .before .before .pre .1 .there) (c .before .before .before .before .before .before .before .pre .1 .statement) (c .before .before .before .before .before .before .before .pre .1 .form) depth _))
+returns-3 c =
+    let pre = c .before .before .before .before .before .before .before .pre in
+    let enum-told-is = sym (c .enum-told .given .1) ∙ c .before .before .eval .ensures in (
+      pre .1 .ready .locals .sixteen,
+      λ depth. on-stuck _ _ _ _ enum-told-is ∙ sym (assign-word _ _ _ _ (pre .1 .ready) _ _ (pre .1 .there) (pre .1 .statement) (pre .1 .form) depth _),
+    )
 
 pub assign-spec : {M : Type 1} → statement M
 assign-spec =

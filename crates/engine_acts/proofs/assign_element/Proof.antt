@@ -47,19 +47,54 @@ same-length : tie.Need-same-length
 same-length c = search needs
 
 returns : tie.Need-returns
-returns c = λ depth. (rw (given (c .before .before .before .before .before .value .given .0 .0) (c .before .before .before .before .known-told2 .given .0 .1), given (c .before .before .before .before .before .before .before .before .before .before .before .index .given .0 .0) (c .before .before .before .before .before .before .before .before .before .before .known-told .given .0 .1)) at (c .before .put-element .ensures (c .before .before .before .before .before .before .before .before .before .before .before .before .before .before .before .before .before .args .lo .now))) ∙ on-word _ _ _ _ _ _ (sym (c .before .before .before .before .before .value .given .1) ∙ c .before .before .before .before .before .before .before .eval2 .ensures) ∙ on-word _ _ _ _ _ _ (sym (c .before .before .before .before .before .before .before .before .before .before .before .index .given .1) ∙ c .before .before .before .before .before .before .before .before .before .before .before .before .before .eval .ensures) ∙ sym (element-word _ _ _ _ (c .before .before .before .before .before .before .before .before .before .before .before .before .before .before .before .before .before .pre .1 .ready) _ _ (c .before .before .before .before .before .before .before .before .before .before .before .before .before .before .before .before .before .pre .1 .there) (c .before .before .before .before .before .before .before .before .before .before .before .before .before .before .before .before .before .pre .1 .statement) (c .before .before .before .before .before .before .before .before .before .before .before .before .before .before .before .before .before .pre .1 .form) depth _)
+returns c =
+    let at8 = c .before .before .before .before .before .before .before .before in
+    let at16 = at8 .before .before .before .before .before .before .before .before in
+    let known-told2 = c .before .before .before .before .known-told2 in
+    let value = c .before .before .before .before .before .value in
+    let eval2 = c .before .before .before .before .before .before .before .eval2 in
+    let known-told = at8 .before .before .known-told in
+    let index = at8 .before .before .before .index in
+    let eval = at8 .before .before .before .before .before .eval in
+    let args = at16 .before .args in
+    let pre = at16 .before .pre in
+    let index-is = sym (index .given .1) ∙ eval .ensures in
+    let value-is = sym (value .given .1) ∙ eval2 .ensures in
+    λ depth. (rw (given (value .given .0 .0) (known-told2 .given .0 .1), given (index .given .0 .0) (known-told .given .0 .1)) at
+    (c .before .put-element .ensures (args .lo .now)))
+    ∙ on-word _ _ _ _ _ _ value-is
+    ∙ on-word _ _ _ _ _ _ index-is
+    ∙ sym (element-word _ _ _ _ (pre .1 .ready) _ _ (pre .1 .there) (pre .1 .statement) (pre .1 .form) depth _)
 
 same-length-2 : tie.Need-same-length-2
 same-length-2 c = search needs
 
 returns-2 : tie.Need-returns-2
-returns-2 c = λ depth. on-refused _ _ _ _ _ _ (sym (c .before .value2 .given .1) ∙ c .before .before .before .eval2 .ensures) ∙ on-word _ _ _ _ _ _ (sym (c .before .before .before .before .before .before .before .index .given .1) ∙ c .before .before .before .before .before .before .before .before .before .eval .ensures) ∙ sym (element-word _ _ _ _ (c .before .before .before .before .before .before .before .before .before .before .before .before .before .pre .1 .ready) _ _ (c .before .before .before .before .before .before .before .before .before .before .before .before .before .pre .1 .there) (c .before .before .before .before .before .before .before .before .before .before .before .before .before .pre .1 .statement) (c .before .before .before .before .before .before .before .before .before .before .before .before .before .pre .1 .form) depth _)
+returns-2 c =
+    let at8 = c .before .before .before .before .before .before .before .before in
+    let eval2 = c .before .before .before .eval2 in
+    let index = c .before .before .before .before .before .before .before .index in
+    let eval = at8 .before .eval in
+    let pre = at8 .before .before .before .before .before .pre in
+    let index-is = sym (index .given .1) ∙ eval .ensures in
+    let value2-is = sym (c .before .value2 .given .1) ∙ eval2 .ensures in
+    λ depth. on-refused _ _ _ _ _ _ value2-is
+    ∙ on-word _ _ _ _ _ _ index-is
+    ∙ sym (element-word _ _ _ _ (pre .1 .ready) _ _ (pre .1 .there) (pre .1 .statement) (pre .1 .form) depth _)
 
 same-length-3 : tie.Need-same-length-3
 same-length-3 c = search needs
 
 returns-3 : tie.Need-returns-3
-returns-3 c = λ depth. on-stuck _ _ _ _ (sym (c .enum-told .given .1) ∙ c .before .before .eval2 .ensures) ∙ on-word _ _ _ _ _ _ (sym (c .before .before .before .before .before .before .index .given .1) ∙ c .before .before .before .before .before .before .before .before .eval .ensures) ∙ sym (element-word _ _ _ _ (c .before .before .before .before .before .before .before .before .before .before .before .before .pre .1 .ready) _ _ (c .before .before .before .before .before .before .before .before .before .before .before .before .pre .1 .there) (c .before .before .before .before .before .before .before .before .before .before .before .before .pre .1 .statement) (c .before .before .before .before .before .before .before .before .before .before .before .before .pre .1 .form) depth _)
+returns-3 c =
+    let index = c .before .before .before .before .before .before .index in
+    let eval = c .before .before .before .before .before .before .before .before .eval in
+    let pre = c .before .before .before .before .before .before .before .before .before .before .before .before .pre in
+    let index-is = sym (index .given .1) ∙ eval .ensures in
+    let enum-told-is = sym (c .enum-told .given .1) ∙ c .before .before .eval2 .ensures in
+    λ depth. on-stuck _ _ _ _ enum-told-is
+    ∙ on-word _ _ _ _ _ _ index-is
+    ∙ sym (element-word _ _ _ _ (pre .1 .ready) _ _ (pre .1 .there) (pre .1 .statement) (pre .1 .form) depth _)
 
 same-length-4 : tie.Need-same-length-4
 same-length-4 c = search needs

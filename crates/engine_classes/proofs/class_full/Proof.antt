@@ -43,16 +43,33 @@ returns-2 : tie.Need-returns-2 Inv-loop μ-loop
 returns-2 c = looked-full _ _ (c .before .before .before .before .before .before .pre .0) (c .before .before .before .before .before .before .pre .1) (c .before .before .before .before .before .before .pre .2) _ _ _ (c .before .before .before .before .loop .inv) (c .before .before .before .loop-test .taken) (sym (c .before .before .same-class .ensures) ∙ c .before .if2 .taken) (c .if3 .taken)
 
 add-at : tie.Need-add-at Inv-loop μ-loop
-add-at c = record { fits = omega (arith, looked-inside _ _ (c .before .before .before .before .before .pre .0) (c .before .before .before .before .before .pre .1) (c .before .before .before .before .before .pre .2) _ _ _ (c .before .before .before .loop .inv) (c .before .before .loop-test .taken), end-inside _ _ (c .before .before .before .before .before .pre .0) (c .before .before .before .before .before .pre .1) (c .before .before .before .before .before .pre .2) (c .before .before .before .before .before .args .t)) }
+add-at c =
+    let loop = c .before .before .before .loop in
+    let args = c .before .before .before .before .before .args in
+    let pre = c .before .before .before .before .before .pre in
+    record {
+      fits = omega (
+        arith,
+        looked-inside _ _ (pre .0) (pre .1) (pre .2) _ _ _ (loop .inv) (c .before .before .loop-test .taken),
+        end-inside _ _ (pre .0) (pre .1) (pre .2) (args .t),
+      );
+    }
 
 loop-less : tie.Need-loop-less Inv-loop μ-loop
 loop-less c = omega (arith, looked-inside _ _ (c .before .before .before .before .before .pre .0) (c .before .before .before .before .before .pre .1) (c .before .before .before .before .before .pre .2) _ _ _ (c .before .before .before .loop .inv) (c .before .before .loop-test .taken))
 
 loop-again : tie.Need-loop-again Inv-loop μ-loop
 loop-again c =
+    let loop-test = c .before .before .loop-test in
+    let loop = c .before .before .before .loop in
+    let args = c .before .before .before .before .before .args in
+    let pre = c .before .before .before .before .before .pre in
+    let same-class-here = c .before .same-class .ensures in
     ⊎-elim
-    (λ w. subst (λ last. Looked (c .before .before .before .before .before .args .st .now) (c .before .before .before .before .before .args .n) (c .before .before .before .before .before .args .t) last (c .before .before .before .loop .at + 8)) (sym (w .2)) (looked-found _ _ (c .before .before .before .before .before .pre .0) (c .before .before .before .before .before .pre .1) (c .before .before .before .before .before .pre .2) _ _ _ (c .before .before .before .loop .inv) (c .before .before .loop-test .taken) (sym (c .before .same-class .ensures) ∙ w .0 .taken) (w .1 .left)))
-    (λ w. subst (λ last. Looked (c .before .before .before .before .before .args .st .now) (c .before .before .before .before .before .args .n) (c .before .before .before .before .before .args .t) last (c .before .before .before .loop .at + 8)) (sym (w .1)) (looked-passed _ _ (c .before .before .before .before .before .pre .0) (c .before .before .before .before .before .pre .1) (c .before .before .before .before .before .pre .2) _ _ _ (c .before .before .before .loop .inv) (c .before .before .loop-test .taken) (sym (c .before .same-class .ensures) ∙ w .0 .left)))
+    (λ w. subst (λ last. Looked (args .st .now) (args .n) (args .t) last (loop .at + 8)) (sym (w .2))
+    (looked-found _ _ (pre .0) (pre .1) (pre .2) _ _ _ (loop .inv) (loop-test .taken) (sym same-class-here ∙ w .0 .taken) (w .1 .left)))
+    (λ w. subst (λ last. Looked (args .st .now) (args .n) (args .t) last (loop .at + 8)) (sym (w .1))
+    (looked-passed _ _ (pre .0) (pre .1) (pre .2) _ _ _ (loop .inv) (loop-test .taken) (sym same-class-here ∙ w .0 .left)))
     (c .if2 .came)
 
 returns-3 : tie.Need-returns-3 Inv-loop μ-loop

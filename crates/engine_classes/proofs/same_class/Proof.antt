@@ -48,12 +48,25 @@ shared-slice-copy-out-result c = search needs
 returns-3 : tie.Need-returns-3
 unfolding sameClass telegramIn wordOf
 returns-3 c =
-    let st = c .before .before .before .before .before .before .before .before .before .before .before .before .args .st .now in
-    let at = c .before .before .before .before .before .before .before .before .before .before .before .before .args .at in
-    let t = c .before .before .before .before .before .before .before .before .before .before .before .before .args .t in
+    let at8 = c .before .before .before .before .before .before .before .before in
+    let if2 = c .before .before .before .before .if2 in
+    let struct-told2 = c .before .before .before .before .before .struct-told2 in
+    let if22 = c .before .before .before .before .before .before .before .if22 in
+    let if1 = at8 .if1 in
+    let struct-told = at8 .before .struct-told in
+    let if12 = at8 .before .before .before .if12 in
+    let args = at8 .before .before .before .before .args in
+    let st = args .st .now in
+    let at = args .at in
+    let t = args .t in
+    let port-inside-here = port-inside (t .port) (record { sfits = c .before .before .struct-told3 .given .1 .1 .0 .1 }) (c .before .if3 .taken) in
+    let bits-same-here = bits-same {z = t .sender} {w = getD st at (pos 0)} (record { sfits = struct-told .given .0 .1 }) (record { sfits = if12 .given })
+    (if1 .left) in
+    let bits-same-here2 = bits-same {z = t .receiver} {w = getD st (at + 1) (pos 0)} (record { sfits = struct-told2 .given .1 .0 .1 })
+    (record { sfits = if22 .given }) (if2 .left) in
     (same-bits (getD st (at + 2) (pos 0)) (negsuc 0) (record { sfits = c .result .given }) (record { sfits = omega arith }))
-    ∙ both-inside t (telegramIn st at) (port-inside (t .port) (record { sfits = c .before .before .struct-told3 .given .1 .1 .0 .1 }) (c .before .if3 .taken))
-    ∙ sym (true-and _ _ (bits-same {z = t .sender} {w = getD st at (pos 0)} (record { sfits = c .before .before .before .before .before .before .before .before .before .struct-told .given .0 .1 }) (record { sfits = c .before .before .before .before .before .before .before .before .before .before .before .if12 .given }) (c .before .before .before .before .before .before .before .before .if1 .left)) ∙ true-and _ _ (bits-same {z = t .receiver} {w = getD st (at + 1) (pos 0)} (record { sfits = c .before .before .before .before .before .struct-told2 .given .1 .0 .1 }) (record { sfits = c .before .before .before .before .before .before .before .if22 .given }) (c .before .before .before .before .if2 .left)))
+    ∙ both-inside t (telegramIn st at) port-inside-here
+    ∙ sym (true-and _ _ bits-same-here ∙ true-and _ _ bits-same-here2)
 
 add-result-2 : tie.Need-add-result-2
 add-result-2 c = search needs
@@ -67,12 +80,24 @@ shared-slice-copy-out-result-2 c = search needs
 returns-4 : tie.Need-returns-4
 unfolding sameClass telegramIn wordOf
 returns-4 c =
-    let st = c .before .before .before .before .before .before .before .before .before .before .before .before .args .st .now in
-    let at = c .before .before .before .before .before .before .before .before .before .before .before .before .args .at in
-    let t = c .before .before .before .before .before .before .before .before .before .before .before .before .args .t in
-    ap not (same-bits (getD st (at + 2) (pos 0)) (negsuc 0) (record { sfits = c .result2 .given }) (record { sfits = omega arith }))
-    ∙ both-outside t (telegramIn st at) (port-outside (t .port) (record { sfits = c .before .before .struct-told3 .given .1 .1 .0 .1 }) (c .before .if3 .left))
-    ∙ sym (true-and _ _ (bits-same {z = t .sender} {w = getD st at (pos 0)} (record { sfits = c .before .before .before .before .before .before .before .before .before .struct-told .given .0 .1 }) (record { sfits = c .before .before .before .before .before .before .before .before .before .before .before .if12 .given }) (c .before .before .before .before .before .before .before .before .if1 .left)) ∙ true-and _ _ (bits-same {z = t .receiver} {w = getD st (at + 1) (pos 0)} (record { sfits = c .before .before .before .before .before .struct-told2 .given .1 .0 .1 }) (record { sfits = c .before .before .before .before .before .before .before .if22 .given }) (c .before .before .before .before .if2 .left)))
+    let at8 = c .before .before .before .before .before .before .before .before in
+    let if2 = c .before .before .before .before .if2 in
+    let struct-told2 = c .before .before .before .before .before .struct-told2 in
+    let if22 = c .before .before .before .before .before .before .before .if22 in
+    let if1 = at8 .if1 in
+    let struct-told = at8 .before .struct-told in
+    let if12 = at8 .before .before .before .if12 in
+    let args = at8 .before .before .before .before .args in
+    let st = args .st .now in
+    let at = args .at in
+    let same-bits-here = same-bits (getD st (at + 2) (pos 0)) (negsuc 0) (record { sfits = c .result2 .given }) (record { sfits = omega arith }) in
+    let t = args .t in
+    let port-outside-here = port-outside (t .port) (record { sfits = c .before .before .struct-told3 .given .1 .1 .0 .1 }) (c .before .if3 .left) in
+    let bits-same-here = bits-same {z = t .sender} {w = getD st at (pos 0)} (record { sfits = struct-told .given .0 .1 }) (record { sfits = if12 .given })
+    (if1 .left) in
+    let bits-same-here2 = bits-same {z = t .receiver} {w = getD st (at + 1) (pos 0)} (record { sfits = struct-told2 .given .1 .0 .1 })
+    (record { sfits = if22 .given }) (if2 .left) in
+    ap not same-bits-here ∙ both-outside t (telegramIn st at) port-outside-here ∙ sym (true-and _ _ bits-same-here ∙ true-and _ _ bits-same-here2)
 
 pub same-class-spec : {M : Type 1} → statement M
 same-class-spec =

@@ -42,13 +42,43 @@ number-requires : tie.Need-number-requires
 number-requires c κs = let h : toZ w32 (ofZ w32 (c .before .before .before .before .args .i)) ≡ c .before .before .before .before .args .i = search needs in rw h (below-from _ _ (goes-below (c .before .before .before .before .args .context .now) (c .before .before .before .before .args .n) (c .before .before .before .before .args .i) _ (rw h at (c .before .is-below .ensures)) (c .if1 .left)))
 
 add-t7 : tie.Need-add-t7
-add-t7 c = let h : toZ w32 (ofZ w32 (c .before .before .before .before .before .args .i)) ≡ c .before .before .before .before .before .args .i = search needs in record { fits = omega (arith, goes-few (c .before .before .before .before .before .args .context .now) (c .before .before .before .before .before .args .n) (c .before .before .before .before .before .args .i) _ (rw h at (c .before .before .is-below .ensures)) (c .before .if1 .left) _ (rw h at (c .number .ensures)) (c .before .before .before .before .before .pre)) }
+add-t7 c =
+    let args = c .before .before .before .before .before .args in
+    let pre = c .before .before .before .before .before .pre in
+    let h : toZ w32 (ofZ w32 (args .i)) ≡ args .i = search needs in
+    record {
+      fits = omega (
+        arith,
+        goes-few (args .context .now) (args .n) (args .i) _ (rw h at (c .before .before .is-below .ensures)) (c .before .if1 .left) _
+            (rw h at (c .number .ensures)) pre,
+      );
+    }
 
 mul-t11 : tie.Need-mul-t11
-mul-t11 c = let h : toZ w32 (ofZ w32 (c .before .before .before .before .before .args .i)) ≡ c .before .before .before .before .before .args .i = search needs in record { fits = omega (arith, goes-few (c .before .before .before .before .before .args .context .now) (c .before .before .before .before .before .args .n) (c .before .before .before .before .before .args .i) _ (rw h at (c .before .before .is-below .ensures)) (c .before .if1 .left) _ (rw h at (c .number .ensures)) (c .before .before .before .before .before .pre)) }
+mul-t11 c =
+    let args = c .before .before .before .before .before .args in
+    let pre = c .before .before .before .before .before .pre in
+    let h : toZ w32 (ofZ w32 (args .i)) ≡ args .i = search needs in
+    record {
+      fits = omega (
+        arith,
+        goes-few (args .context .now) (args .n) (args .i) _ (rw h at (c .before .before .is-below .ensures)) (c .before .if1 .left) _
+            (rw h at (c .number .ensures)) pre,
+      );
+    }
 
 add-t8 : tie.Need-add-t8
-add-t8 c = let h : toZ w32 (ofZ w32 (c .before .before .before .before .before .args .i)) ≡ c .before .before .before .before .before .args .i = search needs in record { fits = omega (arith, goes-few (c .before .before .before .before .before .args .context .now) (c .before .before .before .before .before .args .n) (c .before .before .before .before .before .args .i) _ (rw h at (c .before .before .is-below .ensures)) (c .before .if1 .left) _ (rw h at (c .number .ensures)) (c .before .before .before .before .before .pre)) }
+add-t8 c =
+    let args = c .before .before .before .before .before .args in
+    let pre = c .before .before .before .before .before .pre in
+    let h : toZ w32 (ofZ w32 (args .i)) ≡ args .i = search needs in
+    record {
+      fits = omega (
+        arith,
+        goes-few (args .context .now) (args .n) (args .i) _ (rw h at (c .before .before .is-below .ensures)) (c .before .if1 .left) _
+            (rw h at (c .number .ensures)) pre,
+      );
+    }
 
 returns-2 : tie.Need-returns-2
 returns-2 c = let h : toZ w32 (ofZ w32 (c .before .before .before .before .before .args .i)) ≡ c .before .before .before .before .before .args .i = search needs in goes-inside (c .before .before .before .before .before .args .context .now) (c .before .before .before .before .before .args .n) (c .before .before .before .before .before .args .i) _ (rw h at (c .before .before .is-below .ensures)) (c .before .if1 .left) _ (rw h at (c .number .ensures))

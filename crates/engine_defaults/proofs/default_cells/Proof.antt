@@ -68,13 +68,26 @@ loop-less c = search needs
 
 loop-again : tie.Need-loop-again Inv-loop μ-loop
 loop-again c =
-    let l = c .before .before .before .before .before .before .before .loop-test .taken in
-    let e = c .before .before .before .before .before .before .before .before .loop .inv .2 in
-    let v = variable-cells (c .before .before .before .before .before .before .before .before .before .before .before .args .sheet .now) (c .before .before .before .before .before .before .before .before .before .before .before .args .c) (c .before .before .before .before .before .before .before .before .loop .j) _ l in
-    let w = c .before .before .before .before .before .before .before .before .before .before .before .pre .1 in
-    let x = c .before .before .before .cells-taken .ensures .0 in
-    let h = c .before .before .before .before .before .before .before .before .loop .inv .1 in
-    (omega arith, c .st .given ∙ h, next-cell _ (c .before .before .before .before .before .before .before .before .before .before .before .args .c) _ _ _ _ e x, written-more _ (c .before .before .before .before .before .before .before .before .before .before .before .args .c) _ (c .before .before .before .before .before .before .before .before .loop .st) _ _ _ _ (c .before .before .before .before .before .type-at .result) _ _ _ v (c .before .before .before .before .before .type-at .ensures) (given (c .before .before .before .before .default-of .result) (c .before .before .before .before .default-of .ok) ∙ c .before .before .before .before .default-of .ensures) x e (c .before .cells-alike .ensures) (c .before .before .before .before .before .before .before .before .loop .inv .3))
+    let at8 = c .before .before .before .before .before .before .before .before in
+    let cells-taken = c .before .before .before .cells-taken in
+    let default-of = c .before .before .before .before .default-of in
+    let type-at = c .before .before .before .before .before .type-at in
+    let loop-test = c .before .before .before .before .before .before .before .loop-test in
+    let loop = at8 .loop in
+    let args = at8 .before .before .before .args in
+    let pre = at8 .before .before .before .pre in
+    let l = loop-test .taken in
+    let e = loop .inv .2 in
+    let v = variable-cells (args .sheet .now) (args .c) (loop .j) _ l in
+    let w = pre .1 in
+    let x = cells-taken .ensures .0 in
+    let h = loop .inv .1 in (
+      omega arith,
+      c .st .given ∙ h,
+      next-cell _ (args .c) _ _ _ _ e x,
+      written-more _ (args .c) _ (loop .st) _ _ _ _ (type-at .result) _ _ _ v (type-at .ensures)
+          (given (default-of .result) (default-of .ok) ∙ default-of .ensures) x e (c .before .cells-alike .ensures) (loop .inv .3),
+    )
 
 same-length : tie.Need-same-length Inv-loop μ-loop
 same-length c = c .before .loop .inv .1

@@ -79,7 +79,15 @@ eval-cast-eval : (t : ℕ) → eval-lts.Need-cast-eval (callees t) (eval-at t) e
 eval-cast-eval t c = search needs
 
 eval-eval-requires : (t : ℕ) → eval-lts.Need-eval-requires (callees t) (eval-at t) eval.Post
-eval-eval-requires t c κs = (omega (arith, c .before .before .before .before .before .before .before .before .pre .0, unary-low _ _ _ _ (c .before .before .before .before .before .before .before .before .pre .1 .1) _ _ (sym (c .before .before .before .before .before .read .ensures) ∙ c .before .before .before .r .given .1) (c .before .before .before .before .before .before .before .before .pre .1 .2) (form-unary _ (c .before .match2 .keys2))), (c .before .before .before .before .before .before .before .before .pre .1 .0, c .before .before .before .before .before .before .before .before .pre .1 .1, unary-operand _ _ _ _ (c .before .before .before .before .before .before .before .before .pre .1 .1) _ _ (sym (c .before .before .before .before .before .read .ensures) ∙ c .before .before .before .r .given .1) (c .before .before .before .before .before .before .before .before .pre .1 .2) (form-unary _ (c .before .match2 .keys2))))
+eval-eval-requires t c κs =
+    let r = c .before .before .before .r in
+    let read-here = c .before .before .before .before .before .read in
+    let pre = c .before .before .before .before .before .before .before .before .pre in
+    let r-is = sym (read-here .ensures) ∙ r .given .1 in
+    let form-unary-here = form-unary _ (c .before .match2 .keys2) in (
+      omega (arith, pre .0, unary-low _ _ _ _ (pre .1 .1) _ _ r-is (pre .1 .2) form-unary-here),
+      (pre .1 .0, pre .1 .1, unary-operand _ _ _ _ (pre .1 .1) _ _ r-is (pre .1 .2) form-unary-here),
+    )
 
 eval-negated-requires : (t : ℕ) → eval-lts.Need-negated-requires (callees t) (eval-at t) eval.Post
 eval-negated-requires t c κs = search needs
@@ -103,7 +111,12 @@ eval-cast-eval-2 : (t : ℕ) → eval-lts.Need-cast-eval-2 (callees t) (eval-at 
 eval-cast-eval-2 t c = search needs
 
 eval-eval-requires-2 : (t : ℕ) → eval-lts.Need-eval-requires-2 (callees t) (eval-at t) eval.Post
-eval-eval-requires-2 t c κs = let o = index-at _ _ _ _ (c .before .before .before .before .before .before .before .before .before .pre .1 .1) _ _ (sym (c .before .before .before .before .before .before .read .ensures) ∙ c .before .before .before .before .r .given .1) (c .before .before .before .before .before .before .before .before .before .pre .1 .2) (form-element _ (c .before .before .match2 .keys5)) in (omega (arith, c .before .before .before .before .before .before .before .before .before .pre .0, o .0), (c .before .before .before .before .before .before .before .before .before .pre .1 .0, c .before .before .before .before .before .before .before .before .before .pre .1 .1, o .1))
+eval-eval-requires-2 t c κs =
+    let r = c .before .before .before .before .r in
+    let read-here = c .before .before .before .before .before .before .read in
+    let pre = c .before .before .before .before .before .before .before .before .before .pre in
+    let o = index-at _ _ _ _ (pre .1 .1) _ _ (sym (read-here .ensures) ∙ r .given .1) (pre .1 .2) (form-element _ (c .before .before .match2 .keys5)) in
+    (omega (arith, pre .0, o .0), (pre .1 .0, pre .1 .1, o .1))
 
 eval-element-requires : (t : ℕ) → eval-lts.Need-element-requires (callees t) (eval-at t) eval.Post
 eval-element-requires t c κs = reaches-at _ _ _ _ (c .before .before .before .before .before .before .before .before .before .before .pre .1 .1) _ _ (sym (c .before .before .before .before .before .before .before .read .ensures) ∙ c .before .before .before .before .before .r .given .1) (c .before .before .before .before .before .before .before .before .before .before .pre .1 .2) (form-element _ (c .before .before .before .match2 .keys5))
@@ -118,7 +131,14 @@ eval-cast-eval-3 : (t : ℕ) → eval-lts.Need-cast-eval-3 (callees t) (eval-at 
 eval-cast-eval-3 t c = search needs
 
 eval-eval-requires-3 : (t : ℕ) → eval-lts.Need-eval-requires-3 (callees t) (eval-at t) eval.Post
-eval-eval-requires-3 t c κs = let o = operands-at _ _ _ _ (c .before .before .before .before .before .before .before .before .before .before .before .pre .1 .1) _ _ (sym (c .before .before .before .before .before .before .before .before .read .ensures) ∙ c .before .before .before .before .before .before .r .given .1) (c .before .before .before .before .before .before .before .before .before .before .before .pre .1 .2) (form-binary _ (from-9 (c .before .before .if3 .left) (c .before .before .before .before .match2 .rest .0 .0 .0 .0 .1) (c .before .before .before .before .match2 .rest .0 .0 .0 .1)) (omega arith)) in (omega (arith, c .before .before .before .before .before .before .before .before .before .before .before .pre .0, o .0, o .1), (c .before .before .before .before .before .before .before .before .before .before .before .pre .1 .0, c .before .before .before .before .before .before .before .before .before .before .before .pre .1 .1, search (o .2, o .3)))
+eval-eval-requires-3 t c κs =
+    let match2 = c .before .before .before .before .match2 in
+    let r = c .before .before .before .before .before .before .r in
+    let read-here = c .before .before .before .before .before .before .before .before .read in
+    let pre = c .before .before .before .before .before .before .before .before .before .before .before .pre in
+    let from-9-here = from-9 (c .before .before .if3 .left) (match2 .rest .0 .0 .0 .0 .1) (match2 .rest .0 .0 .0 .1) in
+    let o = operands-at _ _ _ _ (pre .1 .1) _ _ (sym (read-here .ensures) ∙ r .given .1) (pre .1 .2) (form-binary _ from-9-here (omega arith)) in
+    (omega (arith, pre .0, o .0, o .1), (pre .1 .0, pre .1 .1, search (o .2, o .3)))
 
 eval-enum-known-x : (t : ℕ) → eval-lts.Need-enum-known-x (callees t) (eval-at t) eval.Post
 eval-enum-known-x t c = search needs
@@ -127,7 +147,16 @@ eval-cast-eval-4 : (t : ℕ) → eval-lts.Need-cast-eval-4 (callees t) (eval-at 
 eval-cast-eval-4 t c = search needs
 
 eval-eval-requires-4 : (t : ℕ) → eval-lts.Need-eval-requires-4 (callees t) (eval-at t) eval.Post
-eval-eval-requires-4 t c κs = let o = operands-at _ _ _ _ (c .before .before .before .before .before .before .before .before .before .before .before .before .before .before .before .before .pre .1 .1) _ _ (sym (c .before .before .before .before .before .before .before .before .before .before .before .before .before .read .ensures) ∙ c .before .before .before .before .before .before .before .before .before .before .before .r .given .1) (c .before .before .before .before .before .before .before .before .before .before .before .before .before .before .before .before .pre .1 .2) (form-binary _ (from-9 (c .before .before .before .before .before .before .before .if3 .left) (c .before .before .before .before .before .before .before .before .before .match2 .rest .0 .0 .0 .0 .1) (c .before .before .before .before .before .before .before .before .before .match2 .rest .0 .0 .0 .1)) (omega arith)) in (omega (arith, c .before .before .before .before .before .before .before .before .before .before .before .before .before .before .before .before .pre .0, o .0, o .1), (c .before .before .before .before .before .before .before .before .before .before .before .before .before .before .before .before .pre .1 .0, c .before .before .before .before .before .before .before .before .before .before .before .before .before .before .before .before .pre .1 .1, search (o .2, o .3)))
+eval-eval-requires-4 t c κs =
+    let at8 = c .before .before .before .before .before .before .before .before in
+    let if3 = c .before .before .before .before .before .before .before .if3 in
+    let match2 = at8 .before .match2 in
+    let r = at8 .before .before .before .r in
+    let read-here = at8 .before .before .before .before .before .read in
+    let pre = at8 .before .before .before .before .before .before .before .before .pre in
+    let from-9-here = from-9 (if3 .left) (match2 .rest .0 .0 .0 .0 .1) (match2 .rest .0 .0 .0 .1) in
+    let o = operands-at _ _ _ _ (pre .1 .1) _ _ (sym (read-here .ensures) ∙ r .given .1) (pre .1 .2) (form-binary _ from-9-here (omega arith)) in
+    (omega (arith, pre .0, o .0, o .1), (pre .1 .0, pre .1 .1, search (o .2, o .3)))
 
 eval-combined-requires : (t : ℕ) → eval-lts.Need-combined-requires (callees t) (eval-at t) eval.Post
 eval-combined-requires t c κs = search needs
@@ -142,34 +171,137 @@ eval-returns-3 : (t : ℕ) → eval-lts.Need-returns-3 (callees t) (eval-at t) e
 eval-returns-3 t c = visit _ _ _ _ _ _ (c .before .before .before .before .before .before .if1 .left) _ (c .variable .ensures)
 
 eval-returns-4 : (t : ℕ) → eval-lts.Need-returns-4 (callees t) (eval-at t) eval.Post
-eval-returns-4 t c = visit _ _ _ _ _ _ (c .before .before .before .before .before .before .before .before .if1 .left) _ (c .negated .ensures ∙ not-at _ _ _ _ (c .before .before .before .before .before .before .before .before .before .before .pre .1 .1) _ _ (sym (c .before .before .before .before .before .before .before .read .ensures) ∙ c .before .before .before .before .before .r .given .1) (c .before .before .before .before .before .before .before .before .before .before .pre .1 .2) (form-unary _ (c .before .before .before .match2 .keys2)) _ _ (c .before .eval .ensures))
+eval-returns-4 t c =
+    let match2 = c .before .before .before .match2 in
+    let r = c .before .before .before .before .before .r in
+    let read-here = c .before .before .before .before .before .before .before .read in
+    let if1 = c .before .before .before .before .before .before .before .before .if1 in
+    let pre = c .before .before .before .before .before .before .before .before .before .before .pre in
+    let r-is = sym (read-here .ensures) ∙ r .given .1 in
+    visit _ _ _ _ _ _ (if1 .left) _
+    (c .negated .ensures ∙ not-at _ _ _ _ (pre .1 .1) _ _ r-is (pre .1 .2) (form-unary _ (match2 .keys2)) _ _ (c .before .eval .ensures))
 
 eval-returns-5 : (t : ℕ) → eval-lts.Need-returns-5 (callees t) (eval-at t) eval.Post
-eval-returns-5 t c = let h : toZ w32 (ofZ w32 (c .cell-word .result)) ≡ c .cell-word .result = search needs in visit _ _ _ _ _ _ (c .before .before .before .before .before .before .before .if1 .left) _ (ap (λ (z : ℤ). Word z (c .before .before .before .before .before .before .before .before .before .args .left - 1)) (h ∙ c .cell-word .ensures) ∙ running-at _ _ _ _ (c .before .before .before .before .before .before .before .before .before .pre .1 .1) _ _ (sym (c .before .before .before .before .before .before .read .ensures) ∙ c .before .before .before .before .r .given .1) (c .before .before .before .before .before .before .before .before .before .pre .1 .2) (form-clock _ (let e = c .before .before .match2 .keys3 in omega arith) (let e = c .before .before .match2 .keys3 in omega arith)) (c .before .before .match2 .keys3) _)
+eval-returns-5 t c =
+    let at8 = c .before .before .before .before .before .before .before .before in
+    let match2 = c .before .before .match2 in
+    let r = c .before .before .before .before .r in
+    let read-here = c .before .before .before .before .before .before .read in
+    let if1 = c .before .before .before .before .before .before .before .if1 in
+    let args = at8 .before .args in
+    let pre = at8 .before .pre in
+    let r-is = sym (read-here .ensures) ∙ r .given .1 in
+    let h : toZ w32 (ofZ w32 (c .cell-word .result)) ≡ c .cell-word .result = search needs in
+    visit _ _ _ _ _ _ (if1 .left) _
+    (ap (λ (z : ℤ). Word z (args .left - 1)) (h ∙ c .cell-word .ensures)
+    ∙ running-at _ _ _ _ (pre .1 .1) _ _ r-is (pre .1 .2) (form-clock _ (let e = match2 .keys3 in omega arith) (let e = match2 .keys3 in omega arith))
+    (match2 .keys3) _)
 
 eval-returns-6 : (t : ℕ) → eval-lts.Need-returns-6 (callees t) (eval-at t) eval.Post
-eval-returns-6 t c = let h : toZ w32 (ofZ w32 (c .cell-word2 .result)) ≡ c .cell-word2 .result = search needs in visit _ _ _ _ _ _ (c .before .before .before .before .before .before .before .if1 .left) _ (ap (λ (z : ℤ). Word z (c .before .before .before .before .before .before .before .before .before .args .left - 1)) (h ∙ c .cell-word2 .ensures) ∙ value-at _ _ _ _ (c .before .before .before .before .before .before .before .before .before .pre .1 .1) _ _ (sym (c .before .before .before .before .before .before .read .ensures) ∙ c .before .before .before .before .r .given .1) (c .before .before .before .before .before .before .before .before .before .pre .1 .2) (form-clock _ (let e = c .before .before .match2 .keys4 in omega arith) (let e = c .before .before .match2 .keys4 in omega arith)) (c .before .before .match2 .keys4) _)
+eval-returns-6 t c =
+    let at8 = c .before .before .before .before .before .before .before .before in
+    let match2 = c .before .before .match2 in
+    let r = c .before .before .before .before .r in
+    let read-here = c .before .before .before .before .before .before .read in
+    let if1 = c .before .before .before .before .before .before .before .if1 in
+    let args = at8 .before .args in
+    let pre = at8 .before .pre in
+    let r-is = sym (read-here .ensures) ∙ r .given .1 in
+    let h : toZ w32 (ofZ w32 (c .cell-word2 .result)) ≡ c .cell-word2 .result = search needs in
+    visit _ _ _ _ _ _ (if1 .left) _
+    (ap (λ (z : ℤ). Word z (args .left - 1)) (h ∙ c .cell-word2 .ensures)
+    ∙ value-at _ _ _ _ (pre .1 .1) _ _ r-is (pre .1 .2) (form-clock _ (let e = match2 .keys4 in omega arith) (let e = match2 .keys4 in omega arith))
+    (match2 .keys4) _)
 
 eval-returns-7 : (t : ℕ) → eval-lts.Need-returns-7 (callees t) (eval-at t) eval.Post
-eval-returns-7 t c = visit _ _ _ _ _ _ (c .before .before .before .before .before .before .before .before .before .if1 .left) _ (c .element .ensures ∙ element-at _ _ _ _ (c .before .before .before .before .before .before .before .before .before .before .before .pre .1 .1) _ _ (sym (c .before .before .before .before .before .before .before .before .read .ensures) ∙ c .before .before .before .before .before .before .r .given .1) (c .before .before .before .before .before .before .before .before .before .before .before .pre .1 .2) (form-element _ (c .before .before .before .before .match2 .keys5)) _ _ (c .before .eval2 .ensures))
+eval-returns-7 t c =
+    let at8 = c .before .before .before .before .before .before .before .before in
+    let match2 = c .before .before .before .before .match2 in
+    let r = c .before .before .before .before .before .before .r in
+    let read-here = at8 .read in
+    let if1 = at8 .before .if1 in
+    let pre = at8 .before .before .before .pre in
+    let r-is = sym (read-here .ensures) ∙ r .given .1 in
+    visit _ _ _ _ _ _ (if1 .left) _
+    (c .element .ensures ∙ element-at _ _ _ _ (pre .1 .1) _ _ r-is (pre .1 .2) (form-element _ (match2 .keys5)) _ _ (c .before .eval2 .ensures))
 
 eval-returns-8 : (t : ℕ) → eval-lts.Need-returns-8 (callees t) (eval-at t) eval.Post
-eval-returns-8 t c = let h : toZ w32 (ofZ w32 (c .literal .result)) ≡ c .literal .result = search needs in visit _ _ _ _ _ _ (c .before .before .before .before .before .before .before .before .before .if1 .left) _ (ap (λ (z : ℤ). Word z (c .before .before .before .before .before .before .before .before .before .before .before .args .left - 1)) (h ∙ c .literal .ensures) ∙ literal-at _ _ _ _ (c .before .before .before .before .before .before .before .before .before .before .before .pre .1 .1) _ _ (sym (c .before .before .before .before .before .before .before .before .read .ensures) ∙ c .before .before .before .before .before .before .r .given .1) (c .before .before .before .before .before .before .before .before .before .before .before .pre .1 .2) (form-literal _ (omega arith) (omega arith)) _)
+eval-returns-8 t c =
+    let at8 = c .before .before .before .before .before .before .before .before in
+    let r = c .before .before .before .before .before .before .r in
+    let read-here = at8 .read in
+    let if1 = at8 .before .if1 in
+    let args = at8 .before .before .before .args in
+    let pre = at8 .before .before .before .pre in
+    let r-is = sym (read-here .ensures) ∙ r .given .1 in
+    let h : toZ w32 (ofZ w32 (c .literal .result)) ≡ c .literal .result = search needs in
+    visit _ _ _ _ _ _ (if1 .left) _
+    (ap (λ (z : ℤ). Word z (args .left - 1)) (h ∙ c .literal .ensures)
+    ∙ literal-at _ _ _ _ (pre .1 .1) _ _ r-is (pre .1 .2) (form-literal _ (omega arith) (omega arith)) _)
 
 eval-returns-9 : (t : ℕ) → eval-lts.Need-returns-9 (callees t) (eval-at t) eval.Post
-eval-returns-9 t c = let h : toZ w32 (ofZ w32 (c .before .before .before .before .x .given .0 .0)) ≡ c .before .before .before .before .x .given .0 .0 = search needs in visit _ _ _ _ _ _ (c .before .before .before .before .before .before .before .before .before .before .before .before .before .before .before .before .if1 .left) _ ((rw h at (c .combined .ensures)) ∙ two-at _ _ _ _ (c .before .before .before .before .before .before .before .before .before .before .before .before .before .before .before .before .before .before .pre .1 .1) _ _ (sym (c .before .before .before .before .before .before .before .before .before .before .before .before .before .before .before .read .ensures) ∙ c .before .before .before .before .before .before .before .before .before .before .before .before .before .r .given .1) (c .before .before .before .before .before .before .before .before .before .before .before .before .before .before .before .before .before .before .pre .1 .2) (form-binary _ (from-9 (c .before .before .before .before .before .before .before .before .before .if3 .left) (c .before .before .before .before .before .before .before .before .before .before .before .match2 .rest .0 .0 .0 .0 .1) (c .before .before .before .before .before .before .before .before .before .before .before .match2 .rest .0 .0 .0 .1)) (omega arith)) _ _ (c .before .before .before .before .before .before .eval3 .ensures) _ _ (c .before .before .before .before .x .given .1) _ (c .before .eval4 .ensures))
+eval-returns-9 t c =
+    let at8 = c .before .before .before .before .before .before .before .before in
+    let x = c .before .before .before .before .x in
+    let eval3 = c .before .before .before .before .before .before .eval3 in
+    let if3 = at8 .before .if3 in
+    let match2 = at8 .before .before .before .match2 in
+    let r = at8 .before .before .before .before .before .r in
+    let read-here = at8 .before .before .before .before .before .before .before .read in
+    let if1 = at8 .before .before .before .before .before .before .before .before .if1 in
+    let pre = at8 .before .before .before .before .before .before .before .before .before .before .pre in
+    let r-is = sym (read-here .ensures) ∙ r .given .1 in
+    let from-9-here = from-9 (if3 .left) (match2 .rest .0 .0 .0 .0 .1) (match2 .rest .0 .0 .0 .1) in
+    let h : toZ w32 (ofZ w32 (x .given .0 .0)) ≡ x .given .0 .0 = search needs in
+    visit _ _ _ _ _ _ (if1 .left) _
+    ((rw h at (c .combined .ensures))
+    ∙ two-at _ _ _ _ (pre .1 .1) _ _ r-is (pre .1 .2) (form-binary _ from-9-here (omega arith)) _ _ (eval3 .ensures) _ _ (x .given .1) _
+    (c .before .eval4 .ensures))
 
 eval-returns-10 : (t : ℕ) → eval-lts.Need-returns-10 (callees t) (eval-at t) eval.Post
-eval-returns-10 t c = visit _ _ _ _ _ _ (c .before .before .before .before .before .before .before .before .before .before .before .before .before .if1 .left) _ (first-refused _ _ _ _ (c .before .before .before .before .before .before .before .before .before .before .before .before .before .before .before .pre .1 .1) _ _ (sym (c .before .before .before .before .before .before .before .before .before .before .before .before .read .ensures) ∙ c .before .before .before .before .before .before .before .before .before .before .r .given .1) (c .before .before .before .before .before .before .before .before .before .before .before .before .before .before .before .pre .1 .2) (form-binary _ (from-9 (c .before .before .before .before .before .before .if3 .left) (c .before .before .before .before .before .before .before .before .match2 .rest .0 .0 .0 .0 .1) (c .before .before .before .before .before .before .before .before .match2 .rest .0 .0 .0 .1)) (omega arith)) _ _ (c .before .before .before .eval3 .ensures) _ _ (c .before .x2 .given .1))
+eval-returns-10 t c =
+    let at8 = c .before .before .before .before .before .before .before .before in
+    let eval3 = c .before .before .before .eval3 in
+    let if3 = c .before .before .before .before .before .before .if3 in
+    let match2 = at8 .match2 in
+    let r = at8 .before .before .r in
+    let read-here = at8 .before .before .before .before .read in
+    let if1 = at8 .before .before .before .before .before .if1 in
+    let pre = at8 .before .before .before .before .before .before .before .pre in
+    let r-is = sym (read-here .ensures) ∙ r .given .1 in
+    let from-9-here = from-9 (if3 .left) (match2 .rest .0 .0 .0 .0 .1) (match2 .rest .0 .0 .0 .1) in
+    let first-refused-here = first-refused _ _ _ _ (pre .1 .1) _ _ r-is (pre .1 .2) (form-binary _ from-9-here (omega arith)) _ _ (eval3 .ensures) _ _
+    (c .before .x2 .given .1) in
+    visit _ _ _ _ _ _ (if1 .left) _ first-refused-here
 
 eval-returns-11 : (t : ℕ) → eval-lts.Need-returns-11 (callees t) (eval-at t) eval.Post
-eval-returns-11 t c = visit _ _ _ _ _ _ (c .before .before .before .before .before .before .before .before .before .before .before .before .if1 .left) _ (first-stuck _ _ _ _ (c .before .before .before .before .before .before .before .before .before .before .before .before .before .before .pre .1 .1) _ _ (sym (c .before .before .before .before .before .before .before .before .before .before .before .read .ensures) ∙ c .before .before .before .before .before .before .before .before .before .r .given .1) (c .before .before .before .before .before .before .before .before .before .before .before .before .before .before .pre .1 .2) (form-binary _ (from-9 (c .before .before .before .before .before .if3 .left) (c .before .before .before .before .before .before .before .match2 .rest .0 .0 .0 .0 .1) (c .before .before .before .before .before .before .before .match2 .rest .0 .0 .0 .1)) (omega arith)) _ _ (c .before .before .eval3 .ensures) (c .enum-told2 .given .1))
+eval-returns-11 t c =
+    let at8 = c .before .before .before .before .before .before .before .before in
+    let if3 = c .before .before .before .before .before .if3 in
+    let match2 = c .before .before .before .before .before .before .before .match2 in
+    let r = at8 .before .r in
+    let read-here = at8 .before .before .before .read in
+    let if1 = at8 .before .before .before .before .if1 in
+    let pre = at8 .before .before .before .before .before .before .pre in
+    let r-is = sym (read-here .ensures) ∙ r .given .1 in
+    let from-9-here = from-9 (if3 .left) (match2 .rest .0 .0 .0 .0 .1) (match2 .rest .0 .0 .0 .1) in
+    let first-stuck-here = first-stuck _ _ _ _ (pre .1 .1) _ _ r-is (pre .1 .2) (form-binary _ from-9-here (omega arith)) _ _
+    (c .before .before .eval3 .ensures) (c .enum-told2 .given .1) in
+    visit _ _ _ _ _ _ (if1 .left) _ first-stuck-here
 
 eval-returns-12 : (t : ℕ) → eval-lts.Need-returns-12 (callees t) (eval-at t) eval.Post
 eval-returns-12 t c = absurd (other-stuck _ _ _ _ (c .before .before .before .before .before .before .before .before .pre .1 .1) _ _ (sym (c .before .before .before .before .before .read .ensures) ∙ c .before .before .before .r .given .1) (c .before .before .before .before .before .before .before .before .pre .1 .2) (form-expression _ (λ u v. let k = c .if2 .taken in omega arith)))
 
 eval-returns-13 : (t : ℕ) → eval-lts.Need-returns-13 (callees t) (eval-at t) eval.Post
-eval-returns-13 t c = absurd (other-stuck _ _ _ _ (c .before .before .before .before .before .before .before .before .before .before .pre .1 .1) _ _ (sym (c .before .before .before .before .before .before .before .read .ensures) ∙ c .before .before .before .before .before .r .given .1) (c .before .before .before .before .before .before .before .before .before .before .pre .1 .2) (form-expression _ (λ u v. let k = c .if4 .left in omega (arith, c .before .before .before .match2 .rest .0 .0 .1, c .before .before .before .match2 .rest .0 .1, c .before .before .before .match2 .rest .1))))
+eval-returns-13 t c =
+    let match2 = c .before .before .before .match2 in
+    let r = c .before .before .before .before .before .r in
+    let read-here = c .before .before .before .before .before .before .before .read in
+    let pre = c .before .before .before .before .before .before .before .before .before .before .pre in
+    let r-is = sym (read-here .ensures) ∙ r .given .1 in
+    absurd
+    (other-stuck _ _ _ _ (pre .1 .1) _ _ r-is (pre .1 .2)
+    (form-expression _ (λ u v. let k = c .if4 .left in omega (arith, match2 .rest .0 .0 .1, match2 .rest .0 .1, match2 .rest .1))))
 
 pub +eval-spec : {M : Type 1} → statement M
 +eval-spec = close μ-eval λ t. eval-lts.spec (callees t)

@@ -31,7 +31,12 @@ enum-told : tie.Need-enum-told
 enum-told c = search needs
 
 returns : tie.Need-returns
-returns c = constant-unbound _ _ _ _ (c .before .before .before .before .before .before .before .before .pre .1) _ _ (c .before .before .before .before .before .before .before .before .pre .3) (c .before .before .before .before .before .before .before .before .pre .2) (c .before .before .before .before .before .before .before .before .pre .4) (c .before .before .before .before .before .match .keys1) _ (c .before .before .before .constant-record .ensures) (sym (c .before .before .read .ensures) ∙ c .enum-told .given .1) _
+returns c =
+    let constant-record = c .before .before .before .constant-record in
+    let match = c .before .before .before .before .before .match in
+    let pre = c .before .before .before .before .before .before .before .before .pre in
+    let enum-told-is = sym (c .before .before .read .ensures) ∙ c .enum-told .given .1 in
+    constant-unbound _ _ _ _ (pre .1) _ _ (pre .3) (pre .2) (pre .4) (match .keys1) _ (constant-record .ensures) enum-told-is _
 
 constant-field-requires : tie.Need-constant-field-requires
 constant-field-requires c κs = search needs
@@ -49,7 +54,19 @@ enum-told-2 : tie.Need-enum-told-2
 enum-told-2 c = search needs
 
 returns-2 : tie.Need-returns-2
-returns-2 c = constant-none _ _ _ _ (c .before .before .before .before .before .before .before .before .before .before .before .before .before .before .pre .1) _ _ (c .before .before .before .before .before .before .before .before .before .before .before .before .before .before .pre .3) (c .before .before .before .before .before .before .before .before .before .before .before .before .before .before .pre .2) (c .before .before .before .before .before .before .before .before .before .before .before .before .before .before .pre .4) (c .before .before .before .before .before .before .before .before .before .before .before .match .keys1) _ (c .before .before .before .before .before .before .before .before .before .constant-record .ensures) _ (sym (c .before .before .before .before .before .before .before .before .read .ensures) ∙ c .before .before .before .before .before .before .b .given .1) _ _ (c .before .before .before .before .constant-field .ensures) (c .before .before .before .field .ensures .0) (sym (c .before .before .read2 .ensures) ∙ c .enum-told2 .given .1) _
+returns-2 c =
+    let at8 = c .before .before .before .before .before .before .before .before in
+    let field = c .before .before .before .field in
+    let constant-field = c .before .before .before .before .constant-field in
+    let b = c .before .before .before .before .before .before .b in
+    let read = at8 .read in
+    let constant-record = at8 .before .constant-record in
+    let match = at8 .before .before .before .match in
+    let pre = at8 .before .before .before .before .before .before .pre in
+    let b-is = sym (read .ensures) ∙ b .given .1 in
+    let enum-told2-is = sym (c .before .before .read2 .ensures) ∙ c .enum-told2 .given .1 in
+    constant-none _ _ _ _ (pre .1) _ _ (pre .3) (pre .2) (pre .4) (match .keys1) _ (constant-record .ensures) _ b-is _ _ (constant-field .ensures)
+    (field .ensures .0) enum-told2-is _
 
 element-copy-out-literal : tie.Need-element-copy-out-literal
 element-copy-out-literal c = search needs
@@ -67,7 +84,25 @@ element-copy-out-t28 : tie.Need-element-copy-out-t28
 element-copy-out-t28 c = local-inside _ _ _ _ (c .before .before .before .pre .1) _ _ (c .before .before .before .pre .3) (c .before .before .before .pre .2) (c .before .before .before .pre .4) (c .match .keys3)
 
 returns-3 : tie.Need-returns-3
-returns-3 c = let h : toZ w32 (ofZ w32 (c .literal .result)) ≡ c .literal .result = search needs in ap (λ (z : ℤ). Word z (c .before .before .before .before .before .before .before .before .before .before .before .before .before .before .before .before .before .args .left)) (h ∙ c .literal .ensures) ∙ constant-at _ _ _ _ (c .before .before .before .before .before .before .before .before .before .before .before .before .before .before .before .before .before .pre .1) _ _ (c .before .before .before .before .before .before .before .before .before .before .before .before .before .before .before .before .before .pre .3) (c .before .before .before .before .before .before .before .before .before .before .before .before .before .before .before .before .before .pre .2) (c .before .before .before .before .before .before .before .before .before .before .before .before .before .before .before .before .before .pre .4) (c .before .before .before .before .before .before .before .before .before .before .before .before .before .before .match .keys1) _ (c .before .before .before .before .before .before .before .before .before .before .before .before .constant-record .ensures) _ (sym (c .before .before .before .before .before .before .before .before .before .before .before .read .ensures) ∙ c .before .before .before .before .before .before .before .before .before .b .given .1) _ _ (c .before .before .before .before .before .before .before .constant-field .ensures) (c .before .before .before .before .before .before .field .ensures .0) _ (sym (c .before .before .before .before .before .read2 .ensures) ∙ c .before .before .before .c .given .1) _
+returns-3 c =
+    let at8 = c .before .before .before .before .before .before .before .before in
+    let at16 = at8 .before .before .before .before .before .before .before .before in
+    let c-here = c .before .before .before .c in
+    let read2 = c .before .before .before .before .before .read2 in
+    let field = c .before .before .before .before .before .before .field in
+    let constant-field = c .before .before .before .before .before .before .before .constant-field in
+    let b = at8 .before .b in
+    let read = at8 .before .before .before .read in
+    let constant-record = at8 .before .before .before .before .constant-record in
+    let match = at8 .before .before .before .before .before .before .match in
+    let args = at16 .before .args in
+    let pre = at16 .before .pre in
+    let b-is = sym (read .ensures) ∙ b .given .1 in
+    let c-here-is = sym (read2 .ensures) ∙ c-here .given .1 in
+    let h : toZ w32 (ofZ w32 (c .literal .result)) ≡ c .literal .result = search needs in
+    ap (λ (z : ℤ). Word z (args .left)) (h ∙ c .literal .ensures)
+    ∙ constant-at _ _ _ _ (pre .1) _ _ (pre .3) (pre .2) (pre .4) (match .keys1) _ (constant-record .ensures) _ b-is _ _ (constant-field .ensures)
+    (field .ensures .0) _ c-here-is _
 
 returns-4 : tie.Need-returns-4
 returns-4 c = let h : toZ w32 (ofZ w32 (c .cell-word .result)) ≡ c .cell-word .result = search needs in ap (λ (z : ℤ). Word z (c .before .before .before .before .args .left)) (h ∙ c .cell-word .ensures) ∙ variable-at _ _ _ _ (c .before .before .before .before .pre .1) _ _ (c .before .before .before .before .pre .3) (c .before .before .before .before .pre .2) (c .before .before .before .before .pre .4) (c .before .match .keys2) _

@@ -32,7 +32,13 @@ returns-3 : tie.Need-returns-3
 returns-3 c = undoes-slice _ _ _ (c .before .before .before .pre .1) _ (c .before .number-at .ensures) (c .match .keys2)
 
 returns-4 : tie.Need-returns-4
-returns-4 c = undoes-waiting _ _ _ (c .before .before .before .before .before .before .before .pre .1) _ (c .before .before .before .before .before .number-at .ensures) (λ z. omega (arith, c .before .before .before .before .match .keys3)) (λ z. omega (arith, c .before .before .before .before .match .keys3)) _ (c .before .before .before .before .before .before .before .pre .2) (λ q. ap (isBelow _) (sym (c .before .before .before .externals .ensures .0)) ∙ sym (c .before .before .below-at .ensures) ∙ c .before .if1 .left) _ (c .waiting-count .ensures)
+returns-4 c =
+    let externals = c .before .before .before .externals in
+    let match = c .before .before .before .before .match in
+    let number-at = c .before .before .before .before .before .number-at in
+    let pre = c .before .before .before .before .before .before .before .pre in
+    undoes-waiting _ _ _ (pre .1) _ (number-at .ensures) (λ z. omega (arith, match .keys3)) (λ z. omega (arith, match .keys3)) _ (pre .2)
+    (λ q. ap (isBelow _) (sym (externals .ensures .0)) ∙ sym (c .before .before .below-at .ensures) ∙ c .before .if1 .left) _ (c .waiting-count .ensures)
 
 returns-5 : tie.Need-returns-5
 returns-5 c = undoes-waiting _ _ _ (c .before .before .before .before .pre .1) _ (c .before .before .number-at .ensures) (c .before .match .rest .0 .0 .1) (c .before .match .rest .0 .1) _ (c .before .before .before .before .pre .2) (λ q. absurd (c .before .match .rest .1 q)) _ (c .waiting-count2 .ensures)

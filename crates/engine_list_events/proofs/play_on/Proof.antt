@@ -59,17 +59,29 @@ loop-less c = let l = c .before .before .before .before .before .before .before 
 
 loop-again : tie.Need-loop-again Inv-loop μ-loop
 loop-again c =
-    let v = c .before .before .before .before .before .before .before .before .before .before .loop .inv in
-    let l = c .before .before .before .before .before .before .before .before .before .loop-test .taken in
-    let s = c .before .before .before .before .before .before .before .before .before .before .before .before in
-    let i = c .before .before .before .before .before .before .before .before .before .before .loop .i in
-    let st = c .before .before .before .before .before .before .before .before .before .before .loop .st in
+    let at8 = c .before .before .before .before .before .before .before .before in
     let next = c .before .before .before .before .before .next in
+    let loop-test = at8 .before .loop-test in
+    let loop = at8 .before .before .loop in
+    let v = loop .inv in
+    let l = loop-test .taken in
+    let s = at8 .before .before .before .before in
+    let i = loop .i in
+    let st = loop .st in
     let put = c .before .put-answer in
     let nine : 9 * i + 9 - 9 * i ≡ 9 = omega arith in
-    let e : take (9 * i + 9 - 9 * i) (drop (9 * i) (s .args .events .now)) ≡ eventAt (s .args .events .now) i = ap (λ n. take n (drop (9 * i) (s .args .events .now))) nine in
-    let room : length (c .before .before .before .before .before .before .before .before .before .before .loop .answers) ≡ 10 * (length (s .args .events .now) / 9) = v .3 ∙ s .pre .2 in
-    (goes-on (s .args .sheet .now) (s .args .directory .now) st _ (next .result) (next .last .1 .1 .1 .0) (v .0) (next .ensures), next .kept .1 .1 .1 .0 ∙ v .1, next .kept .1 .1 .1 .1 .0 ∙ v .2, put .kept .0 ∙ v .3, omega arith, v .5, event-more (s .args .sheet .now) (s .args .directory .now) (s .args .events .now) _ i st (c .before .before .before .before .before .before .before .before .before .before .loop .answers) _ l room (v .0) (v .6) _ e (next .result) (next .last .1 .1 .1 .0) (next .ensures) (put .last .0) (put .ensures))
+    let e : take (9 * i + 9 - 9 * i) (drop (9 * i) (s .args .events .now)) ≡ eventAt (s .args .events .now) i =
+    ap (λ n. take n (drop (9 * i) (s .args .events .now))) nine in
+    let room : length (loop .answers) ≡ 10 * (length (s .args .events .now) / 9) = v .3 ∙ s .pre .2 in (
+      goes-on (s .args .sheet .now) (s .args .directory .now) st _ (next .result) (next .last .1 .1 .1 .0) (v .0) (next .ensures),
+      next .kept .1 .1 .1 .0 ∙ v .1,
+      next .kept .1 .1 .1 .1 .0 ∙ v .2,
+      put .kept .0 ∙ v .3,
+      omega arith,
+      v .5,
+      event-more (s .args .sheet .now) (s .args .directory .now) (s .args .events .now) _ i st (loop .answers) _ l room (v .0) (v .6) _ e (next .result)
+          (next .last .1 .1 .1 .0) (next .ensures) (put .last .0) (put .ensures),
+    )
 
 same-length : tie.Need-same-length Inv-loop μ-loop
 same-length c = search needs

@@ -37,7 +37,17 @@ same-length-3 c = search needs
 
 returns-3 : tie.Need-returns-3
 unfolding changedTo
-returns-3 c = (λ s e. sym (ap on (c .before .put-last .ensures s e) ∙ appended-room s _ _ (c .before .before .before .before .before .before .before .before .before .pre .head) (let q = c .before .before .before .before .before .before .before .waiting-count .ensures in let h = c .before .before .before .before .before .before .if1 .left in omega arith) (leb-false classLimit _ (sym (c .before .before .before .before .class-full .ensures s e) ∙ c .before .before .before .if2 .left))), λ n. absurd (n refl))
+returns-3 c =
+    let if2 = c .before .before .before .if2 in
+    let class-full = c .before .before .before .before .class-full in
+    let if1 = c .before .before .before .before .before .before .if1 in
+    let waiting-count = c .before .before .before .before .before .before .before .waiting-count in
+    let pre = c .before .before .before .before .before .before .before .before .before .pre in (
+      λ s e. sym (ap on (c .before .put-last .ensures s e)
+          ∙ appended-room s _ _ (pre .head) (let q = waiting-count .ensures in let h = if1 .left in omega arith)
+          (leb-false classLimit _ (sym (class-full .ensures s e) ∙ if2 .left))),
+      λ n. absurd (n refl),
+    )
 
 pub append-spec : {M : Type 1} → statement M
 append-spec =

@@ -17,7 +17,16 @@ place-requires : tie.Need-place-requires
 place-requires c κs = (c .before .before .before .pre .0 .long, (let e = c .before .waiting-count .ensures in let l = c .before .before .before .pre .1 in omega arith))
 
 put-words-requires : tie.Need-put-words-requires
-put-words-requires c κs = let e = c .before .before .before .before .before .before .before .before .before .before .before .waiting-count .ensures in let l = c .before .before .before .before .before .before .before .before .before .before .before .before .before .pre .1 in let q = c .before .before .before .before .before .before .before .before .before .place .ensures .0 in let m = c .before .before .before .before .before .before .before .before .before .before .before .before .before .pre .0 .long in omega arith
+put-words-requires c κs =
+    let at8 = c .before .before .before .before .before .before .before .before in
+    let place = at8 .before .place in
+    let waiting-count = at8 .before .before .before .waiting-count in
+    let pre = at8 .before .before .before .before .before .pre in
+    let e = waiting-count .ensures in
+    let l = pre .1 in
+    let q = place .ensures .0 in
+    let m = pre .0 .long in
+    omega arith
 
 add-set-word : tie.Need-add-set-word
 add-set-word c = let e = c .before .before .before .before .before .before .before .before .before .before .before .before .before .before .waiting-count .ensures in let l = c .before .before .before .before .before .before .before .before .before .before .before .before .before .before .before .before .pre .1 in record { fits = omega arith }
@@ -32,12 +41,35 @@ same-length : tie.Need-same-length
 same-length c = search needs
 
 returns : tie.Need-returns
-returns c = λ s e.
-    let t = c .before .before .before .before .before .before .before .before .before .before .before .before .before .before .before .before .before .before .args .t in
-    let told = c .before .before .before .before .before .struct-told8 .given in
-    let p : c .before .before .before .before .put-words .last .0 ≡ putWords (c .before .before .before .before .before .before .before .before .before .before .before .before .before .before .before .before .before .before .args .st .now) (c .before .before .before .before .before .before .before .before .before .before .before .before .before .before .place .result) (wordsOf t) = rw (given (t .sender) (told .0 .1), given (t .receiver) (told .1 .0 .1), given (t .port) (told .1 .1 .0 .1), given (t .name) (told .1 .1 .1 .0 .1), given (t .d0) (told .1 .1 .1 .1 .0 .1), given (t .d1) (told .1 .1 .1 .1 .1 .0 .1), given (t .d2) (told .1 .1 .1 .1 .1 .1 .0 .1), given (t .d3) (told .1 .1 .1 .1 .1 .1 .1 .0 .1)) at (c .before .before .before .before .put-words .ensures) in
-    let n = c .before .before .before .before .before .before .before .before .before .before .before .before .before .before .before .before .waiting-count .ensures in let l = c .before .before .before .before .before .before .before .before .before .before .before .before .before .before .before .before .before .before .pre .1 in
-    c .before .set-word .ensures ∙ ap (λ z. set (c .before .before .before .before .put-words .last .0) 0 z) (given (pos (c .before .before .before .before .before .before .before .before .before .before .before .before .before .before .before .before .waiting-count .result + 1)) (omega arith)) ∙ ap (λ l. set l 0 (pos (c .before .before .before .before .before .before .before .before .before .before .before .before .before .before .before .before .waiting-count .result + 1))) p ∙ last-put s _ t _ _ n (c .before .before .before .before .before .before .before .before .before .before .before .before .before .before .place .ensures .1 s e)
+returns c =
+    let at8 = c .before .before .before .before .before .before .before .before in
+    let at16 = at8 .before .before .before .before .before .before .before .before in
+    let put-words = c .before .before .before .before .put-words in
+    let struct-told8 = c .before .before .before .before .before .struct-told8 in
+    let place = at8 .before .before .before .before .before .before .place in
+    let waiting-count = at16 .waiting-count in
+    let args = at16 .before .before .args in
+    let pre = at16 .before .before .pre in
+    let pos-here = pos (waiting-count .result + 1) in
+    λ s e.
+    let t = args .t in
+    let told = struct-told8 .given in
+    let p : put-words .last .0 ≡ putWords (args .st .now) (place .result) (wordsOf t) = rw (
+      given (t .sender) (told .0 .1),
+      given (t .receiver) (told .1 .0 .1),
+      given (t .port) (told .1 .1 .0 .1),
+      given (t .name) (told .1 .1 .1 .0 .1),
+      given (t .d0) (told .1 .1 .1 .1 .0 .1),
+      given (t .d1) (told .1 .1 .1 .1 .1 .0 .1),
+      given (t .d2) (told .1 .1 .1 .1 .1 .1 .0 .1),
+      given (t .d3) (told .1 .1 .1 .1 .1 .1 .1 .0 .1),
+    ) at (put-words .ensures) in
+    let n = waiting-count .ensures in
+    let l = pre .1 in
+    c .before .set-word .ensures
+    ∙ ap (λ z. set (put-words .last .0) 0 z) (given pos-here (omega arith))
+    ∙ ap (λ l. set l 0 pos-here) p
+    ∙ last-put s _ t _ _ n (place .ensures .1 s e)
 
 pub put-last-spec : {M : Type 1} → statement M
 put-last-spec =

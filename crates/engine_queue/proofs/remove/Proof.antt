@@ -36,13 +36,37 @@ add-z : tie.Need-add-z Inv-loop μ-loop
 add-z c = let l = c .loop-test .taken in let e = c .before .before .before .before .before .before .waiting-count .ensures in let p = c .before .before .before .before .place .ensures .0 in record { fits = omega (arith, waiting-limit _ (c .before .before .before .before .before .before .before .before .pre .0)) }
 
 mul-z : tie.Need-mul-z Inv-loop μ-loop
-mul-z c = let l = c .loop-test .taken in let e = c .before .before .before .before .before .before .waiting-count .ensures in let p = c .before .before .before .before .place .ensures .0 in let w = c .before .loop .inv .2 in let g = c .before .before .before .before .before .before .before .before .pre .0 .long in let k : c .before .loop .i + 8 < length (c .before .before .before .before .before .before .before .before .args .st .now) = omega (arith, waiting-limit _ (c .before .before .before .before .before .before .before .before .pre .0)) in search needs
+mul-z c =
+    let place = c .before .before .before .before .place in
+    let waiting-count = c .before .before .before .before .before .before .waiting-count in
+    let args = c .before .before .before .before .before .before .before .before .args in
+    let pre = c .before .before .before .before .before .before .before .before .pre in
+    let l = c .loop-test .taken in
+    let e = waiting-count .ensures in
+    let p = place .ensures .0 in
+    let w = c .before .loop .inv .2 in
+    let g = pre .0 .long in
+    let k : c .before .loop .i + 8 < length (args .st .now) = omega (arith, waiting-limit _ (pre .0)) in
+    search needs
 
 slice-copy-out-z : tie.Need-slice-copy-out-z Inv-loop μ-loop
 slice-copy-out-z c = let l = c .loop-test .taken in let e = c .before .before .before .before .before .before .waiting-count .ensures in let p = c .before .before .before .before .place .ensures .0 in let w = c .before .loop .inv .2 in let g = c .before .before .before .before .before .before .before .before .pre .0 .long in omega (arith, waiting-limit _ (c .before .before .before .before .before .before .before .before .pre .0))
 
 mul-z-2 : tie.Need-mul-z-2 Inv-loop μ-loop
-mul-z-2 c = let l = c .before .loop-test .taken in let e = c .before .before .before .before .before .before .before .waiting-count .ensures in let p = c .before .before .before .before .before .place .ensures .0 in let w = c .before .before .loop .inv .2 in let g = c .before .before .before .before .before .before .before .before .before .pre .0 .long in let k : c .before .before .loop .i < length (c .before .before .before .before .before .before .before .before .before .args .st .now) = omega (arith, waiting-limit _ (c .before .before .before .before .before .before .before .before .before .pre .0)) in search needs
+mul-z-2 c =
+    let at8 = c .before .before .before .before .before .before .before .before in
+    let loop = c .before .before .loop in
+    let place = c .before .before .before .before .before .place in
+    let waiting-count = c .before .before .before .before .before .before .before .waiting-count in
+    let args = at8 .before .args in
+    let pre = at8 .before .pre in
+    let l = c .before .loop-test .taken in
+    let e = waiting-count .ensures in
+    let p = place .ensures .0 in
+    let w = loop .inv .2 in
+    let g = pre .0 .long in
+    let k : loop .i < length (args .st .now) = omega (arith, waiting-limit _ (pre .0)) in
+    search needs
 
 slice-set-from-z : tie.Need-slice-set-from-z Inv-loop μ-loop
 slice-set-from-z c = let l = c .before .loop-test .taken in let e = c .before .before .before .before .before .before .before .waiting-count .ensures in let p = c .before .before .before .before .before .place .ensures .0 in let w = c .before .before .loop .inv .2 in let g = c .before .before .before .before .before .before .before .before .before .pre .0 .long in omega (arith, waiting-limit _ (c .before .before .before .before .before .before .before .before .before .pre .0))
@@ -61,7 +85,16 @@ loop-again c =
     (omega arith, omega arith, simp length-set w, moved-more (c .before .before .before .before .before .before .before .before .before .args .st .now) st (c .before .before .before .place2 .result) i _ a (omega (arith, waiting-limit _ (c .before .before .before .before .before .before .before .before .before .pre .0))) (given (getD st (i + 8) (pos 0)) (c .z .given)) (c .before .before .loop .inv .3))
 
 put-words-requires : tie.Need-put-words-requires Inv-loop μ-loop
-put-words-requires c κs = let e = c .before .before .before .before .before .before .before .waiting-count .ensures in let p = c .before .before .before .before .before .place .ensures .0 in let w = c .before .before .loop .inv .2 in let g = c .before .before .before .before .before .before .before .before .before .pre .0 .long in let l = c .before .before .before .before .before .before .before .before .before .pre .1 in omega (arith, waiting-limit _ (c .before .before .before .before .before .before .before .before .before .pre .0))
+put-words-requires c κs =
+    let place = c .before .before .before .before .before .place in
+    let waiting-count = c .before .before .before .before .before .before .before .waiting-count in
+    let pre = c .before .before .before .before .before .before .before .before .before .pre in
+    let e = waiting-count .ensures in
+    let p = place .ensures .0 in
+    let w = c .before .before .loop .inv .2 in
+    let g = pre .0 .long in
+    let l = pre .1 in
+    omega (arith, waiting-limit _ (pre .0))
 
 cast-set-word : tie.Need-cast-set-word Inv-loop μ-loop
 cast-set-word c = let e = c .before .before .before .before .before .before .before .before .before .before .waiting-count .ensures in record { sfits = omega (arith, waiting-limit _ (c .before .before .before .before .before .before .before .before .before .before .before .before .pre .0)) }
@@ -73,12 +106,26 @@ same-length : tie.Need-same-length Inv-loop μ-loop
 same-length c = search needs
 
 returns : tie.Need-returns Inv-loop μ-loop
-returns c = λ s o.
-    let n = c .before .before .before .before .before .before .before .before .before .before .before .before .waiting-count .result - 1 in
-    let e = c .before .before .before .before .before .before .before .before .before .before .before .before .waiting-count .ensures in let here = c .before .before .before .before .before .before .before .before .before .before .before .before .before .before .pre .1 in
-    let k : n ≡ waiting (c .before .before .before .before .before .before .before .before .before .before .before .before .before .before .args .st .now) - 1 = omega arith in
-    let h : c .before .set-word .last .0 ≡ set (putWords (c .before .before .before .before .before .before .before .loop .st) (c .before .before .before .before .before .before .before .before .before .before .place .result) (replicate 8 (pos 0))) 0 (pos n) = rw (c .before .before .before .before .put-words .ensures, given (pos n) (omega (arith, waiting-limit _ (c .before .before .before .before .before .before .before .before .before .before .before .before .before .before .pre .0)))) at (c .before .set-word .ensures) in
-    h ∙ removed s (c .before .before .before .before .before .before .before .before .before .before .before .before .before .before .args .st .now) o (c .before .before .before .before .before .before .before .before .before .before .before .before .before .before .args .j) n (c .before .before .before .before .before .before .before .before .place2 .result) (c .before .before .before .before .before .before .before .before .before .before .place .result) (c .before .before .before .before .before .before .before .loop .i) (c .before .before .before .before .before .before .before .loop .st) here k (c .before .before .before .before .before .before .before .before .place2 .ensures .1 s (o .whole)) (c .before .before .before .before .before .before .before .before .before .before .place .ensures .1 s (o .whole)) (c .before .before .before .before .before .before .before .loop .inv .1) (c .before .before .before .before .before .before .loop-test .left) (c .before .before .before .before .before .before .before .loop .inv .2) (c .before .before .before .before .before .before .before .loop .inv .3)
+returns c =
+    let at8 = c .before .before .before .before .before .before .before .before in
+    let put-words = c .before .before .before .before .put-words in
+    let loop-test = c .before .before .before .before .before .before .loop-test in
+    let loop = c .before .before .before .before .before .before .before .loop in
+    let place2 = at8 .place2 in
+    let place = at8 .before .before .place in
+    let waiting-count = at8 .before .before .before .before .waiting-count in
+    let args = at8 .before .before .before .before .before .before .args in
+    let pre = at8 .before .before .before .before .before .before .pre in
+    λ s o.
+    let n = waiting-count .result - 1 in
+    let e = waiting-count .ensures in
+    let here = pre .1 in
+    let k : n ≡ waiting (args .st .now) - 1 = omega arith in
+    let h : c .before .set-word .last .0 ≡ set (putWords (loop .st) (place .result) (replicate 8 (pos 0))) 0 (pos n) =
+    rw (put-words .ensures, given (pos n) (omega (arith, waiting-limit _ (pre .0)))) at (c .before .set-word .ensures) in
+    h
+    ∙ removed s (args .st .now) o (args .j) n (place2 .result) (place .result) (loop .i) (loop .st) here k (place2 .ensures .1 s (o .whole))
+    (place .ensures .1 s (o .whole)) (loop .inv .1) (loop-test .left) (loop .inv .2) (loop .inv .3)
 
 pub remove-spec : {M : Type 1} → statement M
 remove-spec =

@@ -32,14 +32,29 @@ cast-send : tie.Need-cast-send
 cast-send c = let h = element-small _ _ (c .before .before .before .before .before .before .before .before .pre .1 .ready .running) in record { sfits = omega arith }
 
 send-requires : tie.Need-send-requires
-send-requires c κs = (c .before .before .before .before .before .before .before .before .pre .0, c .before .before .before .before .before .before .before .before .pre .1 .ready, internal-data _ _ _ _ (c .before .before .before .before .before .before .before .before .pre .1 .ready) _ _ (c .before .before .before .before .before .before .before .before .pre .1 .there) (c .before .before .before .before .before .before .before .before .pre .1 .statement) (c .before .before .before .before .before .before .before .before .pre .1 .form) _ (sym (c .before .before .before .before .before .read .ensures) ∙ c .before .before .before .a .given .1), sym (c .before .before .before .before .before .read .ensures) ∙ c .before .before .before .a .given .1)
+send-requires c κs =
+    let a = c .before .before .before .a in
+    let read = c .before .before .before .before .before .read in
+    let pre = c .before .before .before .before .before .before .before .before .pre in
+    let a-is = sym (read .ensures) ∙ a .given .1 in
+    (pre .0, pre .1 .ready, internal-data _ _ _ _ (pre .1 .ready) _ _ (pre .1 .there) (pre .1 .statement) (pre .1 .form) _ a-is, a-is)
 
 same-length : tie.Need-same-length
 same-length c = search needs
 
 returns-2 : tie.Need-returns-2
 unfolding contextAt
-returns-2 c = λ depth. let h = element-small _ _ (c .before .before .before .before .before .before .before .before .before .before .pre .1 .ready .running) in (rw (given (pos (getD (c .before .before .before .before .before .before .before .before .before .before .args .context .now) 0 0)) (omega arith), given (negsuc 0) (omega arith)) at (c .before .send .ensures)) ∙ sym (internal-word _ _ _ _ (c .before .before .before .before .before .before .before .before .before .before .pre .1 .ready) _ _ (c .before .before .before .before .before .before .before .before .before .before .pre .1 .there) (c .before .before .before .before .before .before .before .before .before .before .pre .1 .statement) (c .before .before .before .before .before .before .before .before .before .before .pre .1 .form) _ (sym (c .before .before .before .before .before .before .before .read .ensures) ∙ c .before .before .before .before .before .a .given .1) depth _)
+returns-2 c =
+    let at8 = c .before .before .before .before .before .before .before .before in
+    let a = c .before .before .before .before .before .a in
+    let read = c .before .before .before .before .before .before .before .read in
+    let args = at8 .before .before .args in
+    let pre = at8 .before .before .pre in
+    let a-is = sym (read .ensures) ∙ a .given .1 in
+    λ depth.
+    let h = element-small _ _ (pre .1 .ready .running) in
+    (rw (given (pos (getD (args .context .now) 0 0)) (omega arith), given (negsuc 0) (omega arith)) at (c .before .send .ensures))
+    ∙ sym (internal-word _ _ _ _ (pre .1 .ready) _ _ (pre .1 .there) (pre .1 .statement) (pre .1 .form) _ a-is depth _)
 
 pub internal-send-spec : {M : Type 1} → statement M
 internal-send-spec =

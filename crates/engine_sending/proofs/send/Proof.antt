@@ -53,7 +53,25 @@ same-length : tie.Need-same-length
 same-length c = search needs
 
 returns : tie.Need-returns
-returns c = let d = data-given _ _ (sym (c .before .before .before .before .before .before .before .before .before .before .o .given .1) ∙ c .before .before .before .before .before .before .before .before .before .before .before .before .gather .ensures .1) in c .before .append .ensures (c .before .before .before .before .before .before .before .before .before .before .before .before .before .before .before .before .before .before .args .sheet .now) (c .before .before .before .before .before .before .before .before .before .before .before .before .before .before .before .before .before .before .args .lo .now) (c .before .before .before .before .before .before .before .before .before .before .before .before .before .before .before .before .before .before .pre .1 .state .whole) ∙ ap (λ t. append (c .before .before .before .before .before .before .before .before .before .before .before .before .before .before .before .before .before .before .args .sheet .now) t (c .before .before .before .before .before .before .before .before .before .before .o .given .0 .0) (c .before .before .before .before .before .before .before .before .before .before .before .before .before .before .before .before .before .before .args .st .now) (c .before .before .before .before .before .before .before .before .before .before .before .before .before .before .before .before .before .before .args .lo .now)) (telegram-made _ _ _ _ _ (d .0) (element-small _ _ (c .before .before .before .before .before .before .before .before .before .before .before .before .before .before .before .before .before .before .pre .1 .running)) (c .before .before .before .before .before .before .before .before .before .before .before .before .before .before .before .before .before .before .fits .receiver) (c .before .before .before .before .before .before .before .before .before .before .before .before .before .before .before .before .before .before .fits .port) (c .before .before .before .before .before .before .struct-known3 .given .1 .1 .1 .0 .fits) (c .before .before .before .before .before .t32 .given) (c .before .before .before .before .t35 .given) (c .before .before .before .t38 .given) (c .before .before .t41 .given) (c .before .before .before .before .before .before .before .before .before .before .before .before .gather .ensures .2 _ _ (d .1))) ∙ on-given _ _ _ _ _ _ (d .1)
+returns c =
+    let at8 = c .before .before .before .before .before .before .before .before in
+    let at16 = at8 .before .before .before .before .before .before .before .before in
+    let t38 = c .before .before .before .t38 in
+    let t35 = c .before .before .before .before .t35 in
+    let t32 = c .before .before .before .before .before .t32 in
+    let struct-known3 = c .before .before .before .before .before .before .struct-known3 in
+    let o = at8 .before .before .o in
+    let gather = at8 .before .before .before .before .gather in
+    let args = at16 .before .before .args in
+    let fits = at16 .before .before .fits in
+    let pre = at16 .before .before .pre in
+    let d = data-given _ _ (sym (o .given .1) ∙ gather .ensures .1) in
+    let telegram-made-here = telegram-made _ _ _ _ _ (d .0) (element-small _ _ (pre .1 .running)) (fits .receiver) (fits .port)
+    (struct-known3 .given .1 .1 .1 .0 .fits) (t32 .given) (t35 .given) (t38 .given) (c .before .before .t41 .given)
+    (gather .ensures .2 _ _ (d .1)) in
+    c .before .append .ensures (args .sheet .now) (args .lo .now) (pre .1 .state .whole)
+    ∙ ap (λ t. append (args .sheet .now) t (o .given .0 .0) (args .st .now) (args .lo .now)) telegram-made-here
+    ∙ on-given _ _ _ _ _ _ (d .1)
 
 same-length-2 : tie.Need-same-length-2
 same-length-2 c = search needs

@@ -17,7 +17,9 @@ enum-known-x : tie.Need-enum-known-x
 enum-known-x c = search needs
 
 send-requires : tie.Need-send-requires
-send-requires c κs = (c .before .before .before .before .before .before .before .before .pre .0, c .before .before .before .before .before .before .before .before .pre .1 .ready, external-data _ _ _ _ (c .before .before .before .before .before .before .before .before .pre .1 .ready) _ _ (c .before .before .before .before .before .before .before .before .pre .1 .there) (c .before .before .before .before .before .before .before .before .pre .1 .statement) (c .before .before .before .before .before .before .before .before .pre .1 .form) _ (c .before .before .before .before .before .before .before .before .pre .2), c .before .before .before .before .before .before .before .before .pre .2)
+send-requires c κs =
+    let pre = c .before .before .before .before .before .before .before .before .pre in
+    (pre .0, pre .1 .ready, external-data _ _ _ _ (pre .1 .ready) _ _ (pre .1 .there) (pre .1 .statement) (pre .1 .form) _ (pre .2), pre .2)
 
 enum-known-x-2 : tie.Need-enum-known-x-2
 enum-known-x-2 c = search needs

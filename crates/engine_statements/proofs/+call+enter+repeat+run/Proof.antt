@@ -147,13 +147,29 @@ call-cast-t21 : (t : ℕ) → call-lts.Need-cast-t21 (call-claims t) (call-at t)
 call-cast-t21 t c = search needs
 
 call-gather-requires : (t : ℕ) → call-lts.Need-gather-requires (call-claims t) (call-at t) call.Post
-call-gather-requires t c κs = (c .before .before .before .before .before .before .before .before .before .before .before .pre .1 .0, c .before .before .before .before .before .before .before .before .before .before .before .pre .1 .1 .ready, has-data _ _ _ _ _ _ (c .before .before .before .before .before .before .before .before .before .before .before .pre .1 .1) _ (sym (c .before .before .before .before .before .before .before .read .ensures) ∙ c .before .before .before .before .before .b .given .1), four-parameters _ _ _ _ _ _ (c .before .before .before .before .before .before .before .before .before .before .before .pre .1 .1) _ (sym (c .before .before .before .before .before .before .before .read .ensures) ∙ c .before .before .before .before .before .b .given .1), refl)
+call-gather-requires t c κs =
+    let b = c .before .before .before .before .before .b in
+    let read-here = c .before .before .before .before .before .before .before .read in
+    let pre = c .before .before .before .before .before .before .before .before .before .before .before .pre in
+    let b-is = sym (read-here .ensures) ∙ b .given .1 in
+    (pre .1 .0, pre .1 .1 .ready, has-data _ _ _ _ _ _ (pre .1 .1) _ b-is, four-parameters _ _ _ _ _ _ (pre .1 .1) _ b-is, refl)
 
 call-enum-known-o : (t : ℕ) → call-lts.Need-enum-known-o (call-claims t) (call-at t) call.Post
 call-enum-known-o t c = search needs
 
 call-enter-requires : (t : ℕ) → call-lts.Need-enter-requires (call-claims t) (call-at t) call.Post
-call-enter-requires t c κs = let d = data-given _ _ (sym (c .before .before .before .o .given .1) ∙ c .before .before .before .before .before .gather .ensures .1) in let h = given-left _ _ _ _ _ _ (c .before .before .before .before .before .before .before .before .before .before .before .before .before .before .before .before .before .pre .1 .1) _ (sym (c .before .before .before .before .before .before .before .before .before .before .before .before .before .read .ensures) ∙ c .before .before .before .before .before .before .before .before .before .before .before .b .given .1) _ _ _ (d .1) in let q = c .before .before .before .before .before .before .before .before .before .before .before .before .before .before .before .before .before .pre .0 in (omega arith, (c .before .before .before .before .before .before .before .before .before .before .before .before .before .before .before .before .before .pre .1 .0, callable _ _ _ _ _ _ (c .before .before .before .before .before .before .before .before .before .before .before .before .before .before .before .before .before .pre .1 .1) _ (sym (c .before .before .before .before .before .before .before .before .before .before .before .before .before .read .ensures) ∙ c .before .before .before .before .before .before .before .before .before .before .before .b .given .1) _ _ _ _ (d .1) (c .before .before .before .before .before .gather .ensures .2 _ _ (d .1)), c .before .before .before .before .before .before .before .before .before .before .before .before .before .before .before .before .before .pre .1 .2))
+call-enter-requires t c κs =
+    let at8 = c .before .before .before .before .before .before .before .before in
+    let o = c .before .before .before .o in
+    let gather-here = c .before .before .before .before .before .gather in
+    let b = at8 .before .before .before .b in
+    let read-here = at8 .before .before .before .before .before .read in
+    let pre = at8 .before .before .before .before .before .before .before .before .before .pre in
+    let b-is = sym (read-here .ensures) ∙ b .given .1 in
+    let d = data-given _ _ (sym (o .given .1) ∙ gather-here .ensures .1) in
+    let h = given-left _ _ _ _ _ _ (pre .1 .1) _ b-is _ _ _ (d .1) in
+    let q = pre .0 in
+    (omega arith, (pre .1 .0, callable _ _ _ _ _ _ (pre .1 .1) _ b-is _ _ _ _ (d .1) (gather-here .ensures .2 _ _ (d .1)), pre .1 .2))
 
 call-enum-known-o-2 : (t : ℕ) → call-lts.Need-enum-known-o-2 (call-claims t) (call-at t) call.Post
 call-enum-known-o-2 t c = search needs
@@ -165,7 +181,18 @@ call-same-length : (t : ℕ) → call-lts.Need-same-length (call-claims t) (call
 call-same-length t c = search needs
 
 call-returns-2 : (t : ℕ) → call-lts.Need-returns-2 (call-claims t) (call-at t) call.Post
-call-returns-2 t c = let d = data-given _ _ (sym (c .before .before .before .before .before .o .given .1) ∙ c .before .before .before .before .before .before .before .gather .ensures .1) in c .before .enter .ensures (c .before .before .before .before .before .before .before .before .before .before .before .before .before .before .before .before .before .before .before .args .lo .now) ∙ call-done _ _ _ _ _ _ (c .before .before .before .before .before .before .before .before .before .before .before .before .before .before .before .before .before .before .before .pre .1 .1) _ (sym (c .before .before .before .before .before .before .before .before .before .before .before .before .before .before .before .read .ensures) ∙ c .before .before .before .before .before .before .before .before .before .before .before .before .before .b .given .1) _ _ _ _ _ (d .1) (c .before .before .before .before .before .before .before .gather .ensures .2 _ _ (d .1))
+call-returns-2 t c =
+    let at8 = c .before .before .before .before .before .before .before .before in
+    let at16 = at8 .before .before .before .before .before .before .before .before in
+    let o = c .before .before .before .before .before .o in
+    let gather-here = c .before .before .before .before .before .before .before .gather in
+    let b = at8 .before .before .before .before .before .b in
+    let read-here = at8 .before .before .before .before .before .before .before .read in
+    let args = at16 .before .before .before .args in
+    let pre = at16 .before .before .before .pre in
+    let b-is = sym (read-here .ensures) ∙ b .given .1 in
+    let d = data-given _ _ (sym (o .given .1) ∙ gather-here .ensures .1) in
+    c .before .enter .ensures (args .lo .now) ∙ call-done _ _ _ _ _ _ (pre .1 .1) _ b-is _ _ _ _ _ (d .1) (gather-here .ensures .2 _ _ (d .1))
 
 call-same-length-2 : (t : ℕ) → call-lts.Need-same-length-2 (call-claims t) (call-at t) call.Post
 call-same-length-2 t c = search needs
@@ -195,13 +222,41 @@ enter-cast-run : (t : ℕ) → enter-lts.Need-cast-run (enter-claims t) (enter-a
 enter-cast-run t c = search needs
 
 enter-run-requires : (t : ℕ) → enter-lts.Need-run-requires (enter-claims t) (enter-at t) enter.Post
-enter-run-requires t c κs = let q = c .before .before .before .before .before .before .before .before .pre .0 in let h = c .before .before .before .before .before .before .if1 .left in (omega arith, (c .before .before .before .before .before .before .before .before .pre .1 .0, subst (λ lo. Ready (c .before .before .before .before .before .before .before .before .args .sheet .now) (c .before .before .before .before .before .inner .result) (c .before .before .before .before .before .before .before .before .args .st .now) lo) (sym (c .before .before .before .before .fresh-locals .ensures)) (inner-ready _ _ _ _ _ _ (c .before .before .before .before .before .before .before .before .pre .1 .1) _ (c .before .before .before .before .before .inner .ensures)), inner-statement _ _ _ _ _ _ (c .before .before .before .before .before .before .before .before .pre .1 .1) _ (c .before .before .before .before .before .inner .ensures), omega arith))
+enter-run-requires t c κs =
+    let fresh-locals = c .before .before .before .before .fresh-locals in
+    let inner-here = c .before .before .before .before .before .inner in
+    let if1 = c .before .before .before .before .before .before .if1 in
+    let args = c .before .before .before .before .before .before .before .before .args in
+    let pre = c .before .before .before .before .before .before .before .before .pre in
+    let q = pre .0 in
+    let h = if1 .left in (
+      omega arith,
+      (
+        pre .1 .0,
+        subst (λ lo. Ready (args .sheet .now) (inner-here .result) (args .st .now) lo) (sym (fresh-locals .ensures))
+            (inner-ready _ _ _ _ _ _ (pre .1 .1) _ (inner-here .ensures)),
+        inner-statement _ _ _ _ _ _ (pre .1 .1) _ (inner-here .ensures),
+        omega arith,
+      ),
+    )
 
 enter-same-length : (t : ℕ) → enter-lts.Need-same-length (enter-claims t) (enter-at t) enter.Post
 enter-same-length t c = search needs
 
 enter-returns-2 : (t : ℕ) → enter-lts.Need-returns-2 (enter-claims t) (enter-at t) enter.Post
-enter-returns-2 t c = λ lo. body-runs _ _ _ _ _ _ _ lo (let h = c .before .before .before .before .before .before .before .before .if1 .left in omega arith) (fresh-there _ _ _ _ _ _ (c .before .before .before .before .before .before .before .before .before .before .pre .1 .1)) _ _ _ (c .before .run .ensures .1 ∙ ap (λ y. runOf (c .before .before .before .before .before .before .before .before .before .before .args .sheet .now) (c .before .before .before .before .before .before .before .before .before .before .args .depth + 1) y (root (c .before .before .before .before .before .before .before .before .before .before .args .b)) (c .before .before .before .before .before .before .before .before .before .before .args .left) (c .before .before .before .before .before .before .before .before .before .before .args .st .now) (c .before .before .before .before .before .before .fresh-locals .result)) (inner-context _ _ _ _ _ _ (c .before .before .before .before .before .before .before .before .before .before .pre .1 .1) _ (c .before .before .before .before .before .before .before .inner .ensures)) ∙ ap (λ lo. runOf (c .before .before .before .before .before .before .before .before .before .before .args .sheet .now) (c .before .before .before .before .before .before .before .before .before .before .args .depth + 1) (inBody (contextAt (c .before .before .before .before .before .before .before .before .before .before .args .sheet .now) (c .before .before .before .before .before .before .before .before .before .before .args .context .now)) (c .before .before .before .before .before .before .before .before .before .before .args .b)) (root (c .before .before .before .before .before .before .before .before .before .before .args .b)) (c .before .before .before .before .before .before .before .before .before .before .args .left) (c .before .before .before .before .before .before .before .before .before .before .args .st .now) lo) (c .before .before .before .before .before .before .fresh-locals .ensures))
+enter-returns-2 t c =
+    let at8 = c .before .before .before .before .before .before .before .before in
+    let fresh-locals = c .before .before .before .before .before .before .fresh-locals in
+    let inner-here = c .before .before .before .before .before .before .before .inner in
+    let if1 = at8 .if1 in
+    let args = at8 .before .before .args in
+    let pre = at8 .before .before .pre in
+    let inner-context-here = inner-context _ _ _ _ _ _ (pre .1 .1) _ (inner-here .ensures) in
+    let inBody-here = inBody (contextAt (args .sheet .now) (args .context .now)) (args .b) in
+    λ lo. body-runs _ _ _ _ _ _ _ lo (let h = if1 .left in omega arith) (fresh-there _ _ _ _ _ _ (pre .1 .1)) _ _ _
+    (c .before .run .ensures .1
+    ∙ ap (λ y. runOf (args .sheet .now) (args .depth + 1) y (root (args .b)) (args .left) (args .st .now) (fresh-locals .result)) inner-context-here
+    ∙ ap (λ lo. runOf (args .sheet .now) (args .depth + 1) inBody-here (root (args .b)) (args .left) (args .st .now) lo) (fresh-locals .ensures))
 
 abbrev repeat-Inv-loop : repeat-lts.InvT-loop
 repeat-Inv-loop sheet directory context st₀ lo₀ depth n r left l₀ st lo l = Visit sheet context st lo n r loop × (runOf sheet depth (contextAt sheet context) n (suc left) st₀ lo₀ ≡ runOf sheet depth (contextAt sheet context) n (suc l) st lo) × (l ≤ left) × (length st ≡ length st₀) × (length lo ≡ length lo₀)
@@ -231,7 +286,23 @@ repeat-cast-run : (t : ℕ) → repeat-lts.Need-cast-run (repeat-claims t) (repe
 repeat-cast-run t c = search needs
 
 repeat-run-requires : (t : ℕ) → repeat-lts.Need-run-requires (repeat-claims t) (repeat-at t) repeat.Post repeat-Inv-loop repeat-μ-loop
-repeat-run-requires t c κs = let h = word-left _ _ _ _ _ _ _ _ (sym (c .before .before .before .before .before .x .given .1) ∙ c .before .before .before .before .before .before .before .eval .ensures) in let q = c .before .before .before .before .before .before .before .before .before .before .before .before .before .pre .0 in let i = c .before .before .before .before .before .before .before .before .before .before .before .loop .inv .2 in (omega arith, (c .before .before .before .before .before .before .before .before .before .before .before .before .before .pre .1 .0, c .before .before .before .before .before .before .before .before .before .before .before .loop .inv .0 .ready, loop-body _ _ _ _ (c .before .before .before .before .before .before .before .before .before .before .before .loop .inv .0 .ready) _ _ (c .before .before .before .before .before .before .before .before .before .before .before .loop .inv .0 .there) (c .before .before .before .before .before .before .before .before .before .before .before .loop .inv .0 .statement) (c .before .before .before .before .before .before .before .before .before .before .before .loop .inv .0 .form), c .before .before .before .before .before .before .before .before .before .before .before .before .before .pre .1 .2))
+repeat-run-requires t c κs =
+    let at8 = c .before .before .before .before .before .before .before .before in
+    let x = c .before .before .before .before .before .x in
+    let eval-here = c .before .before .before .before .before .before .before .eval in
+    let loop-here = at8 .before .before .before .loop in
+    let pre = at8 .before .before .before .before .before .pre in
+    let h = word-left _ _ _ _ _ _ _ _ (sym (x .given .1) ∙ eval-here .ensures) in
+    let q = pre .0 in
+    let i = loop-here .inv .2 in (
+      omega arith,
+      (
+        pre .1 .0,
+        loop-here .inv .0 .ready,
+        loop-body _ _ _ _ (loop-here .inv .0 .ready) _ _ (loop-here .inv .0 .there) (loop-here .inv .0 .statement) (loop-here .inv .0 .form),
+        pre .1 .2,
+      ),
+    )
 
 repeat-enum-known-o : (t : ℕ) → repeat-lts.Need-enum-known-o (repeat-claims t) (repeat-at t) repeat.Post repeat-Inv-loop repeat-μ-loop
 repeat-enum-known-o t c = search needs
@@ -240,7 +311,18 @@ repeat-same-length-2 : (t : ℕ) → repeat-lts.Need-same-length-2 (repeat-claim
 repeat-same-length-2 t c = search needs
 
 repeat-returns-2 : (t : ℕ) → repeat-lts.Need-returns-2 (repeat-claims t) (repeat-at t) repeat.Post repeat-Inv-loop repeat-μ-loop
-repeat-returns-2 t c = (c .before .before .before .before .before .run .ensures .0, turn-none _ _ _ _ _ _ (c .before .before .before .before .before .before .before .before .before .before .before .before .before .before .before .before .before .loop .inv .0) _ _ _ _ (sym (c .before .before .before .before .before .before .before .before .before .before .before .x .given .1) ∙ c .before .before .before .before .before .before .before .before .before .before .before .before .before .eval .ensures) (not-zero (record { sfits = c .before .before .before .before .before .before .before .before .before .before .known-told .given .0 .1 }) (c .before .before .before .before .before .before .before .before .before .if1 .left)) _ _ _ (with-ran (c .before .before .o .given .1) (c .before .before .before .before .before .run .ensures .1)) (c .if2 .taken) ∙ sym (c .before .before .before .before .before .before .before .before .before .before .before .before .before .before .before .before .before .loop .inv .1))
+repeat-returns-2 t c =
+    let at8 = c .before .before .before .before .before .before .before .before in
+    let run-here = c .before .before .before .before .before .run in
+    let if1 = at8 .before .if1 in
+    let known-told = at8 .before .before .known-told in
+    let x = at8 .before .before .before .x in
+    let eval-here = at8 .before .before .before .before .before .eval in
+    let loop-here = at8 .before .before .before .before .before .before .before .before .before .loop in
+    let x-is = sym (x .given .1) ∙ eval-here .ensures in
+    let with-ran-here = with-ran (c .before .before .o .given .1) (run-here .ensures .1) in
+    let not-zero-here = not-zero (record { sfits = known-told .given .0 .1 }) (if1 .left) in
+    (run-here .ensures .0, turn-none _ _ _ _ _ _ (loop-here .inv .0) _ _ _ _ x-is not-zero-here _ _ _ with-ran-here (c .if2 .taken) ∙ sym (loop-here .inv .1))
 
 repeat-sub-l : (t : ℕ) → repeat-lts.Need-sub-l (repeat-claims t) (repeat-at t) repeat.Post repeat-Inv-loop repeat-μ-loop
 repeat-sub-l t c = search needs
@@ -249,7 +331,30 @@ repeat-loop-less : (t : ℕ) → repeat-lts.Need-loop-less (repeat-claims t) (re
 repeat-loop-less t c = let h = word-left _ _ _ _ _ _ _ _ (sym (c .before .before .before .before .before .before .before .before .before .before .before .x .given .1) ∙ c .before .before .before .before .before .before .before .before .before .before .before .before .before .eval .ensures) in let k = done-left _ _ _ _ _ _ _ _ _ _ (with-ran (c .before .before .o .given .1) (c .before .before .before .before .before .run .ensures .1)) in omega arith
 
 repeat-loop-again : (t : ℕ) → repeat-lts.Need-loop-again (repeat-claims t) (repeat-at t) repeat.Post repeat-Inv-loop repeat-μ-loop
-repeat-loop-again t c = let h = word-left _ _ _ _ _ _ _ _ (sym (c .before .before .before .before .before .before .before .before .before .before .before .x .given .1) ∙ c .before .before .before .before .before .before .before .before .before .before .before .before .before .eval .ensures) in let k = done-left _ _ _ _ _ _ _ _ _ _ (with-ran (c .before .before .o .given .1) (c .before .before .before .before .before .run .ensures .1)) in let i = c .before .before .before .before .before .before .before .before .before .before .before .before .before .before .before .before .before .loop .inv .2 in (turn-visit _ _ _ _ _ _ (c .before .before .before .before .before .before .before .before .before .before .before .before .before .before .before .before .before .loop .inv .0) _ _ _ _ (sym (c .before .before .before .before .before .before .before .before .before .before .before .x .given .1) ∙ c .before .before .before .before .before .before .before .before .before .before .before .before .before .eval .ensures) (not-zero (record { sfits = c .before .before .before .before .before .before .before .before .before .before .known-told .given .0 .1 }) (c .before .before .before .before .before .before .before .before .before .if1 .left)) _ _ _ (with-ran (c .before .before .o .given .1) (c .before .before .before .before .before .run .ensures .1)), c .before .before .before .before .before .before .before .before .before .before .before .before .before .before .before .before .before .loop .inv .1 ∙ turn-again _ _ _ _ _ _ (c .before .before .before .before .before .before .before .before .before .before .before .before .before .before .before .before .before .loop .inv .0) _ _ _ _ (sym (c .before .before .before .before .before .before .before .before .before .before .before .x .given .1) ∙ c .before .before .before .before .before .before .before .before .before .before .before .before .before .eval .ensures) (not-zero (record { sfits = c .before .before .before .before .before .before .before .before .before .before .known-told .given .0 .1 }) (c .before .before .before .before .before .before .before .before .before .if1 .left)) _ _ _ (with-ran (c .before .before .o .given .1) (c .before .before .before .before .before .run .ensures .1)) (c .if2 .left), omega arith, c .before .before .before .before .st .given ∙ c .before .before .before .before .before .before .before .before .before .before .before .before .before .before .before .before .before .loop .inv .3, c .before .before .before .before .before .run .ensures .0 ∙ sym (c .before .before .before .before .before .before .before .before .before .before .before .before .before .before .before .before .before .before .before .pre .1 .1 .ready .locals .sixteen))
+repeat-loop-again t c =
+    let at8 = c .before .before .before .before .before .before .before .before in
+    let at16 = at8 .before .before .before .before .before .before .before .before in
+    let o = c .before .before .o in
+    let st = c .before .before .before .before .st in
+    let run-here = c .before .before .before .before .before .run in
+    let if1 = at8 .before .if1 in
+    let known-told = at8 .before .before .known-told in
+    let x = at8 .before .before .before .x in
+    let eval-here = at8 .before .before .before .before .before .eval in
+    let loop-here = at16 .before .loop in
+    let pre = at16 .before .before .before .pre in
+    let x-is = sym (x .given .1) ∙ eval-here .ensures in
+    let with-ran-here = with-ran (o .given .1) (run-here .ensures .1) in
+    let not-zero-here = not-zero (record { sfits = known-told .given .0 .1 }) (if1 .left) in
+    let h = word-left _ _ _ _ _ _ _ _ x-is in
+    let k = done-left _ _ _ _ _ _ _ _ _ _ with-ran-here in
+    let i = loop-here .inv .2 in (
+      turn-visit _ _ _ _ _ _ (loop-here .inv .0) _ _ _ _ x-is not-zero-here _ _ _ with-ran-here,
+      loop-here .inv .1 ∙ turn-again _ _ _ _ _ _ (loop-here .inv .0) _ _ _ _ x-is not-zero-here _ _ _ with-ran-here (c .if2 .left),
+      omega arith,
+      st .given ∙ loop-here .inv .3,
+      run-here .ensures .0 ∙ sym (pre .1 .1 .ready .locals .sixteen),
+    )
 
 repeat-enum-known-o-2 : (t : ℕ) → repeat-lts.Need-enum-known-o-2 (repeat-claims t) (repeat-at t) repeat.Post repeat-Inv-loop repeat-μ-loop
 repeat-enum-known-o-2 t c = search needs
@@ -258,7 +363,20 @@ repeat-same-length-3 : (t : ℕ) → repeat-lts.Need-same-length-3 (repeat-claim
 repeat-same-length-3 t c = search needs
 
 repeat-returns-3 : (t : ℕ) → repeat-lts.Need-returns-3 (repeat-claims t) (repeat-at t) repeat.Post repeat-Inv-loop repeat-μ-loop
-repeat-returns-3 t c = (c .before .before .before .before .run .ensures .0, turn-refused _ _ _ _ _ _ (c .before .before .before .before .before .before .before .before .before .before .before .before .before .before .before .before .loop .inv .0) _ _ _ _ (sym (c .before .before .before .before .before .before .before .before .before .before .x .given .1) ∙ c .before .before .before .before .before .before .before .before .before .before .before .before .eval .ensures) (not-zero (record { sfits = c .before .before .before .before .before .before .before .before .before .known-told .given .0 .1 }) (c .before .before .before .before .before .before .before .before .if1 .left)) _ _ _ _ (with-ran (c .before .o2 .given .1) (c .before .before .before .before .run .ensures .1)) ∙ sym (c .before .before .before .before .before .before .before .before .before .before .before .before .before .before .before .before .loop .inv .1))
+repeat-returns-3 t c =
+    let at8 = c .before .before .before .before .before .before .before .before in
+    let run-here = c .before .before .before .before .run in
+    let if1 = at8 .if1 in
+    let known-told = at8 .before .known-told in
+    let x = at8 .before .before .x in
+    let eval-here = at8 .before .before .before .before .eval in
+    let loop-here = at8 .before .before .before .before .before .before .before .before .loop in
+    let x-is = sym (x .given .1) ∙ eval-here .ensures in
+    let not-zero-here = not-zero (record { sfits = known-told .given .0 .1 }) (if1 .left) in (
+      run-here .ensures .0,
+      turn-refused _ _ _ _ _ _ (loop-here .inv .0) _ _ _ _ x-is not-zero-here _ _ _ _ (with-ran (c .before .o2 .given .1) (run-here .ensures .1))
+          ∙ sym (loop-here .inv .1),
+    )
 
 repeat-enum-told : (t : ℕ) → repeat-lts.Need-enum-told (repeat-claims t) (repeat-at t) repeat.Post repeat-Inv-loop repeat-μ-loop
 repeat-enum-told t c = search needs
@@ -267,7 +385,20 @@ repeat-same-length-4 : (t : ℕ) → repeat-lts.Need-same-length-4 (repeat-claim
 repeat-same-length-4 t c = search needs
 
 repeat-returns-4 : (t : ℕ) → repeat-lts.Need-returns-4 (repeat-claims t) (repeat-at t) repeat.Post repeat-Inv-loop repeat-μ-loop
-repeat-returns-4 t c = (c .before .before .before .run .ensures .0, turn-stuck _ _ _ _ _ _ (c .before .before .before .before .before .before .before .before .before .before .before .before .before .before .before .loop .inv .0) _ _ _ _ (sym (c .before .before .before .before .before .before .before .before .before .x .given .1) ∙ c .before .before .before .before .before .before .before .before .before .before .before .eval .ensures) (not-zero (record { sfits = c .before .before .before .before .before .before .before .before .known-told .given .0 .1 }) (c .before .before .before .before .before .before .before .if1 .left)) _ _ (with-ran (c .enum-told .given .1) (c .before .before .before .run .ensures .1)) ∙ sym (c .before .before .before .before .before .before .before .before .before .before .before .before .before .before .before .loop .inv .1))
+repeat-returns-4 t c =
+    let at8 = c .before .before .before .before .before .before .before .before in
+    let run-here = c .before .before .before .run in
+    let if1 = c .before .before .before .before .before .before .before .if1 in
+    let known-told = at8 .known-told in
+    let x = at8 .before .x in
+    let eval-here = at8 .before .before .before .eval in
+    let loop-here = at8 .before .before .before .before .before .before .before .loop in
+    let x-is = sym (x .given .1) ∙ eval-here .ensures in
+    let not-zero-here = not-zero (record { sfits = known-told .given .0 .1 }) (if1 .left) in (
+      run-here .ensures .0,
+      turn-stuck _ _ _ _ _ _ (loop-here .inv .0) _ _ _ _ x-is not-zero-here _ _ (with-ran (c .enum-told .given .1) (run-here .ensures .1))
+          ∙ sym (loop-here .inv .1),
+    )
 
 repeat-enum-known-x-2 : (t : ℕ) → repeat-lts.Need-enum-known-x-2 (repeat-claims t) (repeat-at t) repeat.Post repeat-Inv-loop repeat-μ-loop
 repeat-enum-known-x-2 t c = search needs
@@ -309,19 +440,42 @@ run-assign-requires : (t : ℕ) → run-lts.Need-assign-requires (run-claims t) 
 run-assign-requires t c κs = (c .before .before .before .before .before .before .before .before .before .pre .1 .0, visit _ _ _ _ (c .before .before .before .before .before .before .before .before .before .pre .1 .1) _ _ (sym (c .before .before .before .before .before .before .read .ensures) ∙ c .before .before .before .before .r .given .1) (c .before .before .before .before .before .before .before .before .before .pre .1 .2) assign (form-assign _ (c .before .before .match2 .keys2)))
 
 run-external-send-requires : (t : ℕ) → run-lts.Need-external-send-requires (run-claims t) (run-at t) run.Post
-run-external-send-requires t c κs = (c .before .before .before .before .before .before .before .before .before .pre .1 .0, visit _ _ _ _ (c .before .before .before .before .before .before .before .before .before .pre .1 .1) _ _ (sym (c .before .before .before .before .before .before .read .ensures) ∙ c .before .before .before .before .r .given .1) (c .before .before .before .before .before .before .before .before .before .pre .1 .2) externalSend (form-external _ (c .before .before .match2 .keys3)))
+run-external-send-requires t c κs =
+    let r = c .before .before .before .before .r in
+    let read-here = c .before .before .before .before .before .before .read in
+    let pre = c .before .before .before .before .before .before .before .before .before .pre in
+    let r-is = sym (read-here .ensures) ∙ r .given .1 in
+    (pre .1 .0, visit _ _ _ _ (pre .1 .1) _ _ r-is (pre .1 .2) externalSend (form-external _ (c .before .before .match2 .keys3)))
 
 run-internal-send-requires : (t : ℕ) → run-lts.Need-internal-send-requires (run-claims t) (run-at t) run.Post
-run-internal-send-requires t c κs = (c .before .before .before .before .before .before .before .before .before .pre .1 .0, visit _ _ _ _ (c .before .before .before .before .before .before .before .before .before .pre .1 .1) _ _ (sym (c .before .before .before .before .before .before .read .ensures) ∙ c .before .before .before .before .r .given .1) (c .before .before .before .before .before .before .before .before .before .pre .1 .2) internalSend (form-internal _ (c .before .before .match2 .keys4)))
+run-internal-send-requires t c κs =
+    let r = c .before .before .before .before .r in
+    let read-here = c .before .before .before .before .before .before .read in
+    let pre = c .before .before .before .before .before .before .before .before .before .pre in
+    let r-is = sym (read-here .ensures) ∙ r .given .1 in
+    (pre .1 .0, visit _ _ _ _ (pre .1 .1) _ _ r-is (pre .1 .2) internalSend (form-internal _ (c .before .before .match2 .keys4)))
 
 run-call-requires : (t : ℕ) → run-lts.Need-call-requires (run-claims t) (run-at t) run.Post
-run-call-requires t c κs = let q = c .before .before .before .before .before .before .before .before .before .pre .0 in let h = c .before .before .before .before .before .before .before .if1 .left in (omega arith, (c .before .before .before .before .before .before .before .before .before .pre .1 .0, visit _ _ _ _ (c .before .before .before .before .before .before .before .before .before .pre .1 .1) _ _ (sym (c .before .before .before .before .before .before .read .ensures) ∙ c .before .before .before .before .r .given .1) (c .before .before .before .before .before .before .before .before .before .pre .1 .2) calls (form-call _ (c .before .before .match2 .keys5)), c .before .before .before .before .before .before .before .before .before .pre .1 .3))
+run-call-requires t c κs =
+    let r = c .before .before .before .before .r in
+    let read-here = c .before .before .before .before .before .before .read in
+    let if1 = c .before .before .before .before .before .before .before .if1 in
+    let pre = c .before .before .before .before .before .before .before .before .before .pre in
+    let r-is = sym (read-here .ensures) ∙ r .given .1 in
+    let q = pre .0 in
+    let h = if1 .left in
+    (omega arith, (pre .1 .0, visit _ _ _ _ (pre .1 .1) _ _ r-is (pre .1 .2) calls (form-call _ (c .before .before .match2 .keys5)), pre .1 .3))
 
 run-cast-eval : (t : ℕ) → run-lts.Need-cast-eval (run-claims t) (run-at t) run.Post
 run-cast-eval t c = search needs
 
 run-eval-requires : (t : ℕ) → run-lts.Need-eval-requires (run-claims t) (run-at t) run.Post
-run-eval-requires t c κs = (c .before .before .before .before .before .before .before .before .before .before .pre .1 .0, c .before .before .before .before .before .before .before .before .before .before .pre .1 .1, choice-operand _ _ _ _ (c .before .before .before .before .before .before .before .before .before .before .pre .1 .1) _ _ (sym (c .before .before .before .before .before .before .before .read .ensures) ∙ c .before .before .before .before .before .r .given .1) (c .before .before .before .before .before .before .before .before .before .before .pre .1 .2) (form-choice _ (c .before .before .before .match2 .keys6)))
+run-eval-requires t c κs =
+    let match2 = c .before .before .before .match2 in
+    let r = c .before .before .before .before .before .r in
+    let read-here = c .before .before .before .before .before .before .before .read in
+    let pre = c .before .before .before .before .before .before .before .before .before .before .pre in
+    (pre .1 .0, pre .1 .1, choice-operand _ _ _ _ (pre .1 .1) _ _ (sym (read-here .ensures) ∙ r .given .1) (pre .1 .2) (form-choice _ (match2 .keys6)))
 
 run-enum-known-x : (t : ℕ) → run-lts.Need-enum-known-x (run-claims t) (run-at t) run.Post
 run-enum-known-x t c = search needs
@@ -330,13 +484,39 @@ run-cast-run : (t : ℕ) → run-lts.Need-cast-run (run-claims t) (run-at t) run
 run-cast-run t c = search needs
 
 run-run-requires : (t : ℕ) → run-lts.Need-run-requires (run-claims t) (run-at t) run.Post
-run-run-requires t c κs = let k = word-left _ _ _ _ _ _ _ _ (sym (c .before .before .before .before .before .x .given .1) ∙ c .before .before .before .before .before .before .before .eval .ensures) in let q = c .before .before .before .before .before .before .before .before .before .before .before .before .before .before .before .before .before .before .pre .0 in let h = c .before .before .before .before .before .before .before .before .before .before .before .before .before .before .before .before .if1 .left in (omega arith, (c .before .before .before .before .before .before .before .before .before .before .before .before .before .before .before .before .before .before .pre .1 .0, c .before .before .before .before .before .before .before .before .before .before .before .before .before .before .before .before .before .before .pre .1 .1, choice-else _ _ _ _ (c .before .before .before .before .before .before .before .before .before .before .before .before .before .before .before .before .before .before .pre .1 .1) _ _ (sym (c .before .before .before .before .before .before .before .before .before .before .before .before .before .before .before .read .ensures) ∙ c .before .before .before .before .before .before .before .before .before .before .before .before .before .r .given .1) (c .before .before .before .before .before .before .before .before .before .before .before .before .before .before .before .before .before .before .pre .1 .2) (form-choice _ (c .before .before .before .before .before .before .before .before .before .before .before .match2 .keys6)), c .before .before .before .before .before .before .before .before .before .before .before .before .before .before .before .before .before .before .pre .1 .3))
+run-run-requires t c κs =
+    let at8 = c .before .before .before .before .before .before .before .before in
+    let x = c .before .before .before .before .before .x in
+    let eval-here = c .before .before .before .before .before .before .before .eval in
+    let match2 = at8 .before .before .before .match2 in
+    let r = at8 .before .before .before .before .before .r in
+    let read-here = at8 .before .before .before .before .before .before .before .read in
+    let if1 = at8 .before .before .before .before .before .before .before .before .if1 in
+    let pre = at8 .before .before .before .before .before .before .before .before .before .before .pre in
+    let r-is = sym (read-here .ensures) ∙ r .given .1 in
+    let k = word-left _ _ _ _ _ _ _ _ (sym (x .given .1) ∙ eval-here .ensures) in
+    let q = pre .0 in
+    let h = if1 .left in
+    (omega arith, (pre .1 .0, pre .1 .1, choice-else _ _ _ _ (pre .1 .1) _ _ r-is (pre .1 .2) (form-choice _ (match2 .keys6)), pre .1 .3))
 
 run-cast-run-2 : (t : ℕ) → run-lts.Need-cast-run-2 (run-claims t) (run-at t) run.Post
 run-cast-run-2 t c = search needs
 
 run-run-requires-2 : (t : ℕ) → run-lts.Need-run-requires-2 (run-claims t) (run-at t) run.Post
-run-run-requires-2 t c κs = let k = word-left _ _ _ _ _ _ _ _ (sym (c .before .before .before .before .before .x .given .1) ∙ c .before .before .before .before .before .before .before .eval .ensures) in let q = c .before .before .before .before .before .before .before .before .before .before .before .before .before .before .before .before .before .before .pre .0 in let h = c .before .before .before .before .before .before .before .before .before .before .before .before .before .before .before .before .if1 .left in (omega arith, (c .before .before .before .before .before .before .before .before .before .before .before .before .before .before .before .before .before .before .pre .1 .0, c .before .before .before .before .before .before .before .before .before .before .before .before .before .before .before .before .before .before .pre .1 .1, choice-then _ _ _ _ (c .before .before .before .before .before .before .before .before .before .before .before .before .before .before .before .before .before .before .pre .1 .1) _ _ (sym (c .before .before .before .before .before .before .before .before .before .before .before .before .before .before .before .read .ensures) ∙ c .before .before .before .before .before .before .before .before .before .before .before .before .before .r .given .1) (c .before .before .before .before .before .before .before .before .before .before .before .before .before .before .before .before .before .before .pre .1 .2) (form-choice _ (c .before .before .before .before .before .before .before .before .before .before .before .match2 .keys6)), c .before .before .before .before .before .before .before .before .before .before .before .before .before .before .before .before .before .before .pre .1 .3))
+run-run-requires-2 t c κs =
+    let at8 = c .before .before .before .before .before .before .before .before in
+    let x = c .before .before .before .before .before .x in
+    let eval-here = c .before .before .before .before .before .before .before .eval in
+    let match2 = at8 .before .before .before .match2 in
+    let r = at8 .before .before .before .before .before .r in
+    let read-here = at8 .before .before .before .before .before .before .before .read in
+    let if1 = at8 .before .before .before .before .before .before .before .before .if1 in
+    let pre = at8 .before .before .before .before .before .before .before .before .before .before .pre in
+    let r-is = sym (read-here .ensures) ∙ r .given .1 in
+    let k = word-left _ _ _ _ _ _ _ _ (sym (x .given .1) ∙ eval-here .ensures) in
+    let q = pre .0 in
+    let h = if1 .left in
+    (omega arith, (pre .1 .0, pre .1 .1, choice-then _ _ _ _ (pre .1 .1) _ _ r-is (pre .1 .2) (form-choice _ (match2 .keys6)), pre .1 .3))
 
 run-enum-known-x-2 : (t : ℕ) → run-lts.Need-enum-known-x-2 (run-claims t) (run-at t) run.Post
 run-enum-known-x-2 t c = search needs
@@ -345,13 +525,30 @@ run-enum-told-2 : (t : ℕ) → run-lts.Need-enum-told-2 (run-claims t) (run-at 
 run-enum-told-2 t c = search needs
 
 run-repeat-requires : (t : ℕ) → run-lts.Need-repeat-requires (run-claims t) (run-at t) run.Post
-run-repeat-requires t c κs = let q = c .before .before .before .before .before .before .before .before .before .pre .0 in let h = c .before .before .before .before .before .before .before .if1 .left in (omega arith, (c .before .before .before .before .before .before .before .before .before .pre .1 .0, visit _ _ _ _ (c .before .before .before .before .before .before .before .before .before .pre .1 .1) _ _ (sym (c .before .before .before .before .before .before .read .ensures) ∙ c .before .before .before .before .r .given .1) (c .before .before .before .before .before .before .before .before .before .pre .1 .2) loop (form-loop _ (c .before .before .match2 .keys7)), c .before .before .before .before .before .before .before .before .before .pre .1 .3))
+run-repeat-requires t c κs =
+    let r = c .before .before .before .before .r in
+    let read-here = c .before .before .before .before .before .before .read in
+    let if1 = c .before .before .before .before .before .before .before .if1 in
+    let pre = c .before .before .before .before .before .before .before .before .before .pre in
+    let r-is = sym (read-here .ensures) ∙ r .given .1 in
+    let q = pre .0 in
+    let h = if1 .left in
+    (omega arith, (pre .1 .0, visit _ _ _ _ (pre .1 .1) _ _ r-is (pre .1 .2) loop (form-loop _ (c .before .before .match2 .keys7)), pre .1 .3))
 
 run-cast-run-3 : (t : ℕ) → run-lts.Need-cast-run-3 (run-claims t) (run-at t) run.Post
 run-cast-run-3 t c = search needs
 
 run-run-requires-3 : (t : ℕ) → run-lts.Need-run-requires-3 (run-claims t) (run-at t) run.Post
-run-run-requires-3 t c κs = let q = c .before .before .before .before .before .before .before .before .before .before .pre .0 in let h = c .before .before .before .before .before .before .before .before .if1 .left in (omega arith, (c .before .before .before .before .before .before .before .before .before .before .pre .1 .0, c .before .before .before .before .before .before .before .before .before .before .pre .1 .1, sequence-first _ _ _ _ (c .before .before .before .before .before .before .before .before .before .before .pre .1 .1) _ _ (sym (c .before .before .before .before .before .before .before .read .ensures) ∙ c .before .before .before .before .before .r .given .1) (c .before .before .before .before .before .before .before .before .before .before .pre .1 .2) (form-sequence _ (c .before .before .before .match2 .keys8)), c .before .before .before .before .before .before .before .before .before .before .pre .1 .3))
+run-run-requires-3 t c κs =
+    let match2 = c .before .before .before .match2 in
+    let r = c .before .before .before .before .before .r in
+    let read-here = c .before .before .before .before .before .before .before .read in
+    let if1 = c .before .before .before .before .before .before .before .before .if1 in
+    let pre = c .before .before .before .before .before .before .before .before .before .before .pre in
+    let r-is = sym (read-here .ensures) ∙ r .given .1 in
+    let q = pre .0 in
+    let h = if1 .left in
+    (omega arith, (pre .1 .0, pre .1 .1, sequence-first _ _ _ _ (pre .1 .1) _ _ r-is (pre .1 .2) (form-sequence _ (match2 .keys8)), pre .1 .3))
 
 run-enum-known-o : (t : ℕ) → run-lts.Need-enum-known-o (run-claims t) (run-at t) run.Post
 run-enum-known-o t c = search needs
@@ -360,7 +557,30 @@ run-cast-run-4 : (t : ℕ) → run-lts.Need-cast-run-4 (run-claims t) (run-at t)
 run-cast-run-4 t c = search needs
 
 run-run-requires-4 : (t : ℕ) → run-lts.Need-run-requires-4 (run-claims t) (run-at t) run.Post
-run-run-requires-4 t c κs = let k = done-left _ _ _ _ _ _ _ _ _ _ (with-ran (c .before .before .before .before .o .given .1) (c .before .before .before .before .before .before .before .run3 .ensures .1)) in let q = c .before .before .before .before .before .before .before .before .before .before .before .before .before .before .before .before .before .before .pre .0 in let h = c .before .before .before .before .before .before .before .before .before .before .before .before .before .before .before .before .if1 .left in (omega arith, (c .before .before .before .before .before .before .before .before .before .before .before .before .before .before .before .before .before .before .pre .1 .0, ready-after _ _ _ _ (c .before .before .before .before .before .before .before .before .before .before .before .before .before .before .before .before .before .before .pre .1 .1) _ _ _ (sequence-first _ _ _ _ (c .before .before .before .before .before .before .before .before .before .before .before .before .before .before .before .before .before .before .pre .1 .1) _ _ (sym (c .before .before .before .before .before .before .before .before .before .before .before .before .before .before .before .read .ensures) ∙ c .before .before .before .before .before .before .before .before .before .before .before .before .before .r .given .1) (c .before .before .before .before .before .before .before .before .before .before .before .before .before .before .before .before .before .before .pre .1 .2) (form-sequence _ (c .before .before .before .before .before .before .before .before .before .before .before .match2 .keys8))) _ _ _ (sym (with-ran (c .before .before .before .before .o .given .1) (c .before .before .before .before .before .before .before .run3 .ensures .1))), sequence-second _ _ _ _ (c .before .before .before .before .before .before .before .before .before .before .before .before .before .before .before .before .before .before .pre .1 .1) _ _ (sym (c .before .before .before .before .before .before .before .before .before .before .before .before .before .before .before .read .ensures) ∙ c .before .before .before .before .before .before .before .before .before .before .before .before .before .r .given .1) (c .before .before .before .before .before .before .before .before .before .before .before .before .before .before .before .before .before .before .pre .1 .2) (form-sequence _ (c .before .before .before .before .before .before .before .before .before .before .before .match2 .keys8)), c .before .before .before .before .before .before .before .before .before .before .before .before .before .before .before .before .before .before .pre .1 .3))
+run-run-requires-4 t c κs =
+    let at8 = c .before .before .before .before .before .before .before .before in
+    let o = c .before .before .before .before .o in
+    let run3 = c .before .before .before .before .before .before .before .run3 in
+    let match2 = at8 .before .before .before .match2 in
+    let r = at8 .before .before .before .before .before .r in
+    let read-here = at8 .before .before .before .before .before .before .before .read in
+    let if1 = at8 .before .before .before .before .before .before .before .before .if1 in
+    let pre = at8 .before .before .before .before .before .before .before .before .before .before .pre in
+    let form-sequence-here = form-sequence _ (match2 .keys8) in
+    let r-is = sym (read-here .ensures) ∙ r .given .1 in
+    let sequence-first-here = sequence-first _ _ _ _ (pre .1 .1) _ _ r-is (pre .1 .2) form-sequence-here in
+    let with-ran-here = with-ran (o .given .1) (run3 .ensures .1) in
+    let k = done-left _ _ _ _ _ _ _ _ _ _ with-ran-here in
+    let q = pre .0 in
+    let h = if1 .left in (
+      omega arith,
+      (
+        pre .1 .0,
+        ready-after _ _ _ _ (pre .1 .1) _ _ _ sequence-first-here _ _ _ (sym with-ran-here),
+        sequence-second _ _ _ _ (pre .1 .1) _ _ r-is (pre .1 .2) form-sequence-here,
+        pre .1 .3,
+      ),
+    )
 
 run-enum-known-o-2 : (t : ℕ) → run-lts.Need-enum-known-o-2 (run-claims t) (run-at t) run.Post
 run-enum-known-o-2 t c = search needs
@@ -369,13 +589,32 @@ run-enum-told-3 : (t : ℕ) → run-lts.Need-enum-told-3 (run-claims t) (run-at 
 run-enum-told-3 t c = search needs
 
 run-assign-element-requires : (t : ℕ) → run-lts.Need-assign-element-requires (run-claims t) (run-at t) run.Post
-run-assign-element-requires t c κs = (c .before .before .before .before .before .before .before .before .before .pre .1 .0, visit _ _ _ _ (c .before .before .before .before .before .before .before .before .before .pre .1 .1) _ _ (sym (c .before .before .before .before .before .before .read .ensures) ∙ c .before .before .before .before .r .given .1) (c .before .before .before .before .before .before .before .before .before .pre .1 .2) assignElement (form-assign-element _ (c .before .before .match2 .keys9)))
+run-assign-element-requires t c κs =
+    let r = c .before .before .before .before .r in
+    let read-here = c .before .before .before .before .before .before .read in
+    let pre = c .before .before .before .before .before .before .before .before .before .pre in
+    let r-is = sym (read-here .ensures) ∙ r .given .1 in
+    (pre .1 .0, visit _ _ _ _ (pre .1 .1) _ _ r-is (pre .1 .2) assignElement (form-assign-element _ (c .before .before .match2 .keys9)))
 
 run-arming-requires : (t : ℕ) → run-lts.Need-arming-requires (run-claims t) (run-at t) run.Post
-run-arming-requires t c κs = (c .before .before .before .before .before .before .before .before .before .before .before .pre .1 .0, visit _ _ _ _ (c .before .before .before .before .before .before .before .before .before .before .before .pre .1 .1) _ _ (sym (c .before .before .before .before .before .before .before .before .read .ensures) ∙ c .before .before .before .before .before .before .r .given .1) (c .before .before .before .before .before .before .before .before .before .before .before .pre .1 .2) arm (form-arm _ (past-four (c .before .before .before .if3 .left) (c .before .before .before .before .match2 .rest .0 .0 .0 .0 .0 .0 .0 .0 .1) (c .before .before .before .before .match2 .rest .0 .0 .0 .0 .0 .0 .0 .1) (c .before .before .before .before .match2 .rest .0 .0 .0 .0 .0 .0 .1) (c .before .before .before .before .match2 .rest .0 .0 .0 .0 .0 .1)) (below-next (c .before .before .if4 .taken))))
+run-arming-requires t c κs =
+    let if3 = c .before .before .before .if3 in
+    let match2 = c .before .before .before .before .match2 in
+    let r = c .before .before .before .before .before .before .r in
+    let read-here = c .before .before .before .before .before .before .before .before .read in
+    let pre = c .before .before .before .before .before .before .before .before .before .before .before .pre in
+    let past-four-here = past-four (if3 .left) (match2 .rest .0 .0 .0 .0 .0 .0 .0 .0 .1) (match2 .rest .0 .0 .0 .0 .0 .0 .0 .1)
+    (match2 .rest .0 .0 .0 .0 .0 .0 .1) (match2 .rest .0 .0 .0 .0 .0 .1) in
+    let form-arm-here = form-arm _ past-four-here (below-next (c .before .before .if4 .taken)) in
+    (pre .1 .0, visit _ _ _ _ (pre .1 .1) _ _ (sym (read-here .ensures) ∙ r .given .1) (pre .1 .2) arm form-arm-here)
 
 run-clock-requires : (t : ℕ) → run-lts.Need-clock-requires (run-claims t) (run-at t) run.Post
-run-clock-requires t c κs = act-lies _ _ _ _ _ _ (visit _ _ _ _ (c .before .before .before .before .before .before .before .before .before .before .before .pre .1 .1) _ _ (sym (c .before .before .before .before .before .before .before .before .read .ensures) ∙ c .before .before .before .before .before .before .r .given .1) (c .before .before .before .before .before .before .before .before .before .before .before .pre .1 .2) clockAct (form-clockAct _ (c .before .before .if4 .left) (below-next (c .before .if5 .taken))))
+run-clock-requires t c κs =
+    let r = c .before .before .before .before .before .before .r in
+    let read-here = c .before .before .before .before .before .before .before .before .read in
+    let pre = c .before .before .before .before .before .before .before .before .before .before .before .pre in
+    let form-clockAct-here = form-clockAct _ (c .before .before .if4 .left) (below-next (c .before .if5 .taken)) in
+    act-lies _ _ _ _ _ _ (visit _ _ _ _ (pre .1 .1) _ _ (sym (read-here .ensures) ∙ r .given .1) (pre .1 .2) clockAct form-clockAct-here)
 
 run-returns-3 : (t : ℕ) → run-lts.Need-returns-3 (run-claims t) (run-at t) run.Post
 run-returns-3 t c = (c .before .before .before .before .before .before .before .pre .1 .1 .locals .sixteen, step-back _ _ _ _ _ _ _ (c .before .before .before .before .before .if1 .left) (skips _ _ _ _ (c .before .before .before .before .before .before .before .pre .1 .1) _ _ (sym (c .before .before .before .before .read .ensures) ∙ c .before .before .r .given .1) (c .before .before .before .before .before .before .before .pre .1 .2) (c .match2 .keys1) _ _))
@@ -408,25 +647,80 @@ run-same-length-5 : (t : ℕ) → run-lts.Need-same-length-5 (run-claims t) (run
 run-same-length-5 t c = search needs
 
 run-returns-8 : (t : ℕ) → run-lts.Need-returns-8 (run-claims t) (run-at t) run.Post
-run-returns-8 t c = (c .before .run .ensures .0, step-back _ _ _ _ _ _ _ (c .before .before .before .before .before .before .before .before .before .before .before .before .before .before .before .before .before .before .if1 .left) (c .before .run .ensures .1 ∙ choice-no _ _ _ _ _ _ (visit _ _ _ _ (c .before .before .before .before .before .before .before .before .before .before .before .before .before .before .before .before .before .before .before .before .pre .1 .1) _ _ (sym (c .before .before .before .before .before .before .before .before .before .before .before .before .before .before .before .before .before .read .ensures) ∙ c .before .before .before .before .before .before .before .before .before .before .before .before .before .before .before .r .given .1) (c .before .before .before .before .before .before .before .before .before .before .before .before .before .before .before .before .before .before .before .before .pre .1 .2) choice (form-choice _ (c .before .before .before .before .before .before .before .before .before .before .before .before .before .match2 .keys6))) _ _ _ _ (sym (c .before .before .before .before .before .before .before .x .given .1) ∙ c .before .before .before .before .before .before .before .before .before .eval .ensures) (is-zero (record { sfits = c .before .before .before .before .before .before .known-told2 .given .0 .1 }) (c .before .before .before .before .before .if2 .taken))))
+run-returns-8 t c =
+    let at8 = c .before .before .before .before .before .before .before .before in
+    let at16 = at8 .before .before .before .before .before .before .before .before in
+    let if2 = c .before .before .before .before .before .if2 in
+    let known-told2 = c .before .before .before .before .before .before .known-told2 in
+    let x = c .before .before .before .before .before .before .before .x in
+    let eval-here = at8 .before .eval in
+    let match2 = at8 .before .before .before .before .before .match2 in
+    let r = at8 .before .before .before .before .before .before .before .r in
+    let read-here = at16 .before .read in
+    let if1 = at16 .before .before .if1 in
+    let pre = at16 .before .before .before .before .pre in
+    let r-is = sym (read-here .ensures) ∙ r .given .1 in
+    let visit-here = visit _ _ _ _ (pre .1 .1) _ _ r-is (pre .1 .2) choice (form-choice _ (match2 .keys6)) in
+    let x-is = sym (x .given .1) ∙ eval-here .ensures in
+    let is-zero-here = is-zero (record { sfits = known-told2 .given .0 .1 }) (if2 .taken) in
+    (c .before .run .ensures .0, step-back _ _ _ _ _ _ _ (if1 .left) (c .before .run .ensures .1 ∙ choice-no _ _ _ _ _ _ visit-here _ _ _ _ x-is is-zero-here))
 
 run-same-length-6 : (t : ℕ) → run-lts.Need-same-length-6 (run-claims t) (run-at t) run.Post
 run-same-length-6 t c = search needs
 
 run-returns-9 : (t : ℕ) → run-lts.Need-returns-9 (run-claims t) (run-at t) run.Post
-run-returns-9 t c = (c .before .run2 .ensures .0, step-back _ _ _ _ _ _ _ (c .before .before .before .before .before .before .before .before .before .before .before .before .before .before .before .before .before .before .if1 .left) (c .before .run2 .ensures .1 ∙ choice-yes _ _ _ _ _ _ (visit _ _ _ _ (c .before .before .before .before .before .before .before .before .before .before .before .before .before .before .before .before .before .before .before .before .pre .1 .1) _ _ (sym (c .before .before .before .before .before .before .before .before .before .before .before .before .before .before .before .before .before .read .ensures) ∙ c .before .before .before .before .before .before .before .before .before .before .before .before .before .before .before .r .given .1) (c .before .before .before .before .before .before .before .before .before .before .before .before .before .before .before .before .before .before .before .before .pre .1 .2) choice (form-choice _ (c .before .before .before .before .before .before .before .before .before .before .before .before .before .match2 .keys6))) _ _ _ _ (sym (c .before .before .before .before .before .before .before .x .given .1) ∙ c .before .before .before .before .before .before .before .before .before .eval .ensures) (not-zero (record { sfits = c .before .before .before .before .before .before .known-told2 .given .0 .1 }) (c .before .before .before .before .before .if2 .left))))
+run-returns-9 t c =
+    let at8 = c .before .before .before .before .before .before .before .before in
+    let at16 = at8 .before .before .before .before .before .before .before .before in
+    let if2 = c .before .before .before .before .before .if2 in
+    let known-told2 = c .before .before .before .before .before .before .known-told2 in
+    let x = c .before .before .before .before .before .before .before .x in
+    let eval-here = at8 .before .eval in
+    let match2 = at8 .before .before .before .before .before .match2 in
+    let r = at8 .before .before .before .before .before .before .before .r in
+    let read-here = at16 .before .read in
+    let if1 = at16 .before .before .if1 in
+    let pre = at16 .before .before .before .before .pre in
+    let r-is = sym (read-here .ensures) ∙ r .given .1 in
+    let visit-here = visit _ _ _ _ (pre .1 .1) _ _ r-is (pre .1 .2) choice (form-choice _ (match2 .keys6)) in
+    let x-is = sym (x .given .1) ∙ eval-here .ensures in
+    let not-zero-here = not-zero (record { sfits = known-told2 .given .0 .1 }) (if2 .left) in (
+      c .before .run2 .ensures .0,
+      step-back _ _ _ _ _ _ _ (if1 .left) (c .before .run2 .ensures .1 ∙ choice-yes _ _ _ _ _ _ visit-here _ _ _ _ x-is not-zero-here),
+    )
 
 run-same-length-7 : (t : ℕ) → run-lts.Need-same-length-7 (run-claims t) (run-at t) run.Post
 run-same-length-7 t c = search needs
 
 run-returns-10 : (t : ℕ) → run-lts.Need-returns-10 (run-claims t) (run-at t) run.Post
-run-returns-10 t c = (c .before .before .before .before .before .before .before .before .before .before .before .before .before .before .pre .1 .1 .locals .sixteen, step-back _ _ _ _ _ _ _ (c .before .before .before .before .before .before .before .before .before .before .before .before .if1 .left) (choice-refused _ _ _ _ _ _ (visit _ _ _ _ (c .before .before .before .before .before .before .before .before .before .before .before .before .before .before .pre .1 .1) _ _ (sym (c .before .before .before .before .before .before .before .before .before .before .before .read .ensures) ∙ c .before .before .before .before .before .before .before .before .before .r .given .1) (c .before .before .before .before .before .before .before .before .before .before .before .before .before .before .pre .1 .2) choice (form-choice _ (c .before .before .before .before .before .before .before .match2 .keys6))) _ _ _ _ (sym (c .before .x2 .given .1) ∙ c .before .before .before .eval .ensures)))
+run-returns-10 t c =
+    let at8 = c .before .before .before .before .before .before .before .before in
+    let eval-here = c .before .before .before .eval in
+    let match2 = c .before .before .before .before .before .before .before .match2 in
+    let r = at8 .before .r in
+    let read-here = at8 .before .before .before .read in
+    let if1 = at8 .before .before .before .before .if1 in
+    let pre = at8 .before .before .before .before .before .before .pre in
+    let r-is = sym (read-here .ensures) ∙ r .given .1 in
+    let visit-here = visit _ _ _ _ (pre .1 .1) _ _ r-is (pre .1 .2) choice (form-choice _ (match2 .keys6)) in
+    let x2-is = sym (c .before .x2 .given .1) ∙ eval-here .ensures in
+    (pre .1 .1 .locals .sixteen, step-back _ _ _ _ _ _ _ (if1 .left) (choice-refused _ _ _ _ _ _ visit-here _ _ _ _ x2-is))
 
 run-same-length-8 : (t : ℕ) → run-lts.Need-same-length-8 (run-claims t) (run-at t) run.Post
 run-same-length-8 t c = search needs
 
 run-returns-11 : (t : ℕ) → run-lts.Need-returns-11 (run-claims t) (run-at t) run.Post
-run-returns-11 t c = (c .before .before .before .before .before .before .before .before .before .before .before .before .before .pre .1 .1 .locals .sixteen, step-back _ _ _ _ _ _ _ (c .before .before .before .before .before .before .before .before .before .before .before .if1 .left) (choice-stuck _ _ _ _ _ _ (visit _ _ _ _ (c .before .before .before .before .before .before .before .before .before .before .before .before .before .pre .1 .1) _ _ (sym (c .before .before .before .before .before .before .before .before .before .before .read .ensures) ∙ c .before .before .before .before .before .before .before .before .r .given .1) (c .before .before .before .before .before .before .before .before .before .before .before .before .before .pre .1 .2) choice (form-choice _ (c .before .before .before .before .before .before .match2 .keys6))) _ _ (sym (c .enum-told2 .given .1) ∙ c .before .before .eval .ensures)))
+run-returns-11 t c =
+    let at8 = c .before .before .before .before .before .before .before .before in
+    let match2 = c .before .before .before .before .before .before .match2 in
+    let r = at8 .r in
+    let read-here = at8 .before .before .read in
+    let if1 = at8 .before .before .before .if1 in
+    let pre = at8 .before .before .before .before .before .pre in
+    let r-is = sym (read-here .ensures) ∙ r .given .1 in
+    let visit-here = visit _ _ _ _ (pre .1 .1) _ _ r-is (pre .1 .2) choice (form-choice _ (match2 .keys6)) in
+    let enum-told2-is = sym (c .enum-told2 .given .1) ∙ c .before .before .eval .ensures in
+    (pre .1 .1 .locals .sixteen, step-back _ _ _ _ _ _ _ (if1 .left) (choice-stuck _ _ _ _ _ _ visit-here _ _ enum-told2-is))
 
 run-same-length-9 : (t : ℕ) → run-lts.Need-same-length-9 (run-claims t) (run-at t) run.Post
 run-same-length-9 t c = search needs
@@ -438,19 +732,56 @@ run-same-length-10 : (t : ℕ) → run-lts.Need-same-length-10 (run-claims t) (r
 run-same-length-10 t c = search needs
 
 run-returns-13 : (t : ℕ) → run-lts.Need-returns-13 (run-claims t) (run-at t) run.Post
-run-returns-13 t c = (c .before .run4 .ensures .0, step-back _ _ _ _ _ _ _ (c .before .before .before .before .before .before .before .before .before .before .before .before .before .before .before .before .before .before .if1 .left) (c .before .run4 .ensures .1 ∙ first-done _ _ _ _ _ _ (visit _ _ _ _ (c .before .before .before .before .before .before .before .before .before .before .before .before .before .before .before .before .before .before .before .before .pre .1 .1) _ _ (sym (c .before .before .before .before .before .before .before .before .before .before .before .before .before .before .before .before .before .read .ensures) ∙ c .before .before .before .before .before .before .before .before .before .before .before .before .before .before .before .r .given .1) (c .before .before .before .before .before .before .before .before .before .before .before .before .before .before .before .before .before .before .before .before .pre .1 .2) sequence (form-sequence _ (c .before .before .before .before .before .before .before .before .before .before .before .before .before .match2 .keys8))) _ _ _ _ _ (with-ran (c .before .before .before .before .before .before .o .given .1) (c .before .before .before .before .before .before .before .before .before .run3 .ensures .1))))
+run-returns-13 t c =
+    let at8 = c .before .before .before .before .before .before .before .before in
+    let at16 = at8 .before .before .before .before .before .before .before .before in
+    let o = c .before .before .before .before .before .before .o in
+    let run3 = at8 .before .run3 in
+    let match2 = at8 .before .before .before .before .before .match2 in
+    let r = at8 .before .before .before .before .before .before .before .r in
+    let read-here = at16 .before .read in
+    let if1 = at16 .before .before .if1 in
+    let pre = at16 .before .before .before .before .pre in
+    let r-is = sym (read-here .ensures) ∙ r .given .1 in
+    let visit-here = visit _ _ _ _ (pre .1 .1) _ _ r-is (pre .1 .2) sequence (form-sequence _ (match2 .keys8)) in (
+      c .before .run4 .ensures .0,
+      step-back _ _ _ _ _ _ _ (if1 .left)
+          (c .before .run4 .ensures .1 ∙ first-done _ _ _ _ _ _ visit-here _ _ _ _ _ (with-ran (o .given .1) (run3 .ensures .1))),
+    )
 
 run-same-length-11 : (t : ℕ) → run-lts.Need-same-length-11 (run-claims t) (run-at t) run.Post
 run-same-length-11 t c = search needs
 
 run-returns-14 : (t : ℕ) → run-lts.Need-returns-14 (run-claims t) (run-at t) run.Post
-run-returns-14 t c = (c .before .before .before .before .run3 .ensures .0, step-back _ _ _ _ _ _ _ (c .before .before .before .before .before .before .before .before .before .before .before .before .before .if1 .left) (first-refused _ _ _ _ _ _ (visit _ _ _ _ (c .before .before .before .before .before .before .before .before .before .before .before .before .before .before .before .pre .1 .1) _ _ (sym (c .before .before .before .before .before .before .before .before .before .before .before .before .read .ensures) ∙ c .before .before .before .before .before .before .before .before .before .before .r .given .1) (c .before .before .before .before .before .before .before .before .before .before .before .before .before .before .before .pre .1 .2) sequence (form-sequence _ (c .before .before .before .before .before .before .before .before .match2 .keys8))) _ _ _ _ _ _ (with-ran (c .before .o2 .given .1) (c .before .before .before .before .run3 .ensures .1))))
+run-returns-14 t c =
+    let at8 = c .before .before .before .before .before .before .before .before in
+    let run3 = c .before .before .before .before .run3 in
+    let match2 = at8 .match2 in
+    let r = at8 .before .before .r in
+    let read-here = at8 .before .before .before .before .read in
+    let if1 = at8 .before .before .before .before .before .if1 in
+    let pre = at8 .before .before .before .before .before .before .before .pre in
+    let r-is = sym (read-here .ensures) ∙ r .given .1 in
+    let visit-here = visit _ _ _ _ (pre .1 .1) _ _ r-is (pre .1 .2) sequence (form-sequence _ (match2 .keys8)) in
+    let first-refused-here = first-refused _ _ _ _ _ _ visit-here _ _ _ _ _ _ (with-ran (c .before .o2 .given .1) (run3 .ensures .1)) in
+    (run3 .ensures .0, step-back _ _ _ _ _ _ _ (if1 .left) first-refused-here)
 
 run-same-length-12 : (t : ℕ) → run-lts.Need-same-length-12 (run-claims t) (run-at t) run.Post
 run-same-length-12 t c = search needs
 
 run-returns-15 : (t : ℕ) → run-lts.Need-returns-15 (run-claims t) (run-at t) run.Post
-run-returns-15 t c = (c .before .before .before .run3 .ensures .0, step-back _ _ _ _ _ _ _ (c .before .before .before .before .before .before .before .before .before .before .before .before .if1 .left) (first-stuck _ _ _ _ _ _ (visit _ _ _ _ (c .before .before .before .before .before .before .before .before .before .before .before .before .before .before .pre .1 .1) _ _ (sym (c .before .before .before .before .before .before .before .before .before .before .before .read .ensures) ∙ c .before .before .before .before .before .before .before .before .before .r .given .1) (c .before .before .before .before .before .before .before .before .before .before .before .before .before .before .pre .1 .2) sequence (form-sequence _ (c .before .before .before .before .before .before .before .match2 .keys8))) _ _ _ _ (with-ran (c .enum-told3 .given .1) (c .before .before .before .run3 .ensures .1))))
+run-returns-15 t c =
+    let at8 = c .before .before .before .before .before .before .before .before in
+    let run3 = c .before .before .before .run3 in
+    let match2 = c .before .before .before .before .before .before .before .match2 in
+    let r = at8 .before .r in
+    let read-here = at8 .before .before .before .read in
+    let if1 = at8 .before .before .before .before .if1 in
+    let pre = at8 .before .before .before .before .before .before .pre in
+    let r-is = sym (read-here .ensures) ∙ r .given .1 in
+    let visit-here = visit _ _ _ _ (pre .1 .1) _ _ r-is (pre .1 .2) sequence (form-sequence _ (match2 .keys8)) in
+    let first-stuck-here = first-stuck _ _ _ _ _ _ visit-here _ _ _ _ (with-ran (c .enum-told3 .given .1) (run3 .ensures .1)) in
+    (run3 .ensures .0, step-back _ _ _ _ _ _ _ (if1 .left) first-stuck-here)
 
 run-same-length-13 : (t : ℕ) → run-lts.Need-same-length-13 (run-claims t) (run-at t) run.Post
 run-same-length-13 t c = search needs
@@ -468,13 +799,38 @@ run-same-length-15 : (t : ℕ) → run-lts.Need-same-length-15 (run-claims t) (r
 run-same-length-15 t c = search needs
 
 run-returns-18 : (t : ℕ) → run-lts.Need-returns-18 (run-claims t) (run-at t) run.Post
-run-returns-18 t c = (c .before .before .before .before .before .before .before .before .before .before .before .before .before .pre .1 .1 .locals .sixteen, step-back _ _ _ _ _ _ _ (c .before .before .before .before .before .before .before .before .before .before .before .if1 .left) (c .before .clock .ensures _ _ _ (c .before .before .before .before .before .before .before .before .before .before .before .before .before .args .depth) (visit _ _ _ _ (c .before .before .before .before .before .before .before .before .before .before .before .before .before .pre .1 .1) _ _ (sym (c .before .before .before .before .before .before .before .before .before .before .read .ensures) ∙ c .before .before .before .before .before .before .before .before .r .given .1) (c .before .before .before .before .before .before .before .before .before .before .before .before .before .pre .1 .2) clockAct (form-clockAct _ (c .before .before .before .before .if4 .left) (below-next (c .before .before .before .if5 .taken))))))
+run-returns-18 t c =
+    let at8 = c .before .before .before .before .before .before .before .before in
+    let if5 = c .before .before .before .if5 in
+    let if4 = c .before .before .before .before .if4 in
+    let r = at8 .r in
+    let read-here = at8 .before .before .read in
+    let if1 = at8 .before .before .before .if1 in
+    let args = at8 .before .before .before .before .before .args in
+    let pre = at8 .before .before .before .before .before .pre in
+    let r-is = sym (read-here .ensures) ∙ r .given .1 in
+    let visit-here = visit _ _ _ _ (pre .1 .1) _ _ r-is (pre .1 .2) clockAct (form-clockAct _ (if4 .left) (below-next (if5 .taken))) in
+    (pre .1 .1 .locals .sixteen, step-back _ _ _ _ _ _ _ (if1 .left) (c .before .clock .ensures _ _ _ (args .depth) visit-here))
 
 run-returns-19 : (t : ℕ) → run-lts.Need-returns-19 (run-claims t) (run-at t) run.Post
 run-returns-19 t c = (c .before .before .before .before .before .before .before .before .pre .1 .1 .locals .sixteen, step-back _ _ _ _ _ _ _ (c .before .before .before .before .before .before .if1 .left) (other-stuck _ _ _ _ (c .before .before .before .before .before .before .before .before .pre .1 .1) _ _ (sym (c .before .before .before .before .before .read .ensures) ∙ c .before .before .before .r .given .1) _ _ (λ p q. let a = c .if3 .taken in omega arith)))
 
 run-returns-20 : (t : ℕ) → run-lts.Need-returns-20 (run-claims t) (run-at t) run.Post
-run-returns-20 t c = (c .before .before .before .before .before .before .before .before .before .before .pre .1 .1 .locals .sixteen, step-back _ _ _ _ _ _ _ (c .before .before .before .before .before .before .before .before .if1 .left) (other-stuck _ _ _ _ (c .before .before .before .before .before .before .before .before .before .before .pre .1 .1) _ _ (sym (c .before .before .before .before .before .before .before .read .ensures) ∙ c .before .before .before .before .before .r .given .1) _ _ (λ p q. let a = past-four (c .if5 .left) (c .before .before .before .match2 .rest .0 .0 .0 .0 .1) (c .before .before .before .match2 .rest .0 .0 .0 .1) (c .before .before .before .match2 .rest .0 .0 .1) (c .before .before .before .match2 .rest .0 .1) in let f = c .before .before .before .match2 .rest .1 in omega arith)))
+run-returns-20 t c =
+    let match2 = c .before .before .before .match2 in
+    let r = c .before .before .before .before .before .r in
+    let read-here = c .before .before .before .before .before .before .before .read in
+    let if1 = c .before .before .before .before .before .before .before .before .if1 in
+    let pre = c .before .before .before .before .before .before .before .before .before .before .pre in
+    let r-is = sym (read-here .ensures) ∙ r .given .1 in (
+      pre .1 .1 .locals .sixteen,
+      step-back _ _ _ _ _ _ _ (if1 .left)
+          (other-stuck _ _ _ _ (pre .1 .1) _ _ r-is _ _
+          (λ p q.
+          let a = past-four (c .if5 .left) (match2 .rest .0 .0 .0 .0 .1) (match2 .rest .0 .0 .0 .1) (match2 .rest .0 .0 .1) (match2 .rest .0 .1) in
+          let f = match2 .rest .1 in
+          omega arith)),
+    )
 
 pub +call+enter+repeat+run-spec : {M : Type 1} → statement M
 +call+enter+repeat+run-spec =

@@ -25,7 +25,23 @@ same-length : tie.Need-same-length
 same-length c = search needs
 
 returns : tie.Need-returns
-returns c = let d = c .before .before .before .before .before .before .before .args .d .now in rw (back (c .before .before .before .before .before .before .before .fits .running), back (c .before .before .before .before .before .before .before .fits .value), back (c .before .before .before .before .before .before .before .fits .period), back (c .before .before .before .before .before .before .before .fits .name), given (getD d 0 (pos 0)) (c .before .before .before .before .before .put-words-arg2 .given), given (getD d 1 (pos 0)) (c .before .before .before .before .put-words-arg3 .given), given (getD d 2 (pos 0)) (c .before .before .before .put-words-arg4 .given), given (getD d 3 (pos 0)) (c .before .before .put-words-arg5 .given)) at (c .before .put-words .ensures)
+returns c =
+    let put-words-arg4 = c .before .before .before .put-words-arg4 in
+    let put-words-arg3 = c .before .before .before .before .put-words-arg3 in
+    let put-words-arg2 = c .before .before .before .before .before .put-words-arg2 in
+    let args = c .before .before .before .before .before .before .before .args in
+    let fits = c .before .before .before .before .before .before .before .fits in
+    let d = args .d .now in
+    rw (
+      back (fits .running),
+      back (fits .value),
+      back (fits .period),
+      back (fits .name),
+      given (getD d 0 (pos 0)) (put-words-arg2 .given),
+      given (getD d 1 (pos 0)) (put-words-arg3 .given),
+      given (getD d 2 (pos 0)) (put-words-arg4 .given),
+      given (getD d 3 (pos 0)) (c .before .before .put-words-arg5 .given),
+    ) at (c .before .put-words .ensures)
 
 pub put-clock-spec : {M : Type 1} → statement M
 put-clock-spec =

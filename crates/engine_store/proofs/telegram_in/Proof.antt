@@ -78,7 +78,25 @@ shared-slice-copy-out-t33 c = search needs
 
 returns : tie.Need-returns
 unfolding telegramIn wordOf
-returns c = let st = c .before .before .before .before .before .before .before .before .args .st .now in let at = c .before .before .before .before .before .before .before .before .args .at in λ i. record { sender = given (getD st at (pos 0)) (c .before .before .before .before .before .before .before .t5 .given) i; receiver = given (getD st (at + 1) (pos 0)) (c .before .before .before .before .before .before .t9 .given) i; port = given (getD st (at + 2) (pos 0)) (c .before .before .before .before .before .t13 .given) i; name = given (getD st (at + 3) (pos 0)) (c .before .before .before .before .t17 .given) i; d0 = given (getD st (at + 4) (pos 0)) (c .before .before .before .t21 .given) i; d1 = given (getD st (at + 5) (pos 0)) (c .before .before .t25 .given) i; d2 = given (getD st (at + 6) (pos 0)) (c .before .t29 .given) i; d3 = given (getD st (at + 7) (pos 0)) (c .t33 .given) i }
+returns c =
+    let t21 = c .before .before .before .t21 in
+    let t17 = c .before .before .before .before .t17 in
+    let t13 = c .before .before .before .before .before .t13 in
+    let t9 = c .before .before .before .before .before .before .t9 in
+    let t5 = c .before .before .before .before .before .before .before .t5 in
+    let args = c .before .before .before .before .before .before .before .before .args in
+    let st = args .st .now in
+    let at = args .at in
+    λ i. record {
+      sender = given (getD st at (pos 0)) (t5 .given) i;
+      receiver = given (getD st (at + 1) (pos 0)) (t9 .given) i;
+      port = given (getD st (at + 2) (pos 0)) (t13 .given) i;
+      name = given (getD st (at + 3) (pos 0)) (t17 .given) i;
+      d0 = given (getD st (at + 4) (pos 0)) (t21 .given) i;
+      d1 = given (getD st (at + 5) (pos 0)) (c .before .before .t25 .given) i;
+      d2 = given (getD st (at + 6) (pos 0)) (c .before .t29 .given) i;
+      d3 = given (getD st (at + 7) (pos 0)) (c .t33 .given) i;
+    }
 
 pub telegram-in-spec : {M : Type 1} → statement M
 telegram-in-spec =

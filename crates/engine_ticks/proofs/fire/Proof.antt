@@ -70,13 +70,39 @@ same-length c = search needs
 
 returns : tie.Need-returns
 unfolding wordOf
-returns c = λ s w.
-    let st : List ℤ = c .before .before .before .before .before .before .before .before .args .st .now in
-    let at = c .before .before .before .before .before .before .before .before .args .at in
-    let e = c .before .before .before .before .before .before .before .before .args .e in
-    let l = c .before .before .before .before .before .before .before .before .pre .1 in
-    ap (λ (z : ℤ). appended s st (record { sender = pos e; receiver = pos e; port = negsuc 0; name = z; d0 = getD st (at + 4) (pos 0); d1 = getD st (at + 5) (pos 0); d2 = getD st (at + 6) (pos 0); d3 = getD st (at + 7) (pos 0) })) (sym (number-back (getD st (at + 3) (pos 0)) (c .before .before .before .before .before .before .before .before .pre .0 .name)))
-    ∙ (rw (given (pos e) (omega arith), given (getD st (at + 3) (pos 0)) (c .before .before .before .before .before .before .before .t10 .given), given (getD st (at + 4) (pos 0)) (c .before .before .before .before .before .before .t14 .given), given (getD st (at + 5) (pos 0)) (c .before .before .before .before .before .t18 .given), given (getD st (at + 6) (pos 0)) (c .before .before .before .before .t22 .given), given (getD st (at + 7) (pos 0)) (c .before .before .before .t26 .given)) at (c .before .append .ensures .0 s w))
+returns c =
+    let t26 = c .before .before .before .t26 in
+    let t22 = c .before .before .before .before .t22 in
+    let t18 = c .before .before .before .before .before .t18 in
+    let t14 = c .before .before .before .before .before .before .t14 in
+    let t10 = c .before .before .before .before .before .before .before .t10 in
+    let args = c .before .before .before .before .before .before .before .before .args in
+    let pre = c .before .before .before .before .before .before .before .before .pre in
+    λ s w.
+    let st : List ℤ = args .st .now in
+    let at = args .at in
+    let e = args .e in
+    let l = pre .1 in
+    ap (λ (z : ℤ). appended s st
+    (record {
+      sender = pos e;
+      receiver = pos e;
+      port = negsuc 0;
+      name = z;
+      d0 = getD st (at + 4) (pos 0);
+      d1 = getD st (at + 5) (pos 0);
+      d2 = getD st (at + 6) (pos 0);
+      d3 = getD st (at + 7) (pos 0);
+    }))
+    (sym (number-back (getD st (at + 3) (pos 0)) (pre .0 .name)))
+    ∙ (rw (
+      given (pos e) (omega arith),
+      given (getD st (at + 3) (pos 0)) (t10 .given),
+      given (getD st (at + 4) (pos 0)) (t14 .given),
+      given (getD st (at + 5) (pos 0)) (t18 .given),
+      given (getD st (at + 6) (pos 0)) (t22 .given),
+      given (getD st (at + 7) (pos 0)) (t26 .given),
+    ) at (c .before .append .ensures .0 s w))
 
 pub fire-spec : {M : Type 1} → statement M
 fire-spec =

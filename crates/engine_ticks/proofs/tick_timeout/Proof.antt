@@ -59,7 +59,15 @@ same-length-3 c = search needs
 
 returns-3 : tie.Need-returns-3
 unfolding changedTo wordOf
-returns-3 c = λ s e n. timeout-fires s _ _ _ n (bits-same {z = getD (c .before .before .before .before .before .before .before .before .before .args .st .now) (c .before .before .before .before .before .before .before .before .before .args .at + 1) (pos 0)} {w = pos 1} (record { sfits = c .before .before .before .before .before .before .before .before .value .given }) (record { sfits = omega arith }) (c .before .before .before .before .before .before .before .if1 .left)) ∙ then-done _ _ _ _ (c .before .before .before .before .before .fire .ensures s e) (c .before .before .before .if2 .left) ∙ ap on (sym (c .before .set-clock .ensures))
+returns-3 c =
+    let if2 = c .before .before .before .if2 in
+    let fire = c .before .before .before .before .before .fire in
+    let if1 = c .before .before .before .before .before .before .before .if1 in
+    let value = c .before .before .before .before .before .before .before .before .value in
+    let args = c .before .before .before .before .before .before .before .before .before .args in
+    let bits-same-here = bits-same {z = getD (args .st .now) (args .at + 1) (pos 0)} {w = pos 1} (record { sfits = value .given })
+    (record { sfits = omega arith }) (if1 .left) in
+    λ s e n. timeout-fires s _ _ _ n bits-same-here ∙ then-done _ _ _ _ (fire .ensures s e) (if2 .left) ∙ ap on (sym (c .before .set-clock .ensures))
 
 pub tick-timeout-spec : {M : Type 1} → statement M
 tick-timeout-spec =

@@ -83,7 +83,12 @@ loop-less : tie.Need-loop-less Inv-loop μ-loop
 loop-less c = search needs
 
 loop-again : tie.Need-loop-again Inv-loop μ-loop
-loop-again c = (omega arith, one-more _ _ _ (c .before .before .before .before .before .loop .inv .1) _ _ (c .before .before .before .number-at .ensures .0) (c .before .before .number-at2 .ensures .0) (c .before .if3 .left) (c .if4 .left) (c .before .before .before .before .before .loop .inv .2) .0, one-more _ _ _ (c .before .before .before .before .before .loop .inv .1) _ _ (c .before .before .before .number-at .ensures .0) (c .before .before .number-at2 .ensures .0) (c .before .if3 .left) (c .if4 .left) (c .before .before .before .before .before .loop .inv .2) .1)
+loop-again c =
+    let number-at2 = c .before .before .number-at2 in
+    let number-at = c .before .before .before .number-at in
+    let loop = c .before .before .before .before .before .loop in
+    let one-more-here = one-more _ _ _ (loop .inv .1) _ _ (number-at .ensures .0) (number-at2 .ensures .0) (c .before .if3 .left) (c .if4 .left) (loop .inv .2) in
+    (omega arith, one-more-here .0, one-more-here .1)
 
 returns-5 : tie.Need-returns-5 Inv-loop μ-loop
 returns-5 c = ended _ _ _ (c .before .loop .inv .1) (omega arith) (omega arith) (c .before .loop .inv .2)

@@ -112,7 +112,14 @@ returns-9 c = (of-form _ _ _ binary _ (form-binary _ (beyond (c .before .if1 .le
 
 returns-10 : tie.Need-returns-10
 unfolding operandsIn
-returns-10 c = (of-name _ _ _ arm 2 1 _ (form-arm _ (beyond (beyond (beyond (c .before .before .before .if3 .left) (c .before .before .before .before .before .before .match .rest .0 .0 .0 .0 .0 .1)) (c .before .before .before .before .before .before .match .rest .0 .0 .0 .0 .1)) (c .before .before .before .before .before .before .match .rest .0 .0 .0 .1)) (below-is _ _ (c .before .before .if4 .taken))) refl (c .field-at3 .ensures .0), record { first = omega arith; count = omega arith; tail = c .field-at3 .ensures .1 })
+returns-10 c =
+    let if3 = c .before .before .before .if3 in
+    let match = c .before .before .before .before .before .before .match in
+    let beyond-here = beyond (beyond (beyond (if3 .left) (match .rest .0 .0 .0 .0 .0 .1)) (match .rest .0 .0 .0 .0 .1)) (match .rest .0 .0 .0 .1) in
+    let form-arm-here = form-arm _ beyond-here (below-is _ _ (c .before .before .if4 .taken)) in (
+      of-name _ _ _ arm 2 1 _ form-arm-here refl (c .field-at3 .ensures .0),
+      record { first = omega arith; count = omega arith; tail = c .field-at3 .ensures .1 },
+    )
 
 returns-11 : tie.Need-returns-11
 returns-11 c = (two-42-43 _ _ _ (beyond (beyond (c .before .if5 .left) (c .before .before .before .before .before .before .match .rest .0 .0 .1)) (c .before .before .before .before .before .before .match .rest .0 .1)) (below-is _ _ (c .if6 .taken)), record { first = omega arith; count = omega arith; tail = omega arith })
