@@ -162,6 +162,9 @@ module _ (s : List ℕ) (ok : checkOf s ≡ Passed) where
   pub two-ports : 2 ≤ portsOf s
   two-ports = head-numbers (head-there .0) (head-there .1) (head-there .2) .3
 
+  pub ports-limit : portsOf s ≤ 64
+  ports-limit = head-numbers (head-there .0) (head-there .1) (head-there .2) .4
+
   -- ---- declarations: every type that is declared exists; a declaration that isn't there counts as Bool, which exists too
 
   pub declared-exists : (d : ℕ) → typeExists s (typeAt s d) ≡ true

@@ -137,7 +137,7 @@ module _ (s : List ℕ) (e t : ℕ) (st : List ℤ) (at : ℕ) where
     unfolding runningClock
     timer-runs q = and-first _ _ (and-second _ _ (and-second _ _ (rw (runningClock, q) at h)))
 
-    timer-zeros : eqb t Timer-type ≡ true → zeroWords st at 2 ≡ true
+    pub timer-zeros : eqb t Timer-type ≡ true → zeroWords st at 2 ≡ true
     unfolding runningClock
     timer-zeros q = and-second _ _ (and-second _ _ (and-second _ _ (rw (runningClock, q) at h)))
 
@@ -149,7 +149,7 @@ module _ (s : List ℕ) (e t : ℕ) (st : List ℤ) (at : ℕ) where
     unfolding runningClock
     cycler-runs n q = and-first _ _ (and-second _ _ (and-second _ _ (rw (runningClock, n, q) at h)))
 
-    clock-name : eqb t Timer-type ≡ false → nameFits s internal (wordOf st (at + 3)) (λ j. wordOf st (at + 4 + j)) ≡ true
+    pub clock-name : eqb t Timer-type ≡ false → nameFits s internal (wordOf st (at + 3)) (λ j. wordOf st (at + 4 + j)) ≡ true
     unfolding runningClock
     clock-name n = and-first _ _ (and-second _ _ (and-second _ _ (and-second _ _ (rw (runningClock, n) at h))))
 

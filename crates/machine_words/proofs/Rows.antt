@@ -17,10 +17,10 @@ use Rattle.machine.specs.declared.Telegram.{Telegram}
 use Rattle.machine.specs.Values.{fits32, isBelow, isZero, inType}
 use Rattle.machine.specs.State.{wordOf, telegramIn, isInternal}
 use Rattle.machine.specs.Valid.{nameFits, zeroWords, runningClock, clockCell, cellFits, datumOf, internalFits, externalFits, telegramFits}
-use Rattle.machine_passed.proofs.Records.{components-limit}
+use Rattle.machine_passed.proofs.Records.{components-limit, ports-limit}
 use Rattle.machine_states.proofs.Parts.{same-word}
-use Rattle.machine_states.proofs.Clocks.{value-int, period-int}
-use Rattle.machine_words.proofs.Values.{below-word, zero-word, ports-limit, value-word, name-words}
+use Rattle.machine_states.proofs.Clocks.{value-int, period-int, timer-zeros, clock-name}
+use Rattle.machine_words.proofs.Values.{below-word, zero-word, value-word, name-words}
 
 -- the eight words from `at` on
 abbrev pub Row : List ℤ → ℕ → Type 0
@@ -60,12 +60,11 @@ module _ (s : List ℕ) (ok : checkOf s ≡ Passed) where
     module _ (e t : ℕ) where
       -- a Timer has zeros behind its value, another clock its period, name and data
       clock-rest : runningClock s e t st at ≡ true → RowFrom st at 3
-      unfolding runningClock
       clock-rest h k l m = go (eqb t Timer-type) refl
         where
           go : (b : Bool) → eqb t Timer-type ≡ b → fits32 (wordOf st (at + k)) ≡ true
-          go true q = zero-row st at 2 (and-second _ _ (and-second _ _ (and-second _ _ (rw (runningClock, q) at h)))) k (omega arith) m
-          go false q = named-row internal (and-first _ _ (and-second _ _ (and-second _ _ (and-second _ _ (rw (runningClock, q) at h))))) k l m
+          go true q = zero-row st at 2 (timer-zeros s e t st at h q) k (omega arith) m
+          go false q = named-row internal (clock-name s e t st at h q) k l m
 
       clock-row : runningClock s e t st at ≡ true → RowFrom st at 1
       clock-row h zero l m = absurd (omega arith)

@@ -10,20 +10,19 @@ use borrow.Author.Tests.{ltb-true, leb-true, eqb-true, lt-ltb}
 use Rattle.sheet.specs.declared.Range.{Range}
 use Rattle.sheet.specs.declared.Found.{Found}
 use Rattle.sheet.specs.declared.Found.the-variants.{Present, Absent}
-use Rattle.sheet.specs.Names.{enumeratedTypes, names, ports, size}
+use Rattle.sheet.specs.Names.{enumeratedTypes, names, size}
 use Rattle.sheet.specs.Sheet.{countOf, recordOf}
 use Rattle.sheet.proofs.All.{and-first, and-second, all-at}
 use Rattle.sheet.proofs.Sheet.{count-limit}
 use Rattle.sheet_rules.specs.declared.Checked.the-variants.{Passed}
 use Rattle.sheet_rules.specs.Fields.{numberOr0, declaredSo, componentsOf, portsOf, membersOf}
 use Rattle.sheet_rules.specs.DataTypes.{DataType, bool, int, component, port, enumeratedType, noData, dataTypeOf}
-use Rattle.sheet_rules.specs.Shape.{headShape, enumeratedShape}
+use Rattle.sheet_rules.specs.Shape.{enumeratedShape}
 use Rattle.sheet_rules.specs.Types.{nameRange}
 use Rattle.sheet_rules.specs.Check.{checkOf}
-use Rattle.sheet_rules.proofs.Fields.{number-present}
 use Rattle.machine.specs.Values.{fits32, isBelow, isZero, inDataType, inType}
 use Rattle.machine.specs.Valid.{dataFit, nameFits}
-use Rattle.machine_passed.proofs.Records.{type-shape, head-there, components-limit}
+use Rattle.machine_passed.proofs.Records.{type-shape, components-limit, ports-limit}
 use Rattle.machine_passed.proofs.Declared.{declared-true}
 
 pub below-word : (z : ℤ) (n : ℕ) → n ≤ 4095 → isBelow z n ≡ true → fits32 z ≡ true
@@ -37,13 +36,6 @@ zero-word (pos k) h = lt-ltb k 2147483648 (omega (arith, eqb-true k 0 h))
 zero-word (negsuc k) h = absurd (true≢false (sym h))
 
 module _ (s : List ℕ) (ok : checkOf s ≡ Passed) where
-  pub ports-limit : portsOf s ≤ 64
-  unfolding headShape portsOf
-  ports-limit =
-      let h = head-there s ok in
-      let most : ports (h .0) ≤ 64 = leb-true _ _ (and-first _ _ (and-second _ _ (and-second _ _ (and-second _ _ (and-second _ _ (h .2)))))) in
-      omega (arith, number-present _ (h .0) ports (h .1))
-
   members-limit : (k : ℕ) → membersOf s k ≤ 256
   unfolding membersOf numberOr0 enumeratedShape
   members-limit k = go (recordOf s enumeratedTypes k) refl
@@ -58,7 +50,7 @@ module _ (s : List ℕ) (ok : checkOf s ≡ Passed) where
   data-word bool z h = below-word z 2 (omega arith) h
   data-word int z h = h
   data-word component z h = below-word z (componentsOf s) (omega (arith, components-limit s ok)) h
-  data-word port z h = below-word z (portsOf s) (omega (arith, ports-limit)) h
+  data-word port z h = below-word z (portsOf s) (omega (arith, ports-limit s ok)) h
   data-word (enumeratedType k) z h = below-word z (membersOf s k) (omega (arith, members-limit k)) h
   data-word noData z h = absurd (true≢false (sym h))
 

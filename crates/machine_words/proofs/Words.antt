@@ -1,5 +1,5 @@
 -- Every word of a state of a passed sheet fits 32 bits.
-use Prim.Native.Nat.{ℕ, zero, suc, _+_, _*_, _-_, _/_, _%_, _<_, _≤_}
+use Prim.Native.Nat.{ℕ, _+_, _*_, _-_, _/_, _%_, _<_, _≤_}
 use mathlib.Core.Path.{_≡_, refl, sym, ap, subst, _∙_}
 use mathlib.Core.List.{List}
 use mathlib.Core.Bool.{true}
@@ -15,6 +15,7 @@ use Rattle.sheet_rules.specs.Fields.{sumBelow, externalsOf, elementsOf}
 use Rattle.sheet_rules.specs.Indices.{cellsTaken, cellsBefore}
 use Rattle.sheet_rules.specs.Shape.{cellsBound, cellsOf}
 use Rattle.sheet_rules.specs.Check.{checkOf}
+use Rattle.sheet_rules.proofs.Sums.{sum-within}
 use Rattle.machine.specs.Values.{fits32, chartOf, firstCell}
 use Rattle.machine.specs.State.{places, cellAt, cellOf, placeAt, stateLength, wordOf, waiting, telegramOf}
 use Rattle.machine.specs.Valid.{OfSheet}
@@ -24,15 +25,6 @@ use Rattle.machine_states.proofs.Parts.{is-counted, head-zero, cell-of, telegra
 use Rattle.machine_words.specs.Words.{Words}
 use Rattle.machine_words.proofs.Values.{below-word}
 use Rattle.machine_words.proofs.Rows.{Row, zero-row, first-rest, cell-row, telegram-row}
-
--- the term of a sum that a lower number lies in, and how far in it
-sum-within : (f : ℕ → ℕ) (n i : ℕ) → i < sumBelow n f → (m : ℕ) × (k : ℕ) × (m < n) × (k < f m) × (sumBelow m f + k ≡ i)
-unfolding sumBelow
-sum-within f zero i l = absurd (omega arith)
-sum-within f (suc n) i l = elim (decLt i (sumBelow n f)) [
-  | yes q ↦ (let r = sum-within f n i q in (r .0, r .1, omega (arith, r .2), r .3, r .4))
-  | no q ↦ (n, i - sumBelow n f, omega arith, omega arith, omega arith)
-]
 
 -- the row of eight that a number lies in, from n on
 row-within : (n i : ℕ) → n ≤ i → (m : ℕ) × (k : ℕ) × (k < 8) × (n + 8 * m + k ≡ i)

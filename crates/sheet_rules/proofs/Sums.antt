@@ -123,3 +123,12 @@ count-closed (suc n) p q j l early late = elim (decLt j (suc n)) [
   | yes m ↦ omega (arith, count-closed n p q j (omega arith) early (λ k a b. late k a (omega arith)), ap oneIf (late n (omega arith) (omega arith)))
   | no m ↦ omega (arith, sum-same (suc n) (λ i. oneIf (q i)) (λ i. oneIf (p i)) (λ i k. ap oneIf (early i (omega arith))))
 ]
+
+-- the term of a sum that a lower number lies in, and how far in it
+pub sum-within : (f : ℕ → ℕ) (n i : ℕ) → i < sumBelow n f → (m : ℕ) × (k : ℕ) × (m < n) × (k < f m) × (sumBelow m f + k ≡ i)
+unfolding sumBelow
+sum-within f zero i l = absurd (omega arith)
+sum-within f (suc n) i l = elim (decLt i (sumBelow n f)) [
+  | yes q ↦ (let r = sum-within f n i q in (r .0, r .1, omega (arith, r .2), r .3, r .4))
+  | no q ↦ (n, i - sumBelow n f, omega arith, omega arith, omega arith)
+]

@@ -76,7 +76,7 @@ returns-7 c =
     (first-holds _ _ _ reaction-fits-is
     (first-holds _ _ _ in-section-is
     (first-holds _ _ _ (le-leb _ _ (if4 .left))
-    (first-holds _ _ _ in-section2-is (first-holds _ _ _ (le-leb _ _ (c .before .before .if6 .left)) (ap (ltb _) (c .count-in .ensures _ pre)))))))
+    (first-holds _ _ _ in-section2-is (first-holds _ _ _ (le-leb _ _ (c .before .before .if6 .left)) (ap (ltb _) (count-opened _ _ _ (c .count-in .ensures) _ pre)))))))
 
 pub body-fits-spec : {M : Type 1} → statement M
 body-fits-spec =

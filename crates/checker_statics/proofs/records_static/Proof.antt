@@ -58,7 +58,7 @@ returns-2 c =
     let count-in = at8 .before .before .before .count-in in
     let pre = at8 .before .before .before .before .before .pre in
     let r-is = sym (read .ensures) ∙ r .given .1 in (
-      loop-fails _ _ _ _ (count-in .ensures _ (pre .0)) (loop-test .taken)
+      loop-fails _ _ _ _ (count-opened _ _ _ (count-in .ensures) _ (pre .0)) (loop-test .taken)
           (holds-present _ _ _ r-is ∙ sym (c .before .record-static .ensures .0) ∙ not-true _ (c .if1 .taken)),
       c .before .record-static .ensures .1,
     )
