@@ -37,7 +37,12 @@ rest-zero-requires c κs = search needs
 
 returns-4 : tie.Need-returns-4
 unfolding wellFormed
-returns-4 c = first-holds _ _ _ (so (below-same _ _ _ _ (c .before .before .before .before .before .before .below-at .ensures) (c .before .before .before .before .before .before .before .components .ensures .0)) (c .before .before .before .before .before .if1 .left)) (first-holds _ _ _ (so (below-same _ _ _ _ (c .before .before .before .before .below-at2 .ensures) (c .before .before .before .before .before .before .before .components .ensures .0)) (c .before .before .before .if2 .left)) (first-holds _ _ _ (ap not (sym (c .before .before .both-external .ensures) ∙ c .before .if3 .left)) (c .rest-zero .ensures)))
+returns-4 c =
+    let first = c .before .before .before .before .before .before in
+    let count = first .before .components .ensures .0 in
+    first-holds _ _ _ (so (below-same _ _ _ _ (first .below-at .ensures) count) (c .before .before .before .before .before .if1 .left))
+    (first-holds _ _ _ (so (below-same _ _ _ _ (c .before .before .before .before .below-at2 .ensures) count) (c .before .before .before .if2 .left))
+    (first-holds _ _ _ (ap not (sym (c .before .before .both-external .ensures) ∙ c .before .if3 .left)) (c .rest-zero .ensures)))
 
 pub deliver-formed-spec : {M : Type 1} → statement M
 deliver-formed-spec =

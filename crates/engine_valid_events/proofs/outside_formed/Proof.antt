@@ -38,7 +38,11 @@ name-fits-requires c κs = search needs
 
 returns-4 : tie.Need-returns-4
 unfolding wellFormed
-returns-4 c = first-holds _ _ _ (so (below-same _ _ _ _ (c .before .before .before .before .before .before .before .below-at .ensures) (c .before .before .before .before .before .before .before .before .externals .ensures .0)) (c .before .before .before .before .before .before .if1 .left)) (first-holds _ _ _ (so (c .before .before .before .before .before .bound-word .ensures) (c .before .before .before .before .if2 .left)) (first-holds _ _ _ (so (below-same _ _ _ _ (c .before .before .below-at2 .ensures) (c .before .before .before .ports .ensures .0)) (c .before .if3 .left)) (c .name-fits .ensures)))
+returns-4 c =
+    let first = c .before .before .before .before .before .before .before in
+    first-holds _ _ _ (so (below-same _ _ _ _ (first .below-at .ensures) (first .before .externals .ensures .0)) (c .before .before .before .before .before .before .if1 .left))
+    (first-holds _ _ _ (so (c .before .before .before .before .before .bound-word .ensures) (c .before .before .before .before .if2 .left))
+    (first-holds _ _ _ (so (below-same _ _ _ _ (c .before .before .below-at2 .ensures) (c .before .before .before .ports .ensures .0)) (c .before .if3 .left)) (c .name-fits .ensures)))
 
 pub outside-formed-spec : {M : Type 1} → statement M
 outside-formed-spec =
