@@ -68,7 +68,7 @@ fn on_passed(
     if result.len() != length {
         return answered(3, 0);
     }
-    if !engine_valid_state::content_fits(sheet, directory, old) {
+    if !engine_valid_state::content_fits(sheet, directory, &cells, old) {
         return answered(3, 0);
     }
     if engine_valid_events::is_event(sheet, directory, ev) {

@@ -1,8 +1,11 @@
 // The cell of a variable: a value and zeros, or a clock, stopped or running.
+use sheet::Record;
 ghost use mathlib.Core.Path.{_≡_};
-ghost use Prim.Native.Nat.{_+_, _≤_};
+ghost use Prim.Native.Nat.{ℕ, _+_, _≤_};
 ghost use lib.ListN.{length};
+ghost use Rattle.sheet.specs.declared.Found.the-variants.{Present};
 ghost use Rattle.sheet.specs.Sheet.{directoryOf};
+ghost use Rattle.machine.specs.Values.{chartOf};
 ghost use Rattle.machine.specs.Valid.{zeroWords, runningClock, clockCell, cellFits};
 ghost use Rattle.engine_valid_cells.specs.Parts.{valueFits};
 
@@ -45,13 +48,13 @@ fn value_fits(t: usize, value: i32, period: i32) -> bool
 fn running_clock(
     sheet: &[u8],
     directory: &[usize; 16],
-    e: usize,
+    c: Record,
     t: usize,
     st: &[i32],
     at: usize,
 ) -> bool
     requires { ⌜ (now directory ≡ directoryOf (now sheet)) × (at + 8 ≤ length (now st)) ⌝ }
-    ensures { λ b. ⌜ b ≡ runningClock (now (sheet .entry)) e t (now (st .entry)) at ⌝ }
+    ensures { λ b. ⌜ ((e : ℕ) → chartOf (now (sheet .entry)) e ≡ Present c → b ≡ runningClock (now (sheet .entry)) e t (now (st .entry)) at) ⌝ }
 {
     let value = engine_valid_words::word(st, at + 1);
     let period = engine_valid_words::word(st, at + 2);
@@ -67,10 +70,10 @@ fn running_clock(
     if !engine_valid_names::name_fits(sheet, directory, 1, st, at + 3) {
         return false;
     }
-    engine_valid_names::reaction_awaits(
+    engine_valid_names::has_reaction(
         sheet,
         directory,
-        e,
+        c,
         engine_valid_words::number_at(st, at + 3),
     )
 }
@@ -78,13 +81,13 @@ fn running_clock(
 fn clock_cell(
     sheet: &[u8],
     directory: &[usize; 16],
-    e: usize,
+    c: Record,
     t: usize,
     st: &[i32],
     at: usize,
 ) -> bool
     requires { ⌜ (now directory ≡ directoryOf (now sheet)) × (at + 8 ≤ length (now st)) ⌝ }
-    ensures { λ b. ⌜ b ≡ clockCell (now (sheet .entry)) e t (now (st .entry)) at ⌝ }
+    ensures { λ b. ⌜ ((e : ℕ) → chartOf (now (sheet .entry)) e ≡ Present c → b ≡ clockCell (now (sheet .entry)) e t (now (st .entry)) at) ⌝ }
 {
     if engine_valid_words::zero_at(st, at) {
         return zero_words(st, at, 1);
@@ -92,23 +95,23 @@ fn clock_cell(
     if !engine_valid_words::below_at(st, at, 2) {
         return false;
     }
-    running_clock(sheet, directory, e, t, st, at)
+    running_clock(sheet, directory, c, t, st, at)
 }
 
-// The cell at `at` of a variable of type t of element e.
+// The cell at `at` of a variable of type t of an element that is bound to chart c.
 pub fn cell_fits(
     sheet: &[u8],
     directory: &[usize; 16],
-    e: usize,
+    c: Record,
     t: usize,
     st: &[i32],
     at: usize,
 ) -> bool
     requires { ⌜ (now directory ≡ directoryOf (now sheet)) × (at + 8 ≤ length (now st)) ⌝ }
-    ensures { λ b. ⌜ b ≡ cellFits (now (sheet .entry)) e t (now (st .entry)) at ⌝ }
+    ensures { λ b. ⌜ ((e : ℕ) → chartOf (now (sheet .entry)) e ≡ Present c → b ≡ cellFits (now (sheet .entry)) e t (now (st .entry)) at) ⌝ }
 {
     if sheet_types::is_clock(t) {
-        return clock_cell(sheet, directory, e, t, st, at);
+        return clock_cell(sheet, directory, c, t, st, at);
     }
     if !engine_valid_values::value_at(sheet, directory, t, st, at) {
         return false;

@@ -13,7 +13,7 @@ use Rattle.sheet.specs.Names.{declarations, declaredType}
 use Rattle.sheet.specs.Sheet.{recordOf}
 use Rattle.sheet.specs.All.{_and_}
 use Rattle.sheet.proofs.All.{and-first}
-use Rattle.sheet_rules.specs.Fields.{holds, declaredSo}
+use Rattle.sheet_rules.specs.Fields.{declaredSo}
 use Rattle.sheet_rules.specs.Types.{hasClass, nameRange, hasReaction}
 use Rattle.machine.specs.Values.{isZero, inType, chartOf}
 use Rattle.machine.specs.Valid.{dataFit, nameFits, reactionAwaits}
@@ -52,7 +52,12 @@ name-from s k z d h = below-from z _ (and-first _ _ h)
 
 -- ---- reactions
 
--- the number that a word is
-pub awaits-same : (s : List ℕ) (e n : ℕ) (z : ℤ) → n ≡ natAbs z → reactionAwaits s e (pos n) ≡ reactionAwaits s e z
-unfolding reactionAwaits
-awaits-same s e n z p = ap (λ (m : ℕ). holds (chartOf s e) (λ c. hasReaction s c m)) p
+-- whether a reaction of element e awaits the name that a word is: the element's chart tells
+module _ (s : List ℕ) (e : ℕ) (z : ℤ) where
+  pub chart-awaits : (c : Record) (n : ℕ) (b : Bool) → chartOf s e ≡ Present c → n ≡ natAbs z → b ≡ hasReaction s c n → b ≡ reactionAwaits s e z
+  unfolding reactionAwaits
+  chart-awaits c n b p q h = h ∙ ap (hasReaction s c) q ∙ sym (holds-present (chartOf s e) c _ p)
+
+  pub nothing-awaits : chartOf s e ≡ Absent → false ≡ reactionAwaits s e z
+  unfolding reactionAwaits
+  nothing-awaits p = sym (holds-absent (chartOf s e) _ p)

@@ -1,16 +1,15 @@
-// Names with their data, and whether a reaction awaits them.
+// Names with their data, and whether a chart has a reaction to them.
 use sheet::Found;
 use sheet::Range;
 use sheet::Record;
 ghost use mathlib.Core.Path.{_≡_};
 ghost use Prim.Native.Nat.{_+_, _<_, _≤_};
 ghost use lib.ListN.{length};
-ghost use lib.IntN.{pos};
 ghost use Rattle.sheet.specs.Sheet.{directoryOf, recordOf};
 ghost use Rattle.sheet_rules.specs.Fields.{holds};
 ghost use Rattle.sheet_rules.specs.Types.{reactsTo, hasReaction};
 ghost use Rattle.machine.specs.State.{wordOf};
-ghost use Rattle.machine.specs.Valid.{dataFit, nameFits, reactionAwaits};
+ghost use Rattle.machine.specs.Valid.{dataFit, nameFits};
 ghost use Rattle.engine_valid_names.specs.Parts.{datumFits};
 
 // ---- data
@@ -87,7 +86,8 @@ fn reacts(sheet: &[u8], directory: &[usize; 16], i: usize, n: usize) -> bool
     b.f2 as usize == n
 }
 
-fn has_reaction(sheet: &[u8], directory: &[usize; 16], c: Record, n: usize) -> bool
+// Whether chart c has an internal reaction to name n.
+pub fn has_reaction(sheet: &[u8], directory: &[usize; 16], c: Record, n: usize) -> bool
     requires { ⌜ now directory ≡ directoryOf (now sheet) ⌝ }
     ensures { λ b. ⌜ b ≡ hasReaction (now (sheet .entry)) c n ⌝ }
 {
@@ -101,15 +101,4 @@ fn has_reaction(sheet: &[u8], directory: &[usize; 16], c: Record, n: usize) -> b
         j += 1;
     }
     false
-}
-
-// Whether the chart of element e has an internal reaction to name n.
-pub fn reaction_awaits(sheet: &[u8], directory: &[usize; 16], e: usize, n: usize) -> bool
-    requires { ⌜ now directory ≡ directoryOf (now sheet) ⌝ }
-    ensures { λ b. ⌜ b ≡ reactionAwaits (now (sheet .entry)) e (pos n) ⌝ }
-{
-    let Found::Present(c) = engine_valid_values::chart_of(sheet, directory, e) else {
-        return false;
-    };
-    has_reaction(sheet, directory, c, n)
 }

@@ -15,12 +15,13 @@ use Rattle.sheet.specs.Sheet.{recordOf}
 use Rattle.sheet.proofs.All.{and-first, and-second, all-at, all-same}
 use Rattle.sheet_rules.specs.Fields.{declaredSo, sumBelow, componentsOf, externalsOf, elementsOf}
 use Rattle.sheet_rules.specs.Indices.{indexOf, cellsBy, cellsTaken, cellsBefore}
-use Rattle.sheet_rules.specs.Shape.{cellsBound}
+use Rattle.sheet_rules.specs.Shape.{cellsBound, cellsOf}
 use Rattle.sheet_rules.proofs.Fields.{holds-present, holds-absent, sum-more}
 use Rattle.sheet_indices.proofs.Laws.{index-present}
-use Rattle.machine.specs.Values.{chartOf, firstCell}
+use Rattle.machine.specs.Values.{isBound, chartOf, firstCell}
 use Rattle.machine.specs.State.{cellAt, cellOf, placeAt, stateLength, wordOf, waiting, telegramIn, telegramOf}
 use Rattle.machine.specs.Valid.{zeroWords, cellFits, variableFits, elementFits, internalFits, telegramFits, headFits, cellsFit, waitingFit, unusedZero}
+use Rattle.machine_passed.proofs.Charts.{number-bound}
 use Rattle.machine_states.proofs.Parts.{below-abs, below-more, same-word}
 use Rattle.machine_states.proofs.Telegrams.{internal-part}
 use Rattle.machine_states.proofs.Elements.{element-count, element-cells, variable-cells}
@@ -38,20 +39,21 @@ module _ (s : List ℕ) (st : List ℤ) (e : ℕ) (c : Record) (p : chartOf s e 
   unfolding variableFits declaredSo
   variable-absent j r = holds-absent _ _ r
 
+module _ (s : List ℕ) (st : List ℤ) (c : Record) where
   -- variable j, whose cells are x from `cell` on
   module _ (j : ℕ) (d : Record) (r : recordOf s declarations (c .f2 + j) ≡ Present d) (x : ℕ) (taken : x ≡ cellsBy (indexOf s (declaredIndex d))) where
     pub variable-taken : x ≡ cellsTaken s (chartVariables c .first + j)
     unfolding cellsTaken
     variable-taken = taken ∙ sym (ap cellsBy (index-present s (c .f2 + j) d r))
 
-    module _ (first cell : ℕ) (q : first ≡ firstCell s e) (from : cell ≡ first + cellsBefore s c j) where
-      pub variable-here : (b : Bool) → b ≡ allBelow x (λ k. cellFits s e (declaredType d) st (cellAt (cell + k))) → b ≡ variableFits s st e c j
+    module _ (first cell : ℕ) (from : cell ≡ first + cellsBefore s c j) where
+      pub variable-here : (e : ℕ) → first ≡ firstCell s e → (b : Bool) → b ≡ allBelow x (λ k. cellFits s e (declaredType d) st (cellAt (cell + k))) → b ≡ variableFits s st e c j
       unfolding variableFits declaredSo cellOf
-      variable-here b h = let z : cell ≡ firstCell s e + cellsBefore s c j = omega arith in h ∙ rw (z, variable-taken) (sym (holds-present _ d _ r))
+      variable-here e q b h = let z : cell ≡ firstCell s e + cellsBefore s c j = omega arith in h ∙ rw (z, variable-taken) (sym (holds-present _ d _ r))
 
-      pub variable-inside : j < c .f3 → length st ≡ stateLength s → cellAt (cell + x) ≤ length st
+      pub variable-inside : j < c .f3 → first + cellsBefore s c (chartVariables c .count) ≤ cellsOf s → length st ≡ stateLength s → cellAt (cell + x) ≤ length st
       unfolding stateLength placeAt cellAt
-      variable-inside l h = omega (arith, element-cells s e c p, variable-cells s c j (c .f3) l, variable-taken)
+      variable-inside l m h = omega (arith, variable-cells s c j (c .f3) l, variable-taken)
 
 pub element-end : (s : List ℕ) (c : Record) (first cell j : ℕ) → j ≤ c .f3 → c .f3 ≤ j → cell ≡ first + cellsBefore s c j → cell ≡ first + cellsBefore s c (chartVariables c .count)
 element-end s c first cell j l m q = let e : j ≡ c .f3 = omega arith in q ∙ ap (λ (n : ℕ). first + cellsBefore s c n) e
@@ -63,18 +65,18 @@ module _ (s : List ℕ) (from i first : ℕ) (p : from ≡ externalsOf s) (q : f
   unfolding firstCell
   first-is = let e : from + i - externalsOf s ≡ i = omega arith in rw e q
 
-  pub first-next : (c : Record) (next : ℕ) → chartOf s (from + i) ≡ Present c → next ≡ first + cellsBefore s c (chartVariables c .count) → next ≡ sumBelow (i + 1) (cellsBound s)
-  first-next c next h n = let e : from + i - externalsOf s ≡ i = omega arith in let k : cellsBound s i ≡ cellsBefore s c (chartVariables c .count) = rw e at (element-count s (from + i) c h) in omega (arith, sum-more i (cellsBound s))
+  module _ (c : Record) (h : chartOf s (from + i) ≡ Present c) where
+    pub cells-inside : first + cellsBefore s c (chartVariables c .count) ≤ cellsOf s
+    cells-inside = omega (arith, first-is, element-cells s (from + i) c h)
 
--- element i is one of those from `from` to `to`
-pub element-of : (s : List ℕ) (from to i : ℕ) → from ≡ externalsOf s → to ≡ componentsOf s → from + i < to → i < elementsOf s
-unfolding elementsOf
-element-of s from to i p q l = omega arith
+    pub first-next : (next : ℕ) → next ≡ first + cellsBefore s c (chartVariables c .count) → next ≡ sumBelow (i + 1) (cellsBound s)
+    first-next next n =
+        let e : from + i - externalsOf s ≡ i = omega arith in
+        let k : cellsBound s i ≡ cellsBefore s c (chartVariables c .count) = rw e at (element-count s (from + i) c h) in
+        omega (arith, sum-more i (cellsBound s))
 
--- and i is their count
-pub elements-end : (s : List ℕ) (from to i : ℕ) → from ≡ externalsOf s → to ≡ componentsOf s → i ≤ to - from → to ≤ from + i → i ≡ elementsOf s
-unfolding elementsOf
-elements-end s from to i p q l m = omega arith
+pub element-in : (s : List ℕ) (from count i : ℕ) → from ≡ externalsOf s → count ≡ elementsOf s → i < count → isBound s (from + i) ≡ true
+element-in s from count i p q l = rw p (number-bound s i (rw q at l))
 
 pub cells-are : (s : List ℕ) (st : List ℤ) (from : ℕ) → from ≡ externalsOf s → allBelow (elementsOf s) (λ i. elementFits s st (from + i)) ≡ cellsFit s st
 unfolding cellsFit

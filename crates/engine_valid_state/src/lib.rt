@@ -11,12 +11,14 @@ ghost use Rattle.sheet.specs.declared.Found.the-variants.{Present};
 ghost use Rattle.sheet.specs.All.{allBelow};
 ghost use Rattle.sheet.specs.Names.{chartVariables};
 ghost use Rattle.sheet.specs.Sheet.{directoryOf};
-ghost use Rattle.sheet_rules.specs.Fields.{componentsOf};
+ghost use Rattle.sheet_rules.specs.declared.Checked.the-variants.{Passed};
 ghost use Rattle.sheet_rules.specs.Indices.{cellsBefore};
 ghost use Rattle.sheet_rules.specs.Shape.{cellsOf};
+ghost use Rattle.sheet_rules.specs.Check.{checkOf};
 ghost use Rattle.machine.specs.Values.{chartOf, firstCell};
 ghost use Rattle.machine.specs.State.{cellAt, stateLength, wordOf};
 ghost use Rattle.machine.specs.Valid.{cellFits, elementFits, headFits, cellsFit, waitingFit, unusedZero, contentFits};
+ghost use Rattle.engine_cells.specs.Cells.{CellTable};
 
 // How many words a state has. Elements have at most 512 cells together.
 pub fn state_length(cells: usize) -> usize
@@ -26,23 +28,23 @@ pub fn state_length(cells: usize) -> usize
     8 + 8 * cells + 1024
 }
 
-// The n cells of a variable of type t of element e, from a cell on.
+// The n cells, from a cell on, of a variable of type t of an element that is bound to chart c.
 fn variable_fits(
     sheet: &[u8],
     directory: &[usize; 16],
-    e: usize,
+    c: Record,
     t: usize,
     cell: usize,
     n: usize,
     st: &[i32],
 ) -> bool
     requires { ⌜ (now directory ≡ directoryOf (now sheet)) × (cellAt (cell + n) ≤ length (now st)) ⌝ }
-    ensures { λ b. ⌜ b ≡ allBelow n (λ k. cellFits (now (sheet .entry)) e t (now (st .entry)) (cellAt (cell + k))) ⌝ }
+    ensures { λ b. ⌜ ((e : ℕ) → chartOf (now (sheet .entry)) e ≡ Present c → b ≡ allBelow n (λ k. cellFits (now (sheet .entry)) e t (now (st .entry)) (cellAt (cell + k)))) ⌝ }
 {
     let mut k: usize = 0;
     while k < n {
         let at = 8 + 8 * (cell + k);
-        if !engine_valid_cells::cell_fits(sheet, directory, e, t, st, at) {
+        if !engine_valid_cells::cell_fits(sheet, directory, c, t, st, at) {
             return false;
         }
         k += 1;
@@ -56,17 +58,16 @@ struct Judged {
     behind: usize,
 }
 
-// The cells of element e, which is bound to chart c, from cell `first` on.
+// The cells, from cell `first` on, of an element that is bound to chart c. All of them are in the state.
 fn element_fits(
     sheet: &[u8],
     directory: &[usize; 16],
-    e: usize,
     c: Record,
     first: usize,
     st: &[i32],
 ) -> Judged
-    requires { ⌜ (now directory ≡ directoryOf (now sheet)) × (chartOf (now sheet) e ≡ Present c) × (first ≡ firstCell (now sheet) e) × (length (now st) ≡ stateLength (now sheet)) ⌝ }
-    ensures { λ r. ⌜ (r .fits ≡ elementFits (now (sheet .entry)) (now (st .entry)) e) × (r .fits ≡ true → r .behind ≡ first + cellsBefore (now (sheet .entry)) c (chartVariables c .count)) ⌝ }
+    requires { ⌜ (now directory ≡ directoryOf (now sheet)) × (first + cellsBefore (now sheet) c (chartVariables c .count) ≤ cellsOf (now sheet)) × (length (now st) ≡ stateLength (now sheet)) ⌝ }
+    ensures { λ r. ⌜ ((e : ℕ) → chartOf (now (sheet .entry)) e ≡ Present c → first ≡ firstCell (now (sheet .entry)) e → r .fits ≡ elementFits (now (sheet .entry)) (now (st .entry)) e) × (r .fits ≡ true → r .behind ≡ first + cellsBefore (now (sheet .entry)) c (chartVariables c .count)) ⌝ }
 {
     let count = c.f3 as usize;
     let mut cell = first;
@@ -79,7 +80,7 @@ fn element_fits(
             };
         };
         let taken = sheet_indices::cells_by(sheet, directory, d.f1);
-        if !variable_fits(sheet, directory, e, d.f0 as usize, cell, taken, st) {
+        if !variable_fits(sheet, directory, c, d.f0 as usize, cell, taken, st) {
             return Judged {
                 fits: false,
                 behind: cell,
@@ -104,19 +105,19 @@ fn head_fits(st: &[i32]) -> bool
     engine_valid_cells::zero_words(st, 0, 1)
 }
 
-fn cells_fit(sheet: &[u8], directory: &[usize; 16], st: &[i32]) -> bool
-    requires { ⌜ (now directory ≡ directoryOf (now sheet)) × (length (now st) ≡ stateLength (now sheet)) ⌝ }
+fn cells_fit(sheet: &[u8], directory: &[usize; 16], cells: &[usize; 2176], st: &[i32]) -> bool
+    requires { ⌜ (now directory ≡ directoryOf (now sheet)) × (checkOf (now sheet) ≡ Passed) × CellTable (now sheet) (now cells) × (length (now st) ≡ stateLength (now sheet)) ⌝ }
     ensures { λ b. ⌜ b ≡ cellsFit (now (sheet .entry)) (now (st .entry)) ⌝ }
 {
     let from = engine_valid_values::externals(sheet, directory);
-    let to = engine_valid_values::components(sheet, directory);
+    let count = engine_cells::elements(sheet, directory);
     let mut first: usize = 0;
     let mut i: usize = 0;
-    while from + i < to {
-        let Found::Present(c) = engine_valid_values::chart_of(sheet, directory, from + i) else {
+    while i < count {
+        let Found::Present(c) = engine_cells::chart_of(sheet, directory, cells, from + i) else {
             return false;
         };
-        let judged = element_fits(sheet, directory, from + i, c, first, st);
+        let judged = element_fits(sheet, directory, c, first, st);
         if !judged.fits {
             return false;
         }
@@ -127,14 +128,20 @@ fn cells_fit(sheet: &[u8], directory: &[usize; 16], st: &[i32]) -> bool
 }
 
 // The n waiting telegrams.
-fn waiting_fit(sheet: &[u8], directory: &[usize; 16], st: &[i32], n: usize) -> bool
-    requires { ⌜ (now directory ≡ directoryOf (now sheet)) × (length (now st) ≡ stateLength (now sheet)) × (n ≤ 128) × (n ≡ natAbs (wordOf (now st) 0)) ⌝ }
+fn waiting_fit(
+    sheet: &[u8],
+    directory: &[usize; 16],
+    cells: &[usize; 2176],
+    st: &[i32],
+    n: usize,
+) -> bool
+    requires { ⌜ (now directory ≡ directoryOf (now sheet)) × (checkOf (now sheet) ≡ Passed) × CellTable (now sheet) (now cells) × (length (now st) ≡ stateLength (now sheet)) × (n ≤ 128) × (n ≡ natAbs (wordOf (now st) 0)) ⌝ }
     ensures { λ b. ⌜ b ≡ waitingFit (now (sheet .entry)) (now (st .entry)) ⌝ }
 {
     let first = st.len() - 1024;
     let mut j: usize = 0;
     while j < n {
-        if !engine_valid_telegrams::telegram_fits(sheet, directory, st, first + 8 * j) {
+        if !engine_valid_telegrams::telegram_fits(sheet, directory, cells, st, first + 8 * j) {
             return false;
         }
         j += 1;
@@ -160,18 +167,23 @@ fn unused_zero(st: &[i32], n: usize) -> bool
 }
 
 // Whether all that the paper says of a state's content holds.
-pub fn content_fits(sheet: &[u8], directory: &[usize; 16], st: &[i32]) -> bool
-    requires { ⌜ (now directory ≡ directoryOf (now sheet)) × (length (now st) ≡ stateLength (now sheet)) × (componentsOf (now sheet) ≤ 64) ⌝ }
+pub fn content_fits(
+    sheet: &[u8],
+    directory: &[usize; 16],
+    cells: &[usize; 2176],
+    st: &[i32],
+) -> bool
+    requires { ⌜ (now directory ≡ directoryOf (now sheet)) × (checkOf (now sheet) ≡ Passed) × CellTable (now sheet) (now cells) × (length (now st) ≡ stateLength (now sheet)) ⌝ }
     ensures { λ b. ⌜ b ≡ contentFits (now (sheet .entry)) (now (st .entry)) ⌝ }
 {
     if !head_fits(st) {
         return false;
     }
-    if !cells_fit(sheet, directory, st) {
+    if !cells_fit(sheet, directory, cells, st) {
         return false;
     }
     let n = engine_valid_words::number_at(st, 0);
-    if !waiting_fit(sheet, directory, st, n) {
+    if !waiting_fit(sheet, directory, cells, st, n) {
         return false;
     }
     if !unused_zero(st, n) {

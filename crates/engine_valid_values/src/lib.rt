@@ -1,12 +1,11 @@
-// Values of the sheet's types, and who is bound to which chart.
-use sheet::Found;
+// Values of the sheet's types, and which components are bound.
 ghost use mathlib.Core.Path.{_≡_};
 ghost use Prim.Native.Nat.{_+_, _<_, _≤_};
 ghost use lib.ListN.{length};
 ghost use Rattle.sheet.specs.Sheet.{directoryOf};
 ghost use Rattle.sheet.specs.All.{_and_};
 ghost use Rattle.sheet_rules.specs.Fields.{componentsOf, externalsOf, portsOf, membersOf};
-ghost use Rattle.machine.specs.Values.{isBelow, inType, isBound, chartOf};
+ghost use Rattle.machine.specs.Values.{isBelow, inType, isBound};
 ghost use Rattle.machine.specs.State.{wordOf};
 
 // ---- numbers of the sheet
@@ -40,7 +39,7 @@ fn members(sheet: &[u8], directory: &[usize; 16], k: usize) -> usize
     sheet_fields::field_at(sheet, directory, 1, k, 0)
 }
 
-// ---- who is bound to which chart
+// ---- which components are bound
 
 pub fn is_bound(sheet: &[u8], directory: &[usize; 16], e: usize) -> bool
     requires { ⌜ now directory ≡ directoryOf (now sheet) ⌝ }
@@ -50,23 +49,6 @@ pub fn is_bound(sheet: &[u8], directory: &[usize; 16], e: usize) -> bool
         return false;
     }
     e < components(sheet, directory)
-}
-
-// The chart of an element. Its binding is found by a search over the elements before it; a run of bodies
-// has a table instead.
-pub fn chart_of(sheet: &[u8], directory: &[usize; 16], e: usize) -> Found
-    requires { ⌜ now directory ≡ directoryOf (now sheet) ⌝ }
-    ensures { λ f. ⌜ f ≡ chartOf (now (sheet .entry)) e ⌝ }
-{
-    let first = externals(sheet, directory);
-    if e < first {
-        return Found::Absent;
-    }
-    if components(sheet, directory) <= e {
-        return Found::Absent;
-    }
-    let k = sheet_bindings::first_binding(sheet, directory, e - first);
-    sheet_bindings::chart_bound(sheet, directory, k)
 }
 
 // ---- values

@@ -3,7 +3,7 @@ use sheet::Found;
 ghost use mathlib.Core.Path.{_≡_};
 ghost use Prim.Native.Nat.{_+_, _≤_, _<_};
 ghost use Rattle.sheet.specs.Sheet.{directoryOf};
-ghost use Rattle.sheet_rules.specs.Bindings.{recordsFor, chartBound, behind, firstBinding, elementsBoundIn, constantRecord, constantField};
+ghost use Rattle.sheet_rules.specs.Bindings.{recordsFor, chartBound, behind, elementsBoundIn, constantRecord, constantField};
 
 // ---- records
 
@@ -38,20 +38,6 @@ pub fn record_behind(sheet: &[u8], directory: &[usize; 16], k: usize) -> usize
         return k + 1;
     };
     k + records_for(c.f1)
-}
-
-// The first record of element i, counted from the first bound one: a search over the elements before it.
-pub fn first_binding(sheet: &[u8], directory: &[usize; 16], i: usize) -> usize
-    requires { ⌜ (now directory ≡ directoryOf (now sheet)) × (i < 65536) ⌝ }
-    ensures { λ k. ⌜ k ≡ firstBinding (now (sheet .entry)) i ⌝ }
-{
-    let mut k: usize = 0;
-    let mut j: usize = 0;
-    while j < i {
-        k = record_behind(sheet, directory, k);
-        j += 1;
-    }
-    k
 }
 
 // How many elements the section binds.

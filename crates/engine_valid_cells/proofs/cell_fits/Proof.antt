@@ -13,19 +13,21 @@ clock-cell-requires : tie.Need-clock-cell-requires
 clock-cell-requires c κs = search needs
 
 returns : tie.Need-returns
-returns c = c .clock-cell .ensures ∙ clock-in _ _ _ _ _ (sym (c .before .before .is-clock .ensures) ∙ c .before .if1 .taken)
+returns c e p = c .clock-cell .ensures e p ∙ clock-in _ _ _ _ _ (sym (c .before .before .is-clock .ensures) ∙ c .before .if1 .taken)
 
 value-at-requires : tie.Need-value-at-requires
 value-at-requires c κs = search needs
 
 returns-2 : tie.Need-returns-2
-returns-2 c = first-fails _ _ (no (c .before .value-at .ensures) (c .if2 .taken)) ∙ value-in _ _ _ _ _ (sym (c .before .before .before .is-clock .ensures) ∙ c .before .before .if1 .left)
+returns-2 c e p = first-fails _ _ (no (c .before .value-at .ensures) (c .if2 .taken)) ∙ value-in _ _ _ _ _ (sym (c .before .before .before .is-clock .ensures) ∙ c .before .before .if1 .left)
 
 zero-words-requires : tie.Need-zero-words-requires
 zero-words-requires c κs = search needs
 
 returns-3 : tie.Need-returns-3
-returns-3 c = first-holds _ _ _ (so (c .before .before .value-at .ensures) (c .before .if2 .left)) (c .zero-words .ensures) ∙ value-in _ _ _ _ _ (sym (c .before .before .before .before .is-clock .ensures) ∙ c .before .before .before .if1 .left)
+returns-3 c e p =
+    first-holds _ _ _ (so (c .before .before .value-at .ensures) (c .before .if2 .left)) (c .zero-words .ensures)
+    ∙ value-in _ _ _ _ _ (sym (c .before .before .before .before .is-clock .ensures) ∙ c .before .before .before .if1 .left)
 
 pub cell-fits-spec : {M : Type 1} → statement M
 cell-fits-spec =

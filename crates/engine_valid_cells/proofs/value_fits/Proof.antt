@@ -17,7 +17,11 @@ at-least-requires-2 : tie.Need-at-least-requires-2
 at-least-requires-2 c κs = search needs
 
 returns-2 : tie.Need-returns-2
-returns-2 c = first-holds _ _ _ (sym (rw (back (c .before .before .before .before .fits .value)) at (c .before .before .at-least .ensures)) ∙ not-false _ (c .before .if2 .left)) (rw (back (c .before .before .before .before .fits .value), back (c .before .before .before .before .fits .period)) at (c .at-least2 .ensures)) ∙ of-timeout _ _ _ (c .before .before .before .if1 .taken)
+returns-2 c =
+    let fits = c .before .before .before .before .fits in
+    first-holds _ _ _ (sym (rw (back (fits .value)) at (c .before .before .at-least .ensures)) ∙ not-false _ (c .before .if2 .left))
+    (rw (back (fits .value), back (fits .period)) at (c .at-least2 .ensures))
+    ∙ of-timeout _ _ _ (c .before .before .before .if1 .taken)
 
 at-least-requires-3 : tie.Need-at-least-requires-3
 at-least-requires-3 c κs = search needs
@@ -29,7 +33,11 @@ less-requires : tie.Need-less-requires
 less-requires c κs = search needs
 
 returns-4 : tie.Need-returns-4
-returns-4 c = first-holds _ _ _ (sym (rw (back (c .before .before .before .before .fits .value)) at (c .before .before .at-least3 .ensures)) ∙ not-false _ (c .before .if3 .left)) (rw (back (c .before .before .before .before .fits .value), back (c .before .before .before .before .fits .period)) at (c .less .ensures)) ∙ of-cycler _ _ _ (c .before .before .before .if1 .left)
+returns-4 c =
+    let fits = c .before .before .before .before .fits in
+    first-holds _ _ _ (sym (rw (back (fits .value)) at (c .before .before .at-least3 .ensures)) ∙ not-false _ (c .before .if3 .left))
+    (rw (back (fits .value), back (fits .period)) at (c .less .ensures))
+    ∙ of-cycler _ _ _ (c .before .before .before .if1 .left)
 
 pub value-fits-spec : {M : Type 1} → statement M
 value-fits-spec =

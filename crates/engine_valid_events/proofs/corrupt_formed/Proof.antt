@@ -28,7 +28,10 @@ rest-zero-requires c κs = search needs
 
 returns-3 : tie.Need-returns-3
 unfolding wellFormed
-returns-3 c = first-holds _ _ _ (so (below-same _ _ _ _ (c .before .before .before .before .below-at .ensures) (c .before .before .before .before .before .components .ensures .0)) (c .before .before .before .if1 .left)) (first-holds _ _ _ (so (c .before .before .bound-word .ensures) (c .before .if2 .left)) (c .rest-zero .ensures))
+returns-3 c =
+    let first = c .before .before .before .before in
+    first-holds _ _ _ (so (below-same _ _ _ _ (first .below-at .ensures) (first .before .components .ensures .0)) (c .before .before .before .if1 .left))
+    (first-holds _ _ _ (so (c .before .before .bound-word .ensures) (c .before .if2 .left)) (c .rest-zero .ensures))
 
 pub corrupt-formed-spec : {M : Type 1} → statement M
 corrupt-formed-spec =

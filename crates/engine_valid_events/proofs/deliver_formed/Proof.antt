@@ -38,16 +38,11 @@ rest-zero-requires c κs = search needs
 returns-4 : tie.Need-returns-4
 unfolding wellFormed
 returns-4 c =
-    let if2 = c .before .before .before .if2 in
-    let below-at2 = c .before .before .before .before .below-at2 in
-    let if1 = c .before .before .before .before .before .if1 in
-    let below-at = c .before .before .before .before .before .before .below-at in
-    let components = c .before .before .before .before .before .before .before .components in
-    let below-same-here = below-same _ _ _ _ (below-at .ensures) (components .ensures .0) in
-    let below-same-here2 = below-same _ _ _ _ (below-at2 .ensures) (components .ensures .0) in
-    let both-external-is = sym (c .before .before .both-external .ensures) ∙ c .before .if3 .left in
-    first-holds _ _ _ (so below-same-here (if1 .left))
-    (first-holds _ _ _ (so below-same-here2 (if2 .left)) (first-holds _ _ _ (ap not both-external-is) (c .rest-zero .ensures)))
+    let first = c .before .before .before .before .before .before in
+    let count = first .before .components .ensures .0 in
+    first-holds _ _ _ (so (below-same _ _ _ _ (first .below-at .ensures) count) (c .before .before .before .before .before .if1 .left))
+    (first-holds _ _ _ (so (below-same _ _ _ _ (c .before .before .before .before .below-at2 .ensures) count) (c .before .before .before .if2 .left))
+    (first-holds _ _ _ (ap not (sym (c .before .before .both-external .ensures) ∙ c .before .if3 .left)) (c .rest-zero .ensures)))
 
 pub deliver-formed-spec : {M : Type 1} → statement M
 deliver-formed-spec =

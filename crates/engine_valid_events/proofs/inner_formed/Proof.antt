@@ -28,7 +28,9 @@ rest-zero-requires c κs = search needs
 
 returns-3 : tie.Need-returns-3
 unfolding wellFormed
-returns-3 c = first-holds _ _ _ (so (c .before .before .before .before .before .zero-at .ensures) (c .before .before .before .before .if1 .left)) (first-holds _ _ _ (so (below-same _ _ _ _ (c .before .before .below-at .ensures) (c .before .before .before .components .ensures .0)) (c .before .if2 .left)) (c .rest-zero .ensures))
+returns-3 c =
+    first-holds _ _ _ (so (c .before .before .before .before .before .zero-at .ensures) (c .before .before .before .before .if1 .left))
+    (first-holds _ _ _ (so (below-same _ _ _ _ (c .before .before .below-at .ensures) (c .before .before .before .components .ensures .0)) (c .before .if2 .left)) (c .rest-zero .ensures))
 
 pub inner-formed-spec : {M : Type 1} → statement M
 inner-formed-spec =

@@ -51,7 +51,11 @@ returns-6 c = first-holds _ _ _ (eq-eqb _ 9 (c .before .before .before .if1 .lef
 
 returns-7 : tie.Need-returns-7
 unfolding isEvent
-returns-7 c = first-holds _ _ _ (eq-eqb _ 9 (c .before .before .if1 .left)) (of-no-kind _ _ _ (word-not _ _ 1 (c .before .word .ensures .0) (c .match .rest .0 .0 .0 .0 .1)) (word-not _ _ 2 (c .before .word .ensures .0) (c .match .rest .0 .0 .0 .1)) (word-not _ _ 3 (c .before .word .ensures .0) (c .match .rest .0 .0 .1)) (word-not _ _ 4 (c .before .word .ensures .0) (c .match .rest .0 .1)) (word-not _ _ 5 (c .before .word .ensures .0) (c .match .rest .1)))
+returns-7 c =
+    let word = c .before .word .ensures .0 in
+    let rest = c .match .rest in
+    first-holds _ _ _ (eq-eqb _ 9 (c .before .before .if1 .left))
+    (of-no-kind _ _ _ (word-not _ _ 1 word (rest .0 .0 .0 .0 .1)) (word-not _ _ 2 word (rest .0 .0 .0 .1)) (word-not _ _ 3 word (rest .0 .0 .1)) (word-not _ _ 4 word (rest .0 .1)) (word-not _ _ 5 word (rest .1)))
 
 pub is-event-spec : {M : Type 1} → statement M
 is-event-spec =

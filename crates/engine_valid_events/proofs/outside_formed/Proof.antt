@@ -39,16 +39,10 @@ name-fits-requires c κs = search needs
 returns-4 : tie.Need-returns-4
 unfolding wellFormed
 returns-4 c =
-    let ports = c .before .before .before .ports in
-    let if2 = c .before .before .before .before .if2 in
-    let bound-word = c .before .before .before .before .before .bound-word in
-    let if1 = c .before .before .before .before .before .before .if1 in
-    let below-at = c .before .before .before .before .before .before .before .below-at in
-    let externals = c .before .before .before .before .before .before .before .before .externals in
-    let below-same-here = below-same _ _ _ _ (below-at .ensures) (externals .ensures .0) in
-    let below-same-here2 = below-same _ _ _ _ (c .before .before .below-at2 .ensures) (ports .ensures .0) in
-    first-holds _ _ _ (so below-same-here (if1 .left))
-    (first-holds _ _ _ (so (bound-word .ensures) (if2 .left)) (first-holds _ _ _ (so below-same-here2 (c .before .if3 .left)) (c .name-fits .ensures)))
+    let first = c .before .before .before .before .before .before .before in
+    first-holds _ _ _ (so (below-same _ _ _ _ (first .below-at .ensures) (first .before .externals .ensures .0)) (c .before .before .before .before .before .before .if1 .left))
+    (first-holds _ _ _ (so (c .before .before .before .before .before .bound-word .ensures) (c .before .before .before .before .if2 .left))
+    (first-holds _ _ _ (so (below-same _ _ _ _ (c .before .before .below-at2 .ensures) (c .before .before .before .ports .ensures .0)) (c .before .if3 .left)) (c .name-fits .ensures)))
 
 pub outside-formed-spec : {M : Type 1} → statement M
 outside-formed-spec =

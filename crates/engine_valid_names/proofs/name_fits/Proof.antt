@@ -29,7 +29,10 @@ has-class-requires c κs = search needs
 
 returns-2 : tie.Need-returns-2
 unfolding nameFits
-returns-2 c = rest-fails _ _ (first-fails _ _ (no (name-class _ _ (wordOf (c .before .before .before .before .before .before .before .args .st .now) (c .before .before .before .before .before .before .before .args .at)) _ (c .before .before .number-at .ensures) _ (c .before .has-class .ensures)) (c .if2 .taken)))
+returns-2 c =
+    let start = c .before .before .before .before .before .before .before .args in
+    let name = wordOf (start .st .now) (start .at) in
+    rest-fails _ _ (first-fails _ _ (no (name-class _ _ name _ (c .before .before .number-at .ensures) _ (c .before .has-class .ensures)) (c .if2 .taken)))
 
 name-range-requires : tie.Need-name-range-requires
 name-range-requires c κs = search needs
@@ -42,7 +45,14 @@ data-fit-requires c κs = search needs
 
 returns-3 : tie.Need-returns-3
 unfolding nameFits
-returns-3 c = first-holds _ _ _ (so (below-same _ _ _ _ (c .before .before .before .before .before .before .below-at .ensures) (count-opened _ _ _ (c .before .before .before .before .before .before .before .count-in .ensures) _ (c .before .before .before .before .before .before .before .before .before .pre .0))) (c .before .before .before .before .before .if1 .left)) (first-holds _ _ _ (so (name-class _ _ (wordOf (c .before .before .before .before .before .before .before .before .before .args .st .now) (c .before .before .before .before .before .before .before .before .before .args .at)) _ (c .before .before .before .before .number-at .ensures) _ (c .before .before .before .has-class .ensures)) (c .before .before .if2 .left)) (name-data _ _ (wordOf (c .before .before .before .before .before .before .before .before .before .args .st .now) (c .before .before .before .before .before .before .before .before .before .args .at)) _ (c .before .before .before .before .number-at .ensures) _ _ (c .before .name-range .ensures .0) (c .data-fit .ensures)))
+returns-3 c =
+    let start = c .before .before .before .before .before .before .before .before .before in
+    let name = wordOf (start .args .st .now) (start .args .at) in
+    let count = c .before .before .before .before .before .before .before .count-in .ensures _ (start .pre .0) in
+    let number = c .before .before .before .before .number-at .ensures in
+    first-holds _ _ _ (so (below-same _ _ _ _ (c .before .before .before .before .before .before .below-at .ensures) count) (c .before .before .before .before .before .if1 .left))
+    (first-holds _ _ _ (so (name-class _ _ name _ number _ (c .before .before .before .has-class .ensures)) (c .before .before .if2 .left))
+    (name-data _ _ name _ number _ _ (c .before .name-range .ensures .0) (c .data-fit .ensures)))
 
 pub name-fits-spec : {M : Type 1} → statement M
 name-fits-spec =

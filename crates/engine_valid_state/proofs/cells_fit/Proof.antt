@@ -11,7 +11,7 @@ use Rattle.sheet_rules.specs.Fields.{sumBelow}
 use Rattle.sheet_rules.specs.Shape.{cellsBound}
 use Rattle.machine.specs.Valid.{elementFits}
 use Rattle.sheet_types.proofs.Laws.{no, so}
-use Rattle.engine_valid_state.proofs.Laws.{first-is, first-next, element-of, elements-end, cells-are, no-element}
+use Rattle.engine_valid_state.proofs.Laws.{first-is, cells-inside, first-next, element-in, cells-are, no-element}
 use Rattle.engine_valid_state.proofs.cells_fit.Statement.{statement}
 use Rattle.engine_valid_state.proofs.cells_fit.Tie as tie
 
@@ -19,29 +19,30 @@ abbrev fits : List ℕ → List ℤ → ℕ → ℕ → Bool
 fits s st from i = elementFits s st (from + i)
 
 abbrev Inv-loop : tie.InvT-loop
-Inv-loop sheet directory st from to first₀ i₀ first i = (i ≤ to - from) × (to < 65536) × (from < 65536) × (first ≡ sumBelow i (cellsBound sheet)) × (allBelow i (fits sheet st from) ≡ true)
+Inv-loop sheet directory cells st from count first₀ i₀ first i =
+    (i ≤ count) × (count < 64) × (from < 65536) × (first ≡ sumBelow i (cellsBound sheet)) × (allBelow i (fits sheet st from) ≡ true)
 
 abbrev μ-loop : tie.MeasureT-loop
-μ-loop sheet directory st from to first₀ i₀ first i = to - from - i
+μ-loop sheet directory cells st from count first₀ i₀ first i = count - i
 
 externals-requires : tie.Need-externals-requires Inv-loop μ-loop
 externals-requires c κs = search needs
 
-components-requires : tie.Need-components-requires Inv-loop μ-loop
-components-requires c κs = search needs
+elements-requires : tie.Need-elements-requires Inv-loop μ-loop
+elements-requires c κs = search needs
 
 loop-holds : tie.Need-loop-holds Inv-loop μ-loop
 unfolding allBelow sumBelow
-loop-holds c = (omega arith, c .components .ensures .1, c .before .externals .ensures .1, refl, refl)
-
-add-loop : tie.Need-add-loop Inv-loop μ-loop
-add-loop c = search needs
+loop-holds c = (omega arith, c .elements .ensures .1, c .before .externals .ensures .1, refl, refl)
 
 add-chart-of : tie.Need-add-chart-of Inv-loop μ-loop
 add-chart-of c = search needs
 
 chart-of-requires : tie.Need-chart-of-requires Inv-loop μ-loop
-chart-of-requires c κs = search needs
+chart-of-requires c κs =
+    let start = c .before .before .before .before .before in
+    let bound = element-in _ _ _ _ (c .before .before .before .externals .ensures .0) (c .before .before .elements .ensures .0) (c .loop-test .taken) in
+    (start .pre .0, start .pre .1, start .pre .2, bound)
 
 enum-known-c : tie.Need-enum-known-c Inv-loop μ-loop
 enum-known-c c = search needs
@@ -50,16 +51,30 @@ enum-told : tie.Need-enum-told Inv-loop μ-loop
 enum-told c = search needs
 
 returns : tie.Need-returns Inv-loop μ-loop
-returns c = loop-fails _ _ _ _ refl (element-of _ _ _ _ (c .before .before .before .before .before .before .externals .ensures .0) (c .before .before .before .before .before .components .ensures .0) (c .before .before .before .loop-test .taken)) (no-element _ _ _ (sym (c .before .before .chart-of .ensures) ∙ c .enum-told .given .1)) ∙ cells-are _ _ _ (c .before .before .before .before .before .before .externals .ensures .0)
-
-add-element-fits : tie.Need-add-element-fits Inv-loop μ-loop
-add-element-fits c = search needs
+returns c =
+    let asked = c .before .before in
+    let counted = asked .before .before .before in
+    let absent = no-element _ _ _ (sym (asked .chart-of .ensures) ∙ c .enum-told .given .1) in
+    loop-fails _ _ _ _ (counted .elements .ensures .0) (asked .before .loop-test .taken) absent ∙ cells-are _ _ _ (counted .before .externals .ensures .0)
 
 element-fits-requires : tie.Need-element-fits-requires Inv-loop μ-loop
-element-fits-requires c κs = (c .before .before .before .before .before .before .before .before .before .pre .0, sym (c .before .before .before .chart-of .ensures) ∙ c .before .c .given .1, first-is _ _ _ _ (c .before .before .before .before .before .before .before .externals .ensures .0) (c .before .before .before .before .before .loop .inv .3), c .before .before .before .before .before .before .before .before .before .pre .1)
+element-fits-requires c κs =
+    let asked = c .before .before .before in
+    let turn = asked .before .before in
+    let from = turn .before .before .externals .ensures .0 in
+    let chart = sym (asked .chart-of .ensures) ∙ c .before .c .given .1 in
+    let start = turn .before .before .before .before in
+    (start .pre .0, cells-inside _ _ _ _ from (turn .loop .inv .3) _ chart, start .pre .3)
 
 returns-2 : tie.Need-returns-2 Inv-loop μ-loop
-returns-2 c = loop-fails _ _ _ _ refl (element-of _ _ _ _ (c .before .before .before .before .before .before .before .before .before .before .externals .ensures .0) (c .before .before .before .before .before .before .before .before .before .components .ensures .0) (c .before .before .before .before .before .before .before .loop-test .taken)) (no (c .before .before .element-fits .ensures .0) (c .if1 .taken)) ∙ cells-are _ _ _ (c .before .before .before .before .before .before .before .before .before .before .externals .ensures .0)
+returns-2 c =
+    let asked = c .before .before .before .before .before .before in
+    let turn = asked .before .before in
+    let counted = turn .before in
+    let from = counted .before .externals .ensures .0 in
+    let chart = sym (asked .chart-of .ensures) ∙ c .before .before .before .before .c .given .1 in
+    let judged = c .before .before .element-fits .ensures .0 _ chart (first-is _ _ _ _ from (turn .loop .inv .3)) in
+    loop-fails _ _ _ _ (counted .elements .ensures .0) (asked .before .loop-test .taken) (no judged (c .if1 .taken)) ∙ cells-are _ _ _ from
 
 add-i : tie.Need-add-i Inv-loop μ-loop
 add-i c = search needs
@@ -69,11 +84,21 @@ loop-less c = search needs
 
 loop-again : tie.Need-loop-again Inv-loop μ-loop
 loop-again c =
-    let fit = so (c .before .before .element-fits .ensures .0) (c .if1 .left) in
-    (omega arith, c .before .before .before .before .before .before .before .before .loop .inv .1, c .before .before .before .before .before .before .before .before .loop .inv .2, first-next _ _ _ _ (c .before .before .before .before .before .before .before .before .before .before .externals .ensures .0) (c .before .before .before .before .before .before .before .before .loop .inv .3) _ _ (sym (c .before .before .before .before .before .before .chart-of .ensures) ∙ c .before .before .before .before .c .given .1) (c .before .before .element-fits .ensures .1 (c .before .before .element-fits .ensures .0 ∙ fit)), all-more (c .before .before .before .before .before .before .before .before .loop .i) _ (c .before .before .before .before .before .before .before .before .loop .inv .4) fit)
+    let asked = c .before .before .before .before .before .before in
+    let turn = asked .before .before in
+    let inv = turn .loop .inv in
+    let from = turn .before .before .externals .ensures .0 in
+    let chart = sym (asked .chart-of .ensures) ∙ c .before .before .before .before .c .given .1 in
+    let judged = c .before .before .element-fits .ensures in
+    let same = judged .0 _ chart (first-is _ _ _ _ from (inv .3)) in
+    let fit = so same (c .if1 .left) in
+    (omega arith, inv .1, inv .2, first-next _ _ _ _ from (inv .3) _ chart _ (judged .1 (same ∙ fit)), all-more (turn .loop .i) _ (inv .4) fit)
 
 returns-3 : tie.Need-returns-3 Inv-loop μ-loop
-returns-3 c = loop-ends _ _ (c .before .loop .i) _ (elements-end _ _ _ _ (c .before .before .before .externals .ensures .0) (c .before .before .components .ensures .0) (c .before .loop .inv .0) (c .loop-test .left)) (omega arith) (omega arith) (c .before .loop .inv .4) ∙ cells-are _ _ _ (c .before .before .before .externals .ensures .0)
+returns-3 c =
+    let inv = c .before .loop .inv in
+    let counted = c .before .before in
+    loop-ends _ _ _ _ (counted .elements .ensures .0) (inv .0) (c .loop-test .left) (inv .4) ∙ cells-are _ _ _ (counted .before .externals .ensures .0)
 
 pub cells-fit-spec : {M : Type 1} → statement M
 cells-fit-spec =
@@ -82,15 +107,13 @@ cells-fit-spec =
     Inv-loop
     μ-loop
     externals-requires
-    components-requires
+    elements-requires
     loop-holds
-    add-loop
     add-chart-of
     chart-of-requires
     enum-known-c
     enum-told
     returns
-    add-element-fits
     element-fits-requires
     returns-2
     add-i

@@ -5,9 +5,11 @@ use mathlib.Core.Bool.{Bool, true}
 use Prim.Native.Nat.{ℕ, _+_, _-_, _≤_}
 use lib.IntN.{ℤ}
 use borrow.Author.Needs.{needs}
+use Rattle.sheet.specs.declared.Found.the-variants.{Present}
 use Rattle.sheet.specs.All.{allBelow}
 use Rattle.sheet.proofs.All.{all-more, loop-fails, loop-ends}
 use Rattle.sheet_types.proofs.Laws.{no, so}
+use Rattle.machine.specs.Values.{chartOf}
 use Rattle.machine.specs.State.{cellAt}
 use Rattle.machine.specs.Valid.{cellFits}
 use Rattle.engine_valid_state.proofs.variable_fits.Statement.{statement}
@@ -17,14 +19,14 @@ abbrev fits : List ℕ → ℕ → ℕ → List ℤ → ℕ → ℕ → Bool
 fits s e t st cell k = cellFits s e t st (cellAt (cell + k))
 
 abbrev Inv-loop : tie.InvT-loop
-Inv-loop sheet directory e t cell n st k₀ k = (k ≤ n) × (allBelow k (fits sheet e t st cell) ≡ true)
+Inv-loop sheet directory c t cell n st k₀ k = (k ≤ n) × ((e : ℕ) → chartOf sheet e ≡ Present c → allBelow k (fits sheet e t st cell) ≡ true)
 
 abbrev μ-loop : tie.MeasureT-loop
-μ-loop sheet directory e t cell n st k₀ k = n - k
+μ-loop sheet directory c t cell n st k₀ k = n - k
 
 loop-holds : tie.Need-loop-holds Inv-loop μ-loop
 unfolding allBelow
-loop-holds c = (omega arith, refl)
+loop-holds c = (omega arith, λ e p. refl)
 
 add-at : tie.Need-add-at Inv-loop μ-loop
 unfolding cellAt
@@ -44,7 +46,7 @@ cell-fits-requires c κs = let l = c .loop-test .taken in let h = c .before .bef
 
 returns : tie.Need-returns Inv-loop μ-loop
 unfolding cellAt
-returns c = loop-fails _ _ (c .before .before .before .loop .k) _ refl (c .before .before .loop-test .taken) (no (c .before .cell-fits .ensures) (c .if1 .taken))
+returns c e p = loop-fails _ _ (c .before .before .before .loop .k) _ refl (c .before .before .loop-test .taken) (no (c .before .cell-fits .ensures e p) (c .if1 .taken))
 
 add-k : tie.Need-add-k Inv-loop μ-loop
 add-k c = search needs
@@ -54,10 +56,12 @@ loop-less c = search needs
 
 loop-again : tie.Need-loop-again Inv-loop μ-loop
 unfolding cellAt
-loop-again c = (omega arith, all-more (c .before .before .before .loop .k) _ (c .before .before .before .loop .inv .1) (so (c .before .cell-fits .ensures) (c .if1 .left)))
+loop-again c =
+    let turn = c .before .before .before .loop in
+    (omega arith, λ e p. all-more (turn .k) _ (turn .inv .1 e p) (so (c .before .cell-fits .ensures e p) (c .if1 .left)))
 
 returns-2 : tie.Need-returns-2 Inv-loop μ-loop
-returns-2 c = loop-ends _ _ _ _ refl (c .before .loop .inv .0) (c .loop-test .left) (c .before .loop .inv .1)
+returns-2 c e p = loop-ends _ _ _ _ refl (c .before .loop .inv .0) (c .loop-test .left) (c .before .loop .inv .1 e p)
 
 pub variable-fits-spec : {M : Type 1} → statement M
 variable-fits-spec =

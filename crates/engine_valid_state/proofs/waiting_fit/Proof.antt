@@ -19,29 +19,39 @@ abbrev fits : List ℕ → List ℤ → ℕ → ℕ → Bool
 fits s st first j = telegramFits s (telegramIn st (first + 8 * j))
 
 abbrev Inv-loop : tie.InvT-loop
-Inv-loop sheet directory st n first j₀ j = (j ≤ n) × (allBelow j (fits sheet st first) ≡ true)
+Inv-loop sheet directory cells st n first j₀ j = (j ≤ n) × (allBelow j (fits sheet st first) ≡ true)
 
 abbrev μ-loop : tie.MeasureT-loop
-μ-loop sheet directory st n first j₀ j = n - j
+μ-loop sheet directory cells st n first j₀ j = n - j
 
 sub-first : tie.Need-sub-first Inv-loop μ-loop
-sub-first c = let h : 1032 ≤ length (c .before .args .st .now) = places-inside (c .before .args .sheet .now) (c .before .args .st .now) (c .before .pre .1) in search needs
+sub-first c = let h : 1032 ≤ length (c .before .args .st .now) = places-inside (c .before .args .sheet .now) (c .before .args .st .now) (c .before .pre .3) in search needs
 
 loop-holds : tie.Need-loop-holds Inv-loop μ-loop
 unfolding allBelow
 loop-holds c = (omega arith, refl)
 
 mul-telegram-fits : tie.Need-mul-telegram-fits Inv-loop μ-loop
-mul-telegram-fits c = let h = c .before .before .before .pre .2 in omega arith
+mul-telegram-fits c = let h = c .before .before .before .pre .4 in omega arith
 
 add-telegram-fits : tie.Need-add-telegram-fits Inv-loop μ-loop
-add-telegram-fits c = let h = c .before .before .before .pre .2 in let g : 1032 ≤ length (c .before .before .before .args .st .now) = places-inside (c .before .before .before .args .sheet .now) (c .before .before .before .args .st .now) (c .before .before .before .pre .1) in omega arith
+add-telegram-fits c =
+    let start = c .before .before .before in
+    let h = start .pre .4 in
+    let g : 1032 ≤ length (start .args .st .now) = places-inside (start .args .sheet .now) (start .args .st .now) (start .pre .3) in
+    omega arith
 
 telegram-fits-requires : tie.Need-telegram-fits-requires Inv-loop μ-loop
-telegram-fits-requires c κs = (c .before .before .before .pre .0, (let h = c .before .before .before .pre .2 in let g : 1032 ≤ length (c .before .before .before .args .st .now) = places-inside (c .before .before .before .args .sheet .now) (c .before .before .before .args .st .now) (c .before .before .before .pre .1) in omega arith))
+telegram-fits-requires c κs =
+    let start = c .before .before .before in
+    let h = start .pre .4 in
+    let g : 1032 ≤ length (start .args .st .now) = places-inside (start .args .sheet .now) (start .args .st .now) (start .pre .3) in
+    (start .pre .0, start .pre .1, start .pre .2, omega arith)
 
 returns : tie.Need-returns Inv-loop μ-loop
-returns c = loop-fails _ _ _ _ refl (c .before .before .loop-test .taken) (no (c .before .telegram-fits .ensures) (c .if1 .taken)) ∙ waiting-is _ _ (c .before .before .before .before .before .pre .1) _ (c .before .before .before .before .before .pre .3)
+returns c =
+    let start = c .before .before .before .before .before in
+    loop-fails _ _ _ _ refl (c .before .before .loop-test .taken) (no (c .before .telegram-fits .ensures) (c .if1 .taken)) ∙ waiting-is _ _ (start .pre .3) _ (start .pre .5)
 
 add-j : tie.Need-add-j Inv-loop μ-loop
 add-j c = search needs
@@ -53,7 +63,9 @@ loop-again : tie.Need-loop-again Inv-loop μ-loop
 loop-again c = (omega arith, all-more (c .before .before .before .loop .j) _ (c .before .before .before .loop .inv .1) (so (c .before .telegram-fits .ensures) (c .if1 .left)))
 
 returns-2 : tie.Need-returns-2 Inv-loop μ-loop
-returns-2 c = loop-ends _ _ _ _ refl (c .before .loop .inv .0) (c .loop-test .left) (c .before .loop .inv .1) ∙ waiting-is _ _ (c .before .before .before .pre .1) _ (c .before .before .before .pre .3)
+returns-2 c =
+    let start = c .before .before .before in
+    loop-ends _ _ _ _ refl (c .before .loop .inv .0) (c .loop-test .left) (c .before .loop .inv .1) ∙ waiting-is _ _ (start .pre .3) _ (start .pre .5)
 
 pub waiting-fit-spec : {M : Type 1} → statement M
 waiting-fit-spec =

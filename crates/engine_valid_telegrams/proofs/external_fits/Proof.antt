@@ -38,7 +38,9 @@ name-fits-requires c κs = search needs
 
 returns-3 : tie.Need-returns-3
 unfolding externalFits telegramIn
-returns-3 c = first-holds _ _ _ (ap not (sym (c .before .before .before .before .before .both-external .ensures) ∙ c .before .before .before .before .if1 .left)) (first-holds _ _ _ (so (below-same _ _ _ _ (c .before .before .below-at .ensures) (c .before .before .before .ports .ensures .0)) (c .before .if2 .left)) (c .name-fits .ensures ∙ name-of _ _ _ _))
+returns-3 c =
+    first-holds _ _ _ (ap not (sym (c .before .before .before .before .before .both-external .ensures) ∙ c .before .before .before .before .if1 .left))
+    (first-holds _ _ _ (so (below-same _ _ _ _ (c .before .before .below-at .ensures) (c .before .before .before .ports .ensures .0)) (c .before .if2 .left)) (c .name-fits .ensures ∙ name-of _ _ _ _))
 
 pub external-fits-spec : {M : Type 1} → statement M
 external-fits-spec =

@@ -1,14 +1,13 @@
 use native.Mathlib.Omega.{arith}
-use mathlib.Core.Path.{ap, _∙_}
-use Prim.Native.Nat.{ℕ, _+_}
+use mathlib.Core.Path.{sym, ap, _∙_}
 use borrow.Author.Needs.{needs}
 use Rattle.sheet.proofs.All.{first-fails, rest-fails, first-holds}
-use Rattle.machine.specs.Values.{isBound}
-use Rattle.machine.specs.State.{wordOf, telegramIn}
-use Rattle.machine.specs.Valid.{internalFits, reactionAwaits}
+use Rattle.machine.specs.Values.{isBound, chartOf}
+use Rattle.machine.specs.State.{telegramIn}
+use Rattle.machine.specs.Valid.{internalFits}
 use Rattle.sheet_types.proofs.Laws.{no, so}
 use Rattle.engine_valid_words.proofs.Laws.{read-back}
-use Rattle.engine_valid_names.proofs.Laws.{name-from, awaits-same}
+use Rattle.engine_valid_names.proofs.Laws.{name-from, chart-awaits, nothing-awaits}
 use Rattle.engine_valid_telegrams.proofs.Laws.{name-of}
 use Rattle.engine_valid_telegrams.proofs.internal_fits.Statement.{statement}
 use Rattle.engine_valid_telegrams.proofs.internal_fits.Tie as tie
@@ -27,7 +26,10 @@ same-requires c κs = search needs
 
 returns : tie.Need-returns
 unfolding internalFits telegramIn
-returns c = first-fails _ _ (no (rw (read-back _ _ (c .before .before .before .word .ensures .0) (c .before .before .before .word .ensures .1), read-back _ _ (c .before .before .word2 .ensures .0) (c .before .before .word2 .ensures .1)) at (c .before .same .ensures)) (c .if1 .taken))
+returns c =
+    let sender = c .before .before .before .word .ensures in
+    let receiver = c .before .before .word2 .ensures in
+    first-fails _ _ (no (rw (read-back _ _ (sender .0) (sender .1), read-back _ _ (receiver .0) (receiver .1)) at (c .before .same .ensures)) (c .if1 .taken))
 
 add-number-at : tie.Need-add-number-at
 add-number-at c = search needs
@@ -52,18 +54,51 @@ returns-3 : tie.Need-returns-3
 unfolding internalFits telegramIn
 returns-3 c = rest-fails _ _ (rest-fails _ _ (first-fails _ _ (no (c .before .name-fits .ensures ∙ name-of _ _ _ _) (c .if3 .taken))))
 
-add-number-at-2 : tie.Need-add-number-at-2
-add-number-at-2 c = search needs
+chart-of-requires : tie.Need-chart-of-requires
+chart-of-requires c κs =
+    let start = c .before .before .before .before .before .before .before .before .before .before in
+    (start .pre .0, start .pre .1, start .pre .2, so (c .before .before .before .is-bound .ensures) (c .before .before .if2 .left))
 
-number-at-requires-2 : tie.Need-number-at-requires-2
-number-at-requires-2 c κs = (omega arith, name-from _ _ _ _ (so (c .before .name-fits .ensures) (c .if3 .left)))
+enum-known-c : tie.Need-enum-known-c
+enum-known-c c = search needs
 
-reaction-awaits-requires : tie.Need-reaction-awaits-requires
-reaction-awaits-requires c κs = search needs
+enum-told : tie.Need-enum-told
+enum-told c = search needs
 
 returns-4 : tie.Need-returns-4
 unfolding internalFits telegramIn
-returns-4 c = first-holds _ _ _ (so (rw (read-back _ _ (c .before .before .before .before .before .before .before .before .before .before .word .ensures .0) (c .before .before .before .before .before .before .before .before .before .before .word .ensures .1), read-back _ _ (c .before .before .before .before .before .before .before .before .before .word2 .ensures .0) (c .before .before .before .before .before .before .before .before .before .word2 .ensures .1)) at (c .before .before .before .before .before .before .before .before .same .ensures)) (c .before .before .before .before .before .before .before .if1 .left)) (first-holds _ _ _ (so (c .before .before .before .before .before .is-bound .ensures ∙ ap (isBound _) (c .before .before .before .before .before .before .number-at .ensures)) (c .before .before .before .before .if2 .left)) (first-holds _ _ _ (so (c .before .before .before .name-fits .ensures ∙ name-of _ _ _ _) (c .before .before .if3 .left)) (c .reaction-awaits .ensures ∙ awaits-same _ _ _ _ (c .before .number-at2 .ensures) ∙ ap (λ (e : ℕ). reactionAwaits (c .before .before .before .before .before .before .before .before .before .before .before .before .args .sheet .now) e (wordOf (c .before .before .before .before .before .before .before .before .before .before .before .before .args .st .now) (c .before .before .before .before .before .before .before .before .before .before .before .before .args .at + 3))) (c .before .before .before .before .before .before .number-at .ensures))))
+returns-4 c =
+    let asked = c .before .before in
+    let number = asked .before .before .before .before .before .number-at .ensures in
+    rest-fails _ _ (rest-fails _ _ (rest-fails _ _ (nothing-awaits _ _ _ (ap (chartOf _) (sym number) ∙ sym (asked .chart-of .ensures) ∙ c .enum-told .given .1))))
+
+add-number-at-2 : tie.Need-add-number-at-2
+add-number-at-2 c = let start = c .before .before .before .before .before .before .before .before .before .before .before .before .before .before in omega arith
+
+number-at-requires-2 : tie.Need-number-at-requires-2
+number-at-requires-2 c κs =
+    let named = c .before .before .before .before in
+    let start = c .before .before .before .before .before .before .before .before .before .before .before .before .before .before in
+    (omega arith, name-from _ _ _ _ (so (named .before .name-fits .ensures) (named .if3 .left)))
+
+has-reaction-requires : tie.Need-has-reaction-requires
+has-reaction-requires c κs = search needs
+
+returns-5 : tie.Need-returns-5
+unfolding internalFits telegramIn
+returns-5 c =
+    let asked = c .before .before .before .before .before in
+    let named = asked .before .before in
+    let bound = named .before .before in
+    let number = bound .before .number-at .ensures in
+    let ends = bound .before .before .before in
+    let receiver = ends .before .word2 .ensures in
+    let sender = ends .before .before .word .ensures in
+    let chart = ap (chartOf _) (sym number) ∙ sym (asked .chart-of .ensures) ∙ c .before .before .before .c .given .1 in
+    first-holds _ _ _ (so (rw (read-back _ _ (sender .0) (sender .1), read-back _ _ (receiver .0) (receiver .1)) at (ends .same .ensures)) (bound .before .before .if1 .left))
+    (first-holds _ _ _ (so (bound .is-bound .ensures ∙ ap (isBound _) number) (named .before .if2 .left))
+    (first-holds _ _ _ (so (named .name-fits .ensures ∙ name-of _ _ _ _) (asked .before .if3 .left))
+    (chart-awaits _ _ _ _ _ _ chart (c .before .number-at2 .ensures) (c .has-reaction .ensures))))
 
 pub internal-fits-spec : {M : Type 1} → statement M
 internal-fits-spec =
@@ -81,7 +116,11 @@ internal-fits-spec =
     add-name-fits
     name-fits-requires
     returns-3
+    chart-of-requires
+    enum-known-c
+    enum-told
+    returns-4
     add-number-at-2
     number-at-requires-2
-    reaction-awaits-requires
-    returns-4)
+    has-reaction-requires
+    returns-5)

@@ -17,18 +17,29 @@ is-internal-requires c κs = search needs
 
 internal-fits-requires : tie.Need-internal-fits-requires
 unfolding telegramIn
-internal-fits-requires c κs = (c .before .before .before .before .before .pre .0, c .before .before .before .before .before .pre .1, receiver-from _ (telegramIn (c .before .before .before .before .before .args .st .now) (c .before .before .before .before .before .args .at)) _ (c .before .before .before .both-components .ensures) (c .before .before .if1 .left))
+internal-fits-requires c κs =
+    let start = c .before .before .before .before .before in
+    let receiver = receiver-from _ (telegramIn (start .args .st .now) (start .args .at)) _ (c .before .before .before .both-components .ensures) (c .before .before .if1 .left) in
+    (start .pre .0, start .pre .1, start .pre .2, start .pre .3, receiver)
 
 returns-2 : tie.Need-returns-2
 unfolding telegramIn
-returns-2 c = c .internal-fits .ensures ∙ internal-one _ (telegramIn (c .before .before .before .before .before .before .args .st .now) (c .before .before .before .before .before .before .args .at)) _ (c .before .before .before .before .both-components .ensures) (c .before .before .before .if1 .left) (sym (c .before .before .is-internal .ensures) ∙ c .before .if2 .taken)
+returns-2 c =
+    let start = c .before .before .before .before .before .before in
+    let kind = sym (c .before .before .is-internal .ensures) ∙ c .before .if2 .taken in
+    c .internal-fits .ensures
+    ∙ internal-one _ (telegramIn (start .args .st .now) (start .args .at)) _ (c .before .before .before .before .both-components .ensures) (c .before .before .before .if1 .left) kind
 
 external-fits-requires : tie.Need-external-fits-requires
 external-fits-requires c κs = search needs
 
 returns-3 : tie.Need-returns-3
 unfolding telegramIn
-returns-3 c = c .external-fits .ensures ∙ external-one _ (telegramIn (c .before .before .before .before .before .before .args .st .now) (c .before .before .before .before .before .before .args .at)) _ (c .before .before .before .before .both-components .ensures) (c .before .before .before .if1 .left) (sym (c .before .before .is-internal .ensures) ∙ c .before .if2 .left)
+returns-3 c =
+    let start = c .before .before .before .before .before .before in
+    let kind = sym (c .before .before .is-internal .ensures) ∙ c .before .if2 .left in
+    c .external-fits .ensures
+    ∙ external-one _ (telegramIn (start .args .st .now) (start .args .at)) _ (c .before .before .before .before .both-components .ensures) (c .before .before .before .if1 .left) kind
 
 pub telegram-fits-spec : {M : Type 1} → statement M
 telegram-fits-spec =

@@ -21,7 +21,9 @@ below-at-requires-2 : tie.Need-below-at-requires-2
 below-at-requires-2 c κs = search needs
 
 returns-2 : tie.Need-returns-2
-returns-2 c = first-holds _ _ _ (so (below-same _ _ _ _ (c .before .before .below-at .ensures) (c .before .before .before .components .ensures .0)) (c .before .if1 .left)) (below-same _ _ _ _ (c .below-at2 .ensures) (c .before .before .before .components .ensures .0))
+returns-2 c =
+    let count = c .before .before .before .components .ensures .0 in
+    first-holds _ _ _ (so (below-same _ _ _ _ (c .before .before .below-at .ensures) count) (c .before .if1 .left)) (below-same _ _ _ _ (c .below-at2 .ensures) count)
 
 pub both-components-spec : {M : Type 1} → statement M
 both-components-spec =
