@@ -50,16 +50,24 @@ fn shaped(sheet: &[u8], directory: &[usize; 16]) -> bool
     shape_holds(sheet, directory, &mut marks[..count])
 }
 
-// What check answers for any bytes, and with it the paper's number.
+// What check answers, and with it the paper's number, for a caller who has opened the directory.
+pub fn check_opened(sheet: &[u8], directory: &[usize; 16]) -> Checked
+    requires { ⌜ now directory ≡ directoryOf (now sheet) ⌝ }
+    ensures { λ r. ⌜ (r ≡ checkOf (now (sheet .entry))) × (checkNumber r ≡ checkCall (now (sheet .entry))) ⌝ }
+{
+    if !shaped(sheet, directory) {
+        return Checked::Shape;
+    }
+    if !checker_statics::rules_hold(sheet, directory) {
+        return Checked::Static;
+    }
+    Checked::Passed
+}
+
+// What check answers for any bytes.
 pub fn check(sheet: &[u8]) -> Checked
     ensures { λ r. ⌜ (r ≡ checkOf (now (sheet .entry))) × (checkNumber r ≡ checkCall (now (sheet .entry))) ⌝ }
 {
     let directory = sheet_reader::directory(sheet);
-    if !shaped(sheet, &directory) {
-        return Checked::Shape;
-    }
-    if !checker_statics::rules_hold(sheet, &directory) {
-        return Checked::Static;
-    }
-    Checked::Passed
+    check_opened(sheet, &directory)
 }

@@ -39,13 +39,11 @@ pub fn next(
 pub fn event(sheet: &[u8], old: &[i32], result: &mut [i32], ev: &[i32]) -> Answer
     ensures { λ a. ⌜ EventGives (now (sheet .entry)) (now (old .entry)) (now (result .entry)) (now (ev .entry)) a (now (result .exit)) ⌝ }
 {
-    match checker::check(sheet) {
+    let directory = sheet_reader::directory(sheet);
+    match checker::check_opened(sheet, &directory) {
         Checked::Shape => answered(1, 0),
         Checked::Static => answered(2, 0),
-        Checked::Passed => {
-            let directory = sheet_reader::directory(sheet);
-            on_passed(sheet, &directory, old, result, ev)
-        }
+        Checked::Passed => on_passed(sheet, &directory, old, result, ev),
     }
 }
 
@@ -91,13 +89,11 @@ pub fn begin(sheet: &[u8], directory: &[usize; 16], cells: &[usize; 2176], st: &
 pub fn start(sheet: &[u8], result: &mut [i32]) -> Answer
     ensures { λ a. ⌜ StartGives (now (sheet .entry)) (now (result .entry)) a (now (result .exit)) ⌝ }
 {
-    match checker::check(sheet) {
+    let directory = sheet_reader::directory(sheet);
+    match checker::check_opened(sheet, &directory) {
         Checked::Shape => answered(1, 0),
         Checked::Static => answered(2, 0),
-        Checked::Passed => {
-            let directory = sheet_reader::directory(sheet);
-            start_passed(sheet, &directory, result)
-        }
+        Checked::Passed => start_passed(sheet, &directory, result),
     }
 }
 

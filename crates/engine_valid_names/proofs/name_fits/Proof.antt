@@ -48,7 +48,7 @@ unfolding nameFits
 returns-3 c =
     let start = c .before .before .before .before .before .before .before .before .before in
     let name = wordOf (start .args .st .now) (start .args .at) in
-    let count = c .before .before .before .before .before .before .before .count-in .ensures _ (start .pre .0) in
+    let count = count-opened _ _ _ (c .before .before .before .before .before .before .before .count-in .ensures) _ (start .pre .0) in
     let number = c .before .before .before .before .number-at .ensures in
     first-holds _ _ _ (so (below-same _ _ _ _ (c .before .before .before .before .before .before .below-at .ensures) count) (c .before .before .before .before .before .if1 .left))
     (first-holds _ _ _ (so (name-class _ _ name _ number _ (c .before .before .before .has-class .ensures)) (c .before .before .if2 .left))

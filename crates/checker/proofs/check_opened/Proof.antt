@@ -7,8 +7,8 @@ use borrow.Author.Needs.{needs}
 use Rattle.sheet_rules.specs.declared.Checked.the-variants.{Passed, Shape, Static}
 use Rattle.sheet_rules.specs.Static.{static}
 use Rattle.sheet_rules.specs.Check.{shape, checkOf, checkCall}
-use Rattle.checker.proofs.check.Statement.{statement}
-use Rattle.checker.proofs.check.Tie as tie
+use Rattle.checker.proofs.check_opened.Statement.{statement}
+use Rattle.checker.proofs.check_opened.Tie as tie
 
 module _ (s : List ℕ) where
   no-shape : shape s ≡ false → (Shape ≡ checkOf s) × (1 ≡ checkCall s)
@@ -23,9 +23,6 @@ module _ (s : List ℕ) where
   unfolding checkOf checkCall
   passes e f = (rw (checkOf, e, f) refl, rw (checkCall, e, f) refl)
 
-directory-requires : tie.Need-directory-requires
-directory-requires c κs = search needs
-
 shaped-requires : tie.Need-shaped-requires
 shaped-requires c κs = search needs
 
@@ -36,16 +33,15 @@ rules-hold-requires : tie.Need-rules-hold-requires
 rules-hold-requires c κs = search needs
 
 returns-2 : tie.Need-returns-2
-returns-2 c = no-static _ (sym (c .before .before .before .before .shaped .ensures) ∙ not-false _ (c .before .before .before .if1 .left)) (sym (c .before .rules-hold .ensures) ∙ not-true _ (c .if2 .taken))
+returns-2 c = no-static _ (sym (c .before .before .before .shaped .ensures) ∙ not-false _ (c .before .before .if1 .left)) (sym (c .before .rules-hold .ensures) ∙ not-true _ (c .if2 .taken))
 
 returns-3 : tie.Need-returns-3
-returns-3 c = passes _ (sym (c .before .before .before .before .shaped .ensures) ∙ not-false _ (c .before .before .before .if1 .left)) (sym (c .before .rules-hold .ensures) ∙ not-false _ (c .if2 .left))
+returns-3 c = passes _ (sym (c .before .before .before .shaped .ensures) ∙ not-false _ (c .before .before .if1 .left)) (sym (c .before .rules-hold .ensures) ∙ not-false _ (c .if2 .left))
 
-pub check-spec : {M : Type 1} → statement M
-check-spec =
+pub check-opened-spec : {M : Type 1} → statement M
+check-opened-spec =
     tie.close
     (tie.spec
-    directory-requires
     shaped-requires
     returns
     rules-hold-requires
