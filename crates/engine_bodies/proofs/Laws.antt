@@ -144,7 +144,10 @@ module _ {s directory table : List ℕ} {st : List ℤ} {e n : ℕ} {c : Record}
         typed = ap (λ x. typeOf s (x .chart) (x .body) (root b)) context-is ∙ is-statement _ (and-second _ _ (and-second _ _ (and-second _ _ (body-static s ok n c (h .chart .there) b inside))));
       }
 
-      pub body-ran : (st′ lo lo′ : List ℤ) (limit : ℕ) (r : Ran) → lo ≡ localsOf s b zs → limit ≡ limitOf s → world r st′ lo′ ≡ runOf s 0 (contextAt s w) (root b) limit st lo → (r ≡ ranBody s e (recordOf s bodies number) zs st .ran) × (st′ ≡ ranBody s e (recordOf s bodies number) zs st .st)
+      abbrev Ended : Ran → List ℤ → Type 0
+      Ended r st′ = (r ≡ ranBody s e (recordOf s bodies number) zs st .ran) × (st′ ≡ ranBody s e (recordOf s bodies number) zs st .st)
+
+      pub body-ran : (st′ lo lo′ : List ℤ) (limit : ℕ) (r : Ran) → lo ≡ localsOf s b zs → limit ≡ limitOf s → world r st′ lo′ ≡ runOf s 0 (contextAt s w) (root b) limit st lo → Ended r st′
       body-ran st′ lo lo′ limit r l m g = (ap (λ w. w .ran) whole, ap (λ w. w .st) whole)
         where
           whole : world r st′ lo′ ≡ ranBody s e (recordOf s bodies number) zs st

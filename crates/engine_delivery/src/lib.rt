@@ -20,8 +20,8 @@ ghost use Rattle.machine.specs.Play.{ended, answer, elementBody, reacting, pani
 ghost use Rattle.machine_events.specs.Playing.{Playing};
 ghost use Rattle.engine_cells.specs.Cells.{CellTable, ChartAt};
 
-// The panic body of element e, whose chart c is number n.
-fn panics(
+// Runs the panic body of element e, whose chart c is number n.
+fn run_panic_body(
     sheet: &[u8],
     directory: &[usize; 16],
     cells: &[usize; 2176],
@@ -67,7 +67,7 @@ pub fn panicked(
         sheet_branches::never_taken();
         return answered(4, 0);
     };
-    panics(sheet, directory, cells, old, st, e, n, c)
+    run_panic_body(sheet, directory, cells, old, st, e, n, c)
 }
 
 // A telegram that was removed reaches a bound element.
@@ -110,7 +110,7 @@ fn deliver_to_element(
             &brought,
         );
     }
-    panics(sheet, directory, cells, old, st, e, n, c)
+    run_panic_body(sheet, directory, cells, old, st, e, n, c)
 }
 
 // Handed outside: no body runs.

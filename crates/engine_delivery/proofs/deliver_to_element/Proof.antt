@@ -110,8 +110,8 @@ returns-2 c =
     let ok = pre .0 .passed in
     as-delivered _ ok t (pre .2) (pre .3) (pre .4) _ receiver _ bound _ _ _ port name found below _ brought _ _ _ (c .before .event-body .ensures)
 
-panics-requires : tie.Need-panics-requires
-panics-requires c κs =
+run-panic-body-requires : tie.Need-run-panic-body-requires
+run-panic-body-requires c κs =
     let pre = c .before .before .before .before .before .before .before .before .before .before .before .before .before .before .before .before .pre in
     let is = c .before .before .before .before .before .before .before .before .before .c .given .1 in
     let there = sym (c .before .before .before .before .before .before .before .before .before .before .before .read .ensures) ∙ is in
@@ -135,7 +135,7 @@ returns-3 c =
     let bound = sym (c .before .before .before .before .before .before .before .before .before .before .before .before .before .before .chart-number .ensures) ∙ there in
     let found = c .before .before .before .before .before .reaction-on .ensures in
     let ok = pre .0 .passed in
-    none-delivered _ ok t (pre .2) (pre .3) (pre .4) _ receiver _ bound _ _ _ port name found (c .before .before .before .if1 .left) _ _ _ (c .before .panics .ensures)
+    none-delivered _ ok t (pre .2) (pre .3) (pre .4) _ receiver _ bound _ _ _ port name found (c .before .before .before .if1 .left) _ _ _ (c .before .run-panic-body .ensures)
 
 pub deliver-to-element-spec : {M : Type 1} → statement M
 deliver-to-element-spec =
@@ -158,6 +158,6 @@ deliver-to-element-spec =
     event-body-requires
     same-length
     returns-2
-    panics-requires
+    run-panic-body-requires
     same-length-2
     returns-3)

@@ -27,8 +27,8 @@ answered-requires c κs = search needs
 returns : tie.Need-returns
 returns c = absurd (c .before .never-taken .ensures)
 
-panics-requires : tie.Need-panics-requires
-panics-requires c κs =
+run-panic-body-requires : tie.Need-run-panic-body-requires
+run-panic-body-requires c κs =
     let pre = c .before .before .before .before .before .before .before .pre in
     let there = sym (c .before .before .before .before .read .ensures) ∙ c .before .before .c .given .1 in
     (pre .0, pre .1, pre .3, record { there = there; bound = sym (c .before .before .before .before .before .chart-number .ensures) ∙ there })
@@ -37,7 +37,7 @@ same-length : tie.Need-same-length
 same-length c = search needs
 
 returns-2 : tie.Need-returns-2
-returns-2 c = c .before .panics .ensures
+returns-2 c = c .before .run-panic-body .ensures
 
 pub panicked-spec : {M : Type 1} → statement M
 panicked-spec =
@@ -50,6 +50,6 @@ panicked-spec =
     never-taken-requires
     answered-requires
     returns
-    panics-requires
+    run-panic-body-requires
     same-length
     returns-2)

@@ -51,7 +51,8 @@ returns-2 : tie.Need-returns-2
 returns-2 c =
     let there = sym (c .before .before .before .before .before .before .before .before .before .read .ensures) ∙ c .before .before .before .before .before .before .before .c .given .1 in
     let x = chart-element _ _ _ (sym (c .before .before .before .before .before .before .before .before .before .before .chart-number .ensures) ∙ there) in
-    let e = initial-runs _ (c .before .before .before .before .before .before .before .before .before .before .before .before .pre .0 .passed) _ (x .0) _ (x .1) _ (c .before .before .before .before .before .with-role .ensures) _ in
+    let ok = c .before .before .before .before .before .before .before .before .before .before .before .before .pre .0 .passed in
+    let e = initial-runs _ ok _ (x .0) _ (x .1) _ (c .before .before .before .before .before .with-role .ensures) _ in
     let ran = c .before .run-body .ensures in
     (ran .0 ∙ ap (λ (w : World). w .ran) (sym e), ran .1 ∙ ap (λ (w : World). w .st) (sym e))
 

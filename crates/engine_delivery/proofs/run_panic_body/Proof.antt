@@ -1,7 +1,7 @@
 use borrow.Author.Needs.{needs}
 use Rattle.machine_events.proofs.Received.{panic-asked, as-panicking}
-use Rattle.engine_delivery.proofs.panics.Statement.{statement}
-use Rattle.engine_delivery.proofs.panics.Tie as tie
+use Rattle.engine_delivery.proofs.run_panic_body.Statement.{statement}
+use Rattle.engine_delivery.proofs.run_panic_body.Tie as tie
 
 with-role-requires : tie.Need-with-role-requires
 with-role-requires c κs = c .before .pre .0 .directory
@@ -26,8 +26,8 @@ returns c =
     let pre = c .before .before .before .before .before .before .before .pre in
     as-panicking _ (pre .0 .passed) _ _ (pre .3 .bound) _ (c .before .before .before .before .before .with-role .ensures) _ _ _ (c .before .event-body .ensures)
 
-pub panics-spec : {M : Type 1} → statement M
-panics-spec =
+pub run-panic-body-spec : {M : Type 1} → statement M
+run-panic-body-spec =
     tie.close
     (tie.spec
     with-role-requires
