@@ -58,6 +58,7 @@ pub fn mark_binding(
     ensures { λ x. ⌜ (k + x ≡ goneTo (now (sheet .entry)) k) × (x ≤ 2) × Marked count 0 (now (marks .entry)) (now (marks .exit)) (λ n. constantUses (now (sheet .entry)) n k) ⌝ }
 {
     let Found::Present(b) = sheet_reader::read(sheet, directory, 7, k) else {
+        sheet_branches::never_taken();
         return 0;
     };
     let total = sheet_fields::field_at(sheet, directory, 4, b.f0 as usize, 1);

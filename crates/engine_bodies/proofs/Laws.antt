@@ -9,7 +9,7 @@ use lib.IntN.{ℤ}
 use borrow.Author.Tests.{ltb-true, leb-true}
 use Rattle.sheet.specs.declared.Record.{Record}
 use Rattle.sheet.specs.declared.Found.the-variants.{Present}
-use Rattle.sheet.specs.Names.{charts, bodies, bindings, chartVariables, chartBodies, bodyParameters, bodyLocals, root, boundChart}
+use Rattle.sheet.specs.Names.{bodies, chartVariables, chartBodies, bodyParameters, bodyLocals, root}
 use Rattle.sheet.specs.Sheet.{recordOf}
 use Rattle.sheet.proofs.All.{and-first, and-second}
 use Rattle.machine.specs.declared.Answer.{Answer}
@@ -23,7 +23,6 @@ use Rattle.sheet_rules.specs.Shape.{chartShape, treeShape, bodyShape}
 use Rattle.sheet_rules.specs.Types.{typeOf}
 use Rattle.sheet_rules.specs.Static.{bodyStatic}
 use Rattle.machine.specs.Values.{inType, isBound, bindingAt, firstCell}
-use Rattle.machine.specs.Valid.{OfSheet}
 use Rattle.machine.specs.Eval.{Context}
 use Rattle.machine.specs.Run.{World, world, datum, localsOf, runOf}
 use Rattle.machine.specs.Play.{ended, answer, limitOf, ranBody, eventEnd, eventEndWithin, bodyEvent}
@@ -31,146 +30,183 @@ use Rattle.sheet_rules.specs.Check.{checkOf}
 use Rattle.machine_equations.proofs.Left.{RanWithin, run-left}
 use Rattle.machine_passed.specs.Places.{InChart, Element, Placed, Locals}
 use Rattle.machine_passed.proofs.Records.{one-record, chart-shape, body-shape, components-limit}
-use Rattle.machine_passed.proofs.Charts.{element-chart, body-static, body-tree}
+use Rattle.machine_passed.proofs.Charts.{element-chart, chart-element, body-static, body-tree}
 use Rattle.machine_sound.specs.Gives.{Ends}
 use Rattle.machine_sound.proofs.Locals.{few, fresh-locals}
 use Rattle.machine_sound.proofs.Run.{is-statement}
 use Rattle.machine_promise.proofs.Bodies.{ran-is, ran-ends}
 use Rattle.engine_ready.specs.Ready.{recordOr0, contextAt, Running, Ready, IsStatement}
 use Rattle.machine_events.specs.Called.{Called}
-use Rattle.engine_cells.specs.Cells.{CellTable}
+use Rattle.engine_bodies.specs.Bodies.{ToRun}
 
-module _ (s : List ℕ) (ok : checkOf s ≡ Passed) (e number : ℕ) (zs : List ℤ) (k : Called s e number zs) where
+-- the numbers of the body: row i of the table is the element's
+abbrev Numbers : List ℕ → ℕ → ℕ → ℕ → Record → ℕ → List ℕ → Type 0
+Numbers table e i n c number w =
+    (length w ≡ 38)
+    × (getD w 0 0 ≡ e)
+    × (getD w 1 0 ≡ getD table (34 * i + 33) 0)
+    × (getD w 2 0 ≡ n)
+    × (getD w 3 0 ≡ chartBodies c .first)
+    × (getD w 4 0 ≡ number)
+    × ((m : ℕ) → m ≤ chartVariables c .count → getD w (5 + m) 0 ≡ getD table (34 * i + m) 0)
+
+module _ {s directory table : List ℕ} {st : List ℤ} {e n : ℕ} {c : Record} {number : ℕ} {zs : List ℤ} (h : ToRun s directory table st e n c number zs) where
+  abbrev ok : checkOf s ≡ Passed
+  ok = h .playing .passed
+
+  abbrev called : Called s e number zs
+  called = h .called
+
   pub not-external : externalsOf s ≤ e
   unfolding isBound
-  not-external = leb-true _ _ (and-first _ _ (k .element .bound))
+  not-external = leb-true _ _ (and-first _ _ (called .element .bound))
 
   pub few-elements : e < 64
   unfolding isBound
-  few-elements = let h : e < componentsOf s = ltb-true _ _ (and-second _ _ (k .element .bound)) in omega (arith, components-limit s ok)
+  few-elements = let l : e < componentsOf s = ltb-true _ _ (and-second _ _ (called .element .bound)) in omega (arith, components-limit s ok)
 
-  pub body-there : recordOf s bodies number ≡ Present (k .body)
-  body-there = ap (recordOf s bodies) (k .at) ∙ k .inside .there
+  pub few-cells : chartVariables c .count ≤ 32
+  unfolding chartShape
+  few-cells = leb-true _ _ (and-first _ _ (and-second _ _ (and-second _ _ (and-second _ _ (chart-shape s ok n c (h .chart .there))))))
 
-  -- the element's row in the table
-  module _ (t : List ℕ) (table : CellTable s t) (i : ℕ) (at : i ≡ e - externalsOf s) (n : ℕ) (n-is : n ≡ getD t (34 * i + 33) 0) where
-    bound-at : n ≡ bindingAt s e
-    bound-at = n-is ∙ ap (λ i. getD t (34 * i + 33) 0) at ∙ table .binding e (k .chart) (element-chart s e (k .binding) (k .chart) (k .element))
+  pub body-there : recordOf s bodies number ≡ Present (called .body)
+  body-there = ap (recordOf s bodies) (called .at) ∙ called .inside .there
 
-    pub binding-there : recordOf s bindings n ≡ Present (k .binding)
-    binding-there = ap (recordOf s bindings) bound-at ∙ k .element .binding
+  same-chart : called .chart ≡ c
+  same-chart = one-record _ _ (sym (element-chart s e (called .binding) (called .chart) (called .element)) ∙ h .chart .bound)
 
-    -- the records that are read
-    module _ (b : Record) (is-b : recordOf s bindings n ≡ Present b) where
-      pub chart-there : recordOf s charts (boundChart b) ≡ Present (k .chart)
-      chart-there = ap (λ b. recordOf s charts (boundChart b)) (one-record _ _ (sym is-b ∙ binding-there)) ∙ k .element .chart
+  -- ---- where the body runs, its record read
 
-      module _ (c d : Record) (is-c : recordOf s charts (boundChart b) ≡ Present c) (is-d : recordOf s bodies number ≡ Present d) where
-        abbrev x : Context
-        x = record { element = e; chart = c; binding = n; body = d }
+  module _ (b : Record) (read : recordOf s bodies number ≡ Present b) where
+    abbrev x : Context
+    x = record { element = e; chart = c; binding = bindingAt s e; body = b }
 
-        same-body : k .body ≡ d
-        same-body = one-record _ _ (sym body-there ∙ is-d)
+    same-body : called .body ≡ b
+    same-body = one-record _ _ (sym body-there ∙ read)
 
-        element : Element s e b c
-        element = record { bound = k .element .bound; binding = ap (recordOf s bindings) (sym bound-at) ∙ is-b; chart = is-c }
+    element : (f : Record) × Element s e f c
+    element = chart-element s e c (h .chart .bound)
 
-        inside : InChart s c d
-        inside = subst (λ c. InChart s c d) (one-record _ _ (sym chart-there ∙ is-c)) (subst (λ d. InChart s (k .chart) d) same-body (k .inside))
+    inside : InChart s c b
+    inside = subst (λ c. InChart s c b) same-chart (subst (λ b. InChart s (called .chart) b) same-body (called .inside))
 
-        placed : Placed s x
-        placed = record { bound = b; element = element; binding = bound-at; body = inside }
+    placed : Placed s x
+    placed = record { bound = element .0; element = element .1; binding = refl; body = inside }
 
-        parameters : (j : ℕ) → j < bodyParameters d .count → inType s (typeAt s (bodyParameters d .first + j)) (datum zs j) ≡ true
-        parameters = subst (λ d. (j : ℕ) → j < bodyParameters d .count → inType s (typeAt s (bodyParameters d .first + j)) (datum zs j) ≡ true) same-body (k .parameters)
+    parameters : (j : ℕ) → j < bodyParameters b .count → inType s (typeAt s (bodyParameters b .first + j)) (datum zs j) ≡ true
+    parameters = subst (λ b. (j : ℕ) → j < bodyParameters b .count → inType s (typeAt s (bodyParameters b .first + j)) (datum zs j) ≡ true) same-body (called .parameters)
 
-        pub few-parameters : bodyParameters d .count ≤ 4
-        unfolding bodyShape
-        few-parameters = leb-true _ _ (and-first _ _ (and-second _ _ (and-second _ _ (and-second _ _ (body-shape s ok _ d is-d)))))
+    pub few-parameters : bodyParameters b .count ≤ 4
+    unfolding bodyShape
+    few-parameters = leb-true _ _ (and-first _ _ (and-second _ _ (and-second _ _ (and-second _ _ (body-shape s ok _ b read)))))
 
-        pub few-variables : bodyParameters d .count + bodyLocals d .count ≤ 16
-        few-variables = few s ok x placed
+    pub few-variables : bodyParameters b .count + bodyLocals b .count ≤ 16
+    few-variables = few s ok x placed
 
-        pub few-cells : chartVariables c .count ≤ 32
-        unfolding chartShape
-        few-cells = leb-true _ _ (and-first _ _ (and-second _ _ (and-second _ _ (and-second _ _ (chart-shape s ok _ c is-c)))))
+    -- its numbers
+    module _ (i : ℕ) (row : i ≡ e - externalsOf s) (w : List ℕ) (is : Numbers table e i n c number w) where
+      context-is : contextAt s w ≡ x
+      unfolding contextAt recordOr0
+      context-is =
+          let k : getD w 1 0 ≡ bindingAt s e = is .2 ∙ ap (λ i. getD table (34 * i + 33) 0) row ∙ h .table .binding e c (h .chart .bound) in
+          rw (contextAt, is .1, k, is .3, is .5, h .chart .there, read) refl
 
-        -- where the body runs, by its numbers
-        module _ (w : List ℕ) (is : (length w ≡ 38) × (getD w 0 0 ≡ e) × (getD w 1 0 ≡ n) × (getD w 2 0 ≡ boundChart b) × (getD w 3 0 ≡ chartBodies c .first) × (getD w 4 0 ≡ number) × ((m : ℕ) → m ≤ chartVariables c .count → getD w (5 + m) 0 ≡ getD t (34 * i + m) 0)) where
-          context-is : contextAt s w ≡ x
-          unfolding contextAt recordOr0
-          context-is = rw (contextAt, is .1, is .2, is .3, is .5, is-c, is-d) refl
+      abbrev chart-is : contextAt s w .chart ≡ c
+      chart-is = ap (λ x. x .chart) context-is
 
-          abbrev chart-is : contextAt s w .chart ≡ c
-          chart-is = ap (λ x. x .chart) context-is
+      cells : (m : ℕ) → m ≤ chartVariables c .count → getD w (5 + m) 0 ≡ firstCell s e + cellsBefore s c m
+      cells m l = is .6 m l ∙ ap (λ i. getD table (34 * i + m) 0) row ∙ h .table .right e c (h .chart .bound) m l
 
-          cells : (m : ℕ) → m ≤ chartVariables c .count → getD w (5 + m) 0 ≡ firstCell s e + cellsBefore s c m
-          cells m h = is .6 m h ∙ ap (λ i. getD t (34 * i + m) 0) at ∙ table .right e c (element-chart s e b c element) m h
+      same-cells : (m : ℕ) → firstCell s (getD w 0 0) + cellsBefore s (contextAt s w .chart) m ≡ firstCell s e + cellsBefore s c m
+      same-cells m = ap (λ e. firstCell s e + cellsBefore s (contextAt s w .chart) m) (is .1) ∙ ap (λ c. firstCell s e + cellsBefore s c m) chart-is
 
-          running : Running s w
-          running = record {
-            whole = is .0;
-            passed = ok;
-            placed = subst (Placed s) (sym context-is) placed;
-            cells = λ n h. cells n (subst (λ c. n ≤ chartVariables c .count) chart-is h) ∙ sym (ap (λ e. firstCell s e + cellsBefore s (contextAt s w .chart) n) (is .1) ∙ ap (λ c. firstCell s e + cellsBefore s c n) chart-is);
-            first = is .4 ∙ sym (ap (λ c. chartBodies c .first) chart-is);
-          }
+      running : Running s w
+      running = record {
+        whole = is .0;
+        passed = ok;
+        placed = subst (Placed s) (sym context-is) placed;
+        cells = λ m l. cells m (subst (λ c. m ≤ chartVariables c .count) chart-is l) ∙ sym (same-cells m);
+        first = is .4 ∙ sym (ap (λ c. chartBodies c .first) chart-is);
+      }
 
-          pub ready : (st lo : List ℤ) → OfSheet s st → lo ≡ localsOf s d zs → Ready s w st lo
-          ready st lo o l = record { running = running; state = o; locals = subst (Locals s (contextAt s w)) (sym l) (subst (λ x. Locals s x (localsOf s d zs)) (sym context-is) (fresh-locals s ok x placed zs parameters)) }
+      pub ready : (lo : List ℤ) → lo ≡ localsOf s b zs → Ready s w st lo
+      ready lo l = record {
+        running = running;
+        state = h .playing .state;
+        locals = subst (Locals s (contextAt s w)) (sym l) (subst (λ x. Locals s x (localsOf s b zs)) (sym context-is) (fresh-locals s ok x placed zs parameters));
+      }
 
-          pub root-statement : IsStatement s w (root d)
-          unfolding bodyStatic
-          root-statement = record {
-            levels = 64;
-            tree = ap (λ x. treeShape s (x .chart) (x .body) 64 (root d)) context-is ∙ body-tree s ok _ c is-c d inside;
-            typed = ap (λ x. typeOf s (x .chart) (x .body) (root d)) context-is ∙ is-statement _ (and-second _ _ (and-second _ _ (and-second _ _ (body-static s ok _ c is-c d inside))));
-          }
+      pub root-statement : IsStatement s w (root b)
+      unfolding bodyStatic
+      root-statement = record {
+        levels = 64;
+        tree = ap (λ x. treeShape s (x .chart) (x .body) 64 (root b)) context-is ∙ body-tree s ok n c (h .chart .there) b inside;
+        typed = ap (λ x. typeOf s (x .chart) (x .body) (root b)) context-is ∙ is-statement _ (and-second _ _ (and-second _ _ (and-second _ _ (body-static s ok n c (h .chart .there) b inside))));
+      }
 
-          pub body-ran : (st st′ lo lo′ : List ℤ) (limit : ℕ) (r : Ran) → lo ≡ localsOf s d zs → limit ≡ limitOf s → world r st′ lo′ ≡ runOf s 0 (contextAt s w) (root d) limit st lo → (r ≡ ranBody s e (recordOf s bodies number) zs st .ran) × (st′ ≡ ranBody s e (recordOf s bodies number) zs st .st)
-          body-ran st st′ lo lo′ limit r l m h = (ap (λ w. w .ran) whole, ap (λ w. w .st) whole)
-            where
-              y : Context
-              y = record { element = e; chart = c; binding = bindingAt s e; body = d }
+      abbrev Ended : Ran → List ℤ → Type 0
+      Ended r st′ = (r ≡ ranBody s e (recordOf s bodies number) zs st .ran) × (st′ ≡ ranBody s e (recordOf s bodies number) zs st .st)
 
-              here : x ≡ y
-              here = ap (λ n. record { element = e; chart = c; binding = n; body = d }) bound-at
+      pub body-ran : (st′ lo lo′ : List ℤ) (limit : ℕ) (r : Ran) → lo ≡ localsOf s b zs → limit ≡ limitOf s → world r st′ lo′ ≡ runOf s 0 (contextAt s w) (root b) limit st lo → Ended r st′
+      body-ran st′ lo lo′ limit r l m g = (ap (λ w. w .ran) whole, ap (λ w. w .st) whole)
+        where
+          whole : world r st′ lo′ ≡ ranBody s e (recordOf s bodies number) zs st
+          whole =
+              g
+              ∙ ap (λ x. runOf s 0 x (root b) limit st lo) context-is
+              ∙ ap (λ n. runOf s 0 x (root b) n st lo) m
+              ∙ ap (runOf s 0 x (root b) (limitOf s) st) l
+              ∙ sym (ran-is s ok e (element .0) c (element .1) b inside zs st)
+              ∙ sym (ap (λ f. ranBody s e f zs st) read)
 
-              whole : world r st′ lo′ ≡ ranBody s e (recordOf s bodies number) zs st
-              whole = h ∙ ap (λ x. runOf s 0 x (root d) limit st lo) context-is ∙ ap (λ x. runOf s 0 x (root d) limit st lo) here ∙ ap (λ n. runOf s 0 y (root d) n st lo) m ∙ ap (runOf s 0 y (root d) (limitOf s) st) l ∙ sym (ran-is s ok e b c element d inside zs st) ∙ sym (ap (λ f. ranBody s e f zs st) is-d)
+  -- ---- how a run of the body ends
 
-  -- how a run of the body ends
-  module _ (st : List ℤ) (o : OfSheet s st) where
-    abbrev ranWorld : World
-    ranWorld = ranBody s e (recordOf s bodies number) zs st
+  abbrev ranWorld : World
+  ranWorld = ranBody s e (recordOf s bodies number) zs st
 
-    abbrev y : Context
-    y = record { element = e; chart = k .chart; binding = bindingAt s e; body = k .body }
+  abbrev thenWorld : World
+  thenWorld = ranBody s e (Present (called .body)) zs st
 
-    ends : {r : Ran} → ranWorld .ran ≡ r → Ends s y r (ranBody s e (Present (k .body)) zs st .st) (ranBody s e (Present (k .body)) zs st .lo)
-    ends h = subst (λ r. Ends s y r (ranBody s e (Present (k .body)) zs st .st) (ranBody s e (Present (k .body)) zs st .lo)) (sym (ap (λ f. ranBody s e f zs st .ran) body-there) ∙ h) (ran-ends s ok e (k .binding) (k .chart) (k .element) (k .body) (k .inside) zs st o (k .parameters))
+  abbrev y : Context
+  y = record { element = e; chart = called .chart; binding = bindingAt s e; body = called .body }
 
-    pub not-stuck : ranWorld .ran ≡ Stuck → ⊥
-    not-stuck h = ends h
+  same-world : ranWorld ≡ thenWorld
+  same-world = ap (λ f. ranBody s e f zs st) body-there
 
-    left-within : RanWithin (limitOf s) (ranWorld .ran)
-    left-within = subst (λ w. RanWithin (limitOf s) (w .ran)) (sym (ap (λ f. ranBody s e f zs st) body-there ∙ ran-is s ok e (k .binding) (k .chart) (k .element) (k .body) (k .inside) zs st)) (run-left s 0 y (root (k .body)) (limitOf s) st (localsOf s (k .body) zs))
+  ends : {r : Ran} → ranWorld .ran ≡ r → Ends s y r (thenWorld .st) (thenWorld .lo)
+  ends g =
+      subst (λ r. Ends s y r (thenWorld .st) (thenWorld .lo)) (sym (ap (λ w. w .ran) same-world) ∙ g)
+      (ran-ends s ok e (called .binding) (called .chart) (called .element) (called .body) (called .inside) zs st (h .playing .state) (called .parameters))
 
-    pub done-left : (l : ℕ) → ranWorld .ran ≡ Done l → l ≤ limitOf s
-    done-left l h = let q : l < limitOf s = subst (RanWithin (limitOf s)) h left-within in omega arith
+  pub not-stuck : ranWorld .ran ≡ Stuck → ⊥
+  not-stuck g = ends g
 
-    pub refused-left : (n l : ℕ) → ranWorld .ran ≡ Refused n l → l ≤ limitOf s
-    refused-left n l h = subst (RanWithin (limitOf s)) h left-within
+  left-within : RanWithin (limitOf s) (ranWorld .ran)
+  left-within =
+      subst (λ w. RanWithin (limitOf s) (w .ran)) (sym (same-world ∙ ran-is s ok e (called .binding) (called .chart) (called .element) (called .body) (called .inside) zs st))
+      (run-left s 0 y (root (called .body)) (limitOf s) st (localsOf s (called .body) zs))
 
-    pub refused-some : (n l : ℕ) → ranWorld .ran ≡ Refused n l → n ≡ 0 → ⊥
-    refused-some n l h z = let q : 6 ≤ n = ends h .0 in omega arith
+  pub done-left : (l : ℕ) → ranWorld .ran ≡ Done l → l ≤ limitOf s
+  done-left l g = let q : l < limitOf s = subst (RanWithin (limitOf s)) g left-within in omega arith
 
-    -- the answer of an event
-    module _ (a : Answer) (old st′ : List ℤ) (l limit : ℕ) (m : limit ≡ limitOf s) where
-      pub done-event : a ≡ answer 0 (limit - l) Nothing → ranWorld .ran ≡ Done l → st′ ≡ ranWorld .st → ended a st′ ≡ bodyEvent s old e (recordOf s bodies number) zs st
-      unfolding eventEndWithin
-      done-event is h q = ap (λ a. ended a st′) (is ∙ ap (λ k. answer 0 (k - l) Nothing) m) ∙ ap (ended (answer 0 (limitOf s - l) Nothing)) q ∙ sym (ap (λ r. eventEnd s old r (ranWorld .st)) h)
+  pub refused-left : (m l : ℕ) → ranWorld .ran ≡ Refused m l → l ≤ limitOf s
+  refused-left m l g = subst (RanWithin (limitOf s)) g left-within
 
-      pub refused-event : (n : ℕ) → a ≡ answer n (limit - l) Nothing → ranWorld .ran ≡ Refused n l → st′ ≡ old → ended a st′ ≡ bodyEvent s old e (recordOf s bodies number) zs st
-      unfolding eventEndWithin
-      refused-event n is h q = ap (λ a. ended a st′) (is ∙ ap (λ k. answer n (k - l) Nothing) m) ∙ ap (ended (answer n (limitOf s - l) Nothing)) q ∙ sym (ap (λ r. eventEnd s old r (ranWorld .st)) h)
+  pub refused-some : (m l : ℕ) → ranWorld .ran ≡ Refused m l → m ≡ 0 → ⊥
+  refused-some m l g z = let q : 6 ≤ m = ends g .0 in omega arith
+
+  -- the answer of an event
+  module _ (a : Answer) (old st′ : List ℤ) (l limit : ℕ) (same : limit ≡ limitOf s) where
+    pub done-event : a ≡ answer 0 (limit - l) Nothing → ranWorld .ran ≡ Done l → st′ ≡ ranWorld .st → ended a st′ ≡ bodyEvent s old e (recordOf s bodies number) zs st
+    unfolding eventEndWithin
+    done-event is g q =
+        ap (λ a. ended a st′) (is ∙ ap (λ k. answer 0 (k - l) Nothing) same)
+        ∙ ap (ended (answer 0 (limitOf s - l) Nothing)) q
+        ∙ sym (ap (λ r. eventEnd s old r (ranWorld .st)) g)
+
+    pub refused-event : (m : ℕ) → a ≡ answer m (limit - l) Nothing → ranWorld .ran ≡ Refused m l → st′ ≡ old → ended a st′ ≡ bodyEvent s old e (recordOf s bodies number) zs st
+    unfolding eventEndWithin
+    refused-event m is g q =
+        ap (λ a. ended a st′) (is ∙ ap (λ k. answer m (k - l) Nothing) same)
+        ∙ ap (ended (answer m (limitOf s - l) Nothing)) q
+        ∙ sym (ap (λ r. eventEnd s old r (ranWorld .st)) g)

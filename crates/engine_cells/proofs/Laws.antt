@@ -11,7 +11,8 @@ use lib.Seq.{getD-set-same, getD-set-other}
 use borrow.Author.Tests.{leb-true, ltb-true}
 use Rattle.sheet.specs.declared.Record.{Record}
 use Rattle.sheet.specs.declared.Found.the-variants.{Present, Absent}
-use Rattle.sheet.specs.Names.{boundChart, chartParameters, chartVariables}
+use Rattle.sheet.specs.Names.{charts, bindings, boundChart, chartParameters, chartVariables}
+use Rattle.sheet.specs.Sheet.{recordOf}
 use Rattle.sheet.proofs.All.{true-false, and-first, and-second}
 use Rattle.sheet_rules.specs.declared.Checked.the-variants.{Passed}
 use Rattle.sheet_rules.specs.Fields.{fieldOf, fieldAt, sumBelow, componentsOf, externalsOf, elementsOf}
@@ -19,7 +20,7 @@ use Rattle.sheet_rules.specs.Bindings.{recordsFor, chartBound, behind, firstBin
 use Rattle.sheet_rules.specs.Indices.{cellsTaken, cellsBefore}
 use Rattle.sheet_rules.specs.Shape.{chartShape, cellsBound, cellsOf}
 use Rattle.sheet_rules.specs.Check.{checkOf}
-use Rattle.sheet_rules.proofs.Fields.{holds-present, holds-absent, sum-more}
+use Rattle.sheet_rules.proofs.Fields.{holds-present, holds-absent, number-present, sum-more}
 use Rattle.sheet_rules.proofs.Bindings.{behind-chart, first-next}
 use Rattle.machine.specs.Values.{isBound, bindingAt, chartOf, firstCell}
 use Rattle.machine_passed.proofs.Records.{elements-rest, components-limit, two-externals, chart-shape, one-record}
@@ -58,16 +59,13 @@ module _ (s : List ℕ) (ok : checkOf s ≡ Passed) where
     unfolding isBound
     row-below = (leb-true _ _ (and-first _ _ h), (let l : e < componentsOf s = ltb-true _ _ (and-second _ _ h) in omega (arith, components-limit s ok)))
 
-    pub row-chart : (t : List ℕ) → CellTable s t → (k : ℕ) → k ≡ getD t (34 * (e - externalsOf s) + 33) 0 → chartBound s k ≡ chartOf s e
-    row-chart t table k q = let x = bound-element s ok e h in ap (chartBound s) (q ∙ table .binding e (x .1) (element-chart s e (x .0) (x .1) (x .2))) ∙ chart-of s e h
-
-  -- row i has the number of its element's first binding record
-  pub row-binding : (t : List ℕ) → CellTable s t → (i : ℕ) → i < elementsOf s → getD t (34 * i + 33) 0 ≡ firstBinding s i
-  unfolding bindingAt
-  row-binding t table i l =
-      let x = bound-element s ok (externalsOf s + i) (number-bound s i l) in
-      let a : externalsOf s + i - externalsOf s ≡ i = omega arith in
-      rw a at (table .binding (externalsOf s + i) (x .1) (element-chart s (externalsOf s + i) (x .0) (x .1) (x .2)))
+    pub row-chart : (t : List ℕ) → CellTable s t → (i n : ℕ) → i ≡ e - externalsOf s → n ≡ fieldAt s bindings (getD t (34 * i + 33) 0) 0 → recordOf s charts n ≡ chartOf s e
+    unfolding fieldAt fieldOf
+    row-chart t table i n row is =
+        let x = bound-element s ok e h in
+        let chart = element-chart s e (x .0) (x .1) (x .2) in
+        let k = ap (λ i. getD t (34 * i + 33) 0) row ∙ table .binding e (x .1) chart in
+        ap (recordOf s charts) (is ∙ number-present _ (x .0) _ (ap (recordOf s bindings) k ∙ x .2 .binding)) ∙ x .2 .chart ∙ sym chart
 
   -- element i among those bound, whose first binding record is k
   module _ (i k : ℕ) (l : i < elementsOf s) (at : k ≡ firstBinding s i) where
@@ -81,7 +79,8 @@ module _ (s : List ℕ) (ok : checkOf s ≡ Passed) where
     pub bound-there : chartBound s k ≡ Absent → ⊥
     bound-there q =
         let x = bound-element s ok (externalsOf s + i) is-bound in
-        true-false (holds-present (chartOf s (externalsOf s + i)) (x .1) (λ c. true) (element-chart s (externalsOf s + i) (x .0) (x .1) (x .2))) (holds-absent (chartOf s (externalsOf s + i)) (λ c. true) (sym bound-is ∙ q))
+        let there = element-chart s (externalsOf s + i) (x .0) (x .1) (x .2) in
+        true-false (holds-present _ (x .1) (λ c. true) there) (holds-absent _ (λ c. true) (sym bound-is ∙ q))
 
     module _ (c : Record) (p : chartBound s k ≡ Present c) where
       pub bound-chart : chartOf s (externalsOf s + i) ≡ Present c
@@ -148,8 +147,15 @@ module _ (s : List ℕ) (ok : checkOf s ≡ Passed) where
   rows-more i k cell c t t′ l at p q h r = record {
     size = length-set t′ (34 * i + 33) k ∙ h .size;
     right = λ j d m e n b. elim (ℕ-discrete j i) [
-      | yes z ↦ (let same : d ≡ c = one-record d c (sym e ∙ ap (λ j. chartBound s (firstBinding s j)) z ∙ ap (chartBound s) (sym at) ∙ p) in let small = chart-variables s ok (externalsOf s + i) c (bound-chart s ok i k l at c p) in let f : n < chartVariables c .count + 1 = omega (arith, ap (λ (c : Record). chartVariables c .count) same) in rw (z, same, sym q) (getD-set-other t′ (34 * i + 33) (34 * i + n) k 0 (λ g. omega arith) ∙ h .new n f))
-      | no z ↦ (let small = chart-variables s ok (externalsOf s + j) d (bound-chart s ok j (firstBinding s j) (omega arith) refl d e) in getD-set-other t′ (34 * i + 33) (34 * j + n) k 0 (λ g. omega arith) ∙ h .old (34 * j + n) (omega arith) ∙ r .right j d (omega arith) e n b)
+      | yes z ↦ (
+          let same : d ≡ c = one-record d c (sym e ∙ ap (λ j. chartBound s (firstBinding s j)) z ∙ ap (chartBound s) (sym at) ∙ p) in
+          let small = chart-variables s ok (externalsOf s + i) c (bound-chart s ok i k l at c p) in
+          let f : n < chartVariables c .count + 1 = omega (arith, ap (λ (c : Record). chartVariables c .count) same) in
+          rw (z, same, sym q) (getD-set-other t′ (34 * i + 33) (34 * i + n) k 0 (λ g. omega arith) ∙ h .new n f))
+      | no z ↦ (
+          let small = chart-variables s ok (externalsOf s + j) d (bound-chart s ok j (firstBinding s j) (omega arith) refl d e) in
+          let kept = getD-set-other t′ (34 * i + 33) (34 * j + n) k 0 (λ g. omega arith) ∙ h .old (34 * j + n) (omega arith) in
+          kept ∙ r .right j d (omega arith) e n b)
     ];
     binding = λ j m. elim (ℕ-discrete j i) [
       | yes z ↦ rw z (getD-set-same t′ (34 * i + 33) k 0 (omega (arith, h .size, bound-below s ok)) ∙ at)

@@ -5,7 +5,8 @@ use mathlib.Core.List.{List}
 use lib.ListN.{length, getD}
 use Rattle.sheet.specs.declared.Record.{Record}
 use Rattle.sheet.specs.declared.Found.the-variants.{Present}
-use Rattle.sheet.specs.Names.{chartVariables}
+use Rattle.sheet.specs.Names.{charts, chartVariables}
+use Rattle.sheet.specs.Sheet.{recordOf}
 use Rattle.sheet_rules.specs.Fields.{externalsOf}
 use Rattle.sheet_rules.specs.Indices.{cellsBefore}
 use Rattle.machine.specs.Values.{bindingAt, chartOf, firstCell}
@@ -23,3 +24,8 @@ pub record Row (s : List ℕ) (c : Record) (at cell n : ℕ) (t t′ : List ℕ)
   pub size : length t′ ≡ 2176
   pub new : (m : ℕ) → m < n → getD t′ (at + m) 0 ≡ cell + cellsBefore s c m
   pub old : (m : ℕ) → m < at → getD t′ m 0 ≡ getD t m 0
+
+-- the chart of element e is c, number n of the charts
+pub record ChartAt (s : List ℕ) (e n : ℕ) (c : Record) : Type 0 where
+  pub there : recordOf s charts n ≡ Present c
+  pub bound : chartOf s e ≡ Present c

@@ -7,7 +7,7 @@ ghost use mathlib.Core.Bool.{true};
 ghost use Prim.Native.Nat.{_+_, _<_, _≤_};
 ghost use lib.ListN.{length};
 ghost use Rattle.sheet.specs.Names.{chartVariables};
-ghost use Rattle.sheet.specs.Sheet.{directoryOf};
+ghost use Rattle.sheet.specs.Sheet.{directoryOf, recordOf};
 ghost use Rattle.sheet_rules.specs.declared.Checked.the-variants.{Passed};
 ghost use Rattle.sheet_rules.specs.Fields.{elementsOf};
 ghost use Rattle.sheet_rules.specs.Indices.{cellsBefore};
@@ -26,15 +26,24 @@ pub fn elements(sheet: &[u8], directory: &[usize; 16]) -> usize
 }
 
 // Where in a row the number of the element's first binding record stands.
-pub const BINDING: usize = 33;
+pub const FIRST_RECORD: usize = 33;
+
+// The number of bound element e's chart, which the first record of its row names.
+pub fn chart_number(sheet: &[u8], directory: &[usize; 16], cells: &[usize; 2176], e: usize) -> usize
+    requires { ⌜ (now directory ≡ directoryOf (now sheet)) × (checkOf (now sheet) ≡ Passed) × CellTable (now sheet) (now cells) × (isBound (now sheet) e ≡ true) ⌝ }
+    ensures { λ n. ⌜ recordOf (now (sheet .entry)) 4 n ≡ chartOf (now (sheet .entry)) e ⌝ }
+{
+    let i = e - sheet_fields::field_at(sheet, directory, 0, 0, 1);
+    sheet_fields::field_at(sheet, directory, 7, cells[34 * i + FIRST_RECORD], 0)
+}
 
 // The chart of bound element e, by its row.
 pub fn chart_of(sheet: &[u8], directory: &[usize; 16], cells: &[usize; 2176], e: usize) -> Found
     requires { ⌜ (now directory ≡ directoryOf (now sheet)) × (checkOf (now sheet) ≡ Passed) × CellTable (now sheet) (now cells) × (isBound (now sheet) e ≡ true) ⌝ }
     ensures { λ c. ⌜ c ≡ chartOf (now (sheet .entry)) e ⌝ }
 {
-    let i = e - sheet_fields::field_at(sheet, directory, 0, 0, 1);
-    sheet_bindings::chart_bound(sheet, directory, cells[34 * i + BINDING])
+    let n = chart_number(sheet, directory, cells, e);
+    sheet_reader::read(sheet, directory, 4, n)
 }
 
 // Enters the cells of chart c's variables from place `at` on, the first one's being given, and gives
@@ -75,10 +84,11 @@ pub fn fill(sheet: &[u8], directory: &[usize; 16], cells: &mut [usize; 2176]) ->
     let mut i: usize = 0;
     while i < count {
         let Found::Present(c) = sheet_bindings::chart_bound(sheet, directory, k) else {
+            sheet_branches::never_taken();
             return cell;
         };
         cell = fill_row(sheet, directory, cells, c, 34 * i, cell);
-        cells[34 * i + BINDING] = k;
+        cells[34 * i + FIRST_RECORD] = k;
         k += sheet_bindings::records_for(c.f1);
         i += 1;
     }

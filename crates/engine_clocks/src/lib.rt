@@ -1,5 +1,4 @@
 // A time slice: clocks in state order, one pass.
-use engine_cells::BINDING;
 use sheet::Found;
 use sheet::Record;
 ghost use mathlib.Core.Path.{_≡_};
@@ -75,7 +74,7 @@ fn slice_cells(
     0
 }
 
-// A slice: 0 with the state after it, or 6 or 8 with a state that is of no use.
+// A slice: 0 with the state after it, or 6, 8 or 12 with a state that is of no use.
 pub fn slice(sheet: &[u8], directory: &[usize; 16], cells: &[usize; 2176], st: &mut [i32]) -> u8
     requires { ⌜ (now directory ≡ directoryOf (now sheet)) × (checkOf (now sheet) ≡ Passed) × CellTable (now sheet) (now cells) × OfSheet (now sheet) (now st) ⌝ }
     ensures { λ n. ⌜ slicedFrom (now (sheet .entry)) (elementsOf (now (sheet .entry))) (externalsOf (now (sheet .entry))) (now (st .entry)) ≡ changedTo n (now (st .exit)) ⌝ }
@@ -84,8 +83,8 @@ pub fn slice(sheet: &[u8], directory: &[usize; 16], cells: &[usize; 2176], st: &
     let count = engine_cells::elements(sheet, directory);
     let mut i: usize = 0;
     while i < count {
-        let k = cells[34 * i + BINDING];
-        let Found::Present(c) = sheet_bindings::chart_bound(sheet, directory, k) else {
+        let Found::Present(c) = engine_cells::chart_of(sheet, directory, cells, first + i) else {
+            sheet_branches::never_taken();
             return 4;
         };
         let n = slice_cells(sheet, directory, cells, st, first + i, c, 34 * i);

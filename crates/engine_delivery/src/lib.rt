@@ -5,6 +5,7 @@ use machine::Answer;
 use machine::Handed;
 use machine::Telegram;
 use sheet::Found;
+use sheet::Record;
 ghost use mathlib.Core.Bool.{true, false};
 ghost use mathlib.Core.Path.{_≡_};
 ghost use lib.IntN.{natAbs};
@@ -17,9 +18,39 @@ ghost use Rattle.machine.specs.State.{isInternal};
 ghost use Rattle.machine.specs.Valid.{telegramFits};
 ghost use Rattle.machine.specs.Play.{ended, answer, elementBody, reacting, panicking, delivered};
 ghost use Rattle.machine_events.specs.Playing.{Playing};
-ghost use Rattle.engine_cells.specs.Cells.{CellTable};
+ghost use Rattle.engine_cells.specs.Cells.{CellTable, ChartAt};
 
-// The panic body of element e, whose chart is c.
+// Runs the panic body of element e, whose chart c is number n.
+fn run_panic_body(
+    sheet: &[u8],
+    directory: &[usize; 16],
+    cells: &[usize; 2176],
+    old: &[i32],
+    st: &mut [i32],
+    e: usize,
+    n: usize,
+    c: Record,
+) -> Answer
+    requires { ⌜ Playing (now sheet) (now directory) (now st) × (length (now old) ≡ length (now st)) × CellTable (now sheet) (now cells) × ChartAt (now sheet) e n c ⌝ }
+    ensures { λ a. ⌜ ended a (now (st .exit)) ≡ panicking (now (sheet .entry)) (now (old .entry)) e (now (st .entry)) ⌝ }
+{
+    let j = engine_finders::with_role(sheet, directory, c, 1);
+    let none = [0i32; 4];
+    engine_bodies::event_body(
+        sheet,
+        directory,
+        cells,
+        old,
+        st,
+        e,
+        n,
+        c,
+        c.f4 as usize + j,
+        &none,
+    )
+}
+
+// 3: "as 2 with bound r, but the panic body runs": that of element e.
 pub fn panicked(
     sheet: &[u8],
     directory: &[usize; 16],
@@ -31,25 +62,16 @@ pub fn panicked(
     requires { ⌜ Playing (now sheet) (now directory) (now st) × (length (now old) ≡ length (now st)) × (isBound (now sheet) e ≡ true) × CellTable (now sheet) (now cells) ⌝ }
     ensures { λ a. ⌜ ended a (now (st .exit)) ≡ panicking (now (sheet .entry)) (now (old .entry)) e (now (st .entry)) ⌝ }
 {
-    let Found::Present(c) = engine_cells::chart_of(sheet, directory, cells, e) else {
+    let n = engine_cells::chart_number(sheet, directory, cells, e);
+    let Found::Present(c) = sheet_reader::read(sheet, directory, 4, n) else {
+        sheet_branches::never_taken();
         return answered(4, 0);
     };
-    let j = engine_finders::with_role(sheet, directory, c, 1);
-    let none = [0i32; 4];
-    engine_bodies::event_body(
-        sheet,
-        directory,
-        cells,
-        old,
-        st,
-        e,
-        c.f4 as usize + j,
-        &none,
-    )
+    run_panic_body(sheet, directory, cells, old, st, e, n, c)
 }
 
 // A telegram that was removed reaches a bound element.
-fn received(
+fn deliver_to_element(
     sheet: &[u8],
     directory: &[usize; 16],
     cells: &[usize; 2176],
@@ -61,7 +83,9 @@ fn received(
     ensures { λ a. ⌜ ended a (now (st .exit)) ≡ delivered (now (sheet .entry)) (now (old .entry)) t (now (st .entry)) ⌝ }
 {
     let e = engine_valid_words::number(t.receiver);
-    let Found::Present(c) = engine_cells::chart_of(sheet, directory, cells, e) else {
+    let n = engine_cells::chart_number(sheet, directory, cells, e);
+    let Found::Present(c) = sheet_reader::read(sheet, directory, 4, n) else {
+        sheet_branches::never_taken();
         return answered(4, 0);
     };
     let j = engine_finders::reaction_on(
@@ -80,11 +104,13 @@ fn received(
             old,
             st,
             e,
+            n,
+            c,
             c.f4 as usize + j,
             &brought,
         );
     }
-    panicked(sheet, directory, cells, old, st, e)
+    run_panic_body(sheet, directory, cells, old, st, e, n, c)
 }
 
 // Handed outside: no body runs.
@@ -114,7 +140,7 @@ pub fn delivers(
     if engine_valid_words::is_below(t.receiver, engine_valid_values::externals(sheet, directory)) {
         return handed(t);
     }
-    received(sheet, directory, cells, old, st, t)
+    deliver_to_element(sheet, directory, cells, old, st, t)
 }
 
 // 4: an internal telegram that was removed: "its reaction runs"
@@ -130,7 +156,9 @@ pub fn reacts(
     ensures { λ a. ⌜ ended a (now (st .exit)) ≡ reacting (now (sheet .entry)) (now (old .entry)) (natAbs (t .receiver)) (elementBody (now (sheet .entry)) (natAbs (t .receiver)) (reactsTo (natAbs (t .name)))) t (now (st .entry)) ⌝ }
 {
     let e = engine_valid_words::number(t.receiver);
-    let Found::Present(c) = engine_cells::chart_of(sheet, directory, cells, e) else {
+    let n = engine_cells::chart_number(sheet, directory, cells, e);
+    let Found::Present(c) = sheet_reader::read(sheet, directory, 4, n) else {
+        sheet_branches::never_taken();
         return answered(4, 0);
     };
     let j = engine_finders::reaction_to(sheet, directory, c, engine_valid_words::number(t.name));
@@ -142,6 +170,8 @@ pub fn reacts(
         old,
         st,
         e,
+        n,
+        c,
         c.f4 as usize + j,
         &brought,
     )

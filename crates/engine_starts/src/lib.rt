@@ -13,7 +13,7 @@ ghost use Rattle.sheet_rules.specs.declared.Checked.the-variants.{Passed};
 ghost use Rattle.machine.specs.declared.Handed.the-variants.{Nothing};
 ghost use Rattle.machine.specs.Values.{isBound};
 ghost use Rattle.machine.specs.State.{stateLength};
-ghost use Rattle.machine.specs.Play.{ended, answer, isInitial, elementBody, alone, ranBody, started};
+ghost use Rattle.machine.specs.Play.{ended, answer, limitOf, isInitial, elementBody, alone, ranBody, started};
 ghost use Rattle.sheet_rules.specs.Check.{checkOf};
 ghost use Rattle.machine_events.specs.Playing.{Playing};
 ghost use Rattle.engine_cells.specs.Cells.{CellTable};
@@ -25,16 +25,30 @@ fn initial(
     cells: &[usize; 2176],
     st: &mut [i32],
     e: usize,
+    limit: u32,
 ) -> Ran
-    requires { ⌜ Playing (now sheet) (now directory) (now st) × (isBound (now sheet) e ≡ true) × CellTable (now sheet) (now cells) ⌝ }
+    requires { ⌜ Playing (now sheet) (now directory) (now st) × (isBound (now sheet) e ≡ true) × CellTable (now sheet) (now cells) × (limit ≡ limitOf (now sheet)) ⌝ }
     ensures { λ r. ⌜ (r ≡ ranBody (now (sheet .entry)) e (alone (elementBody (now (sheet .entry)) e isInitial)) [] (now (st .entry)) .ran) × (now (st .exit) ≡ ranBody (now (sheet .entry)) e (alone (elementBody (now (sheet .entry)) e isInitial)) [] (now (st .entry)) .st) ⌝ }
 {
-    let Found::Present(c) = engine_cells::chart_of(sheet, directory, cells, e) else {
+    let n = engine_cells::chart_number(sheet, directory, cells, e);
+    let Found::Present(c) = sheet_reader::read(sheet, directory, 4, n) else {
+        sheet_branches::never_taken();
         return Ran::Stuck;
     };
     let j = engine_finders::with_role(sheet, directory, c, 0);
     let none = [0i32; 4];
-    engine_bodies::run_body(sheet, directory, cells, st, e, c.f4 as usize + j, &none)
+    engine_bodies::run_body(
+        sheet,
+        directory,
+        cells,
+        st,
+        e,
+        n,
+        c,
+        c.f4 as usize + j,
+        &none,
+        limit,
+    )
 }
 
 // "after 6 to 10 its state is all zeros", and after 11 and 12
@@ -62,7 +76,7 @@ pub fn from_defaults(
     let mut steps: u32 = 0;
     let mut i: usize = 0;
     while i < count {
-        let r = initial(sheet, directory, cells, st, first + i);
+        let r = initial(sheet, directory, cells, st, first + i, most);
         match r {
             Ran::Done { left } => {
                 steps += most - left;
@@ -71,6 +85,7 @@ pub fn from_defaults(
                 return refused(st, number, steps + (most - left));
             }
             Ran::Stuck => {
+                sheet_branches::never_taken();
                 return answered(4, 0);
             }
         }

@@ -35,7 +35,11 @@ loop-less : tie.Need-loop-less Inv-loop μ-loop
 loop-less c = search needs
 
 loop-again : tie.Need-loop-again Inv-loop μ-loop
-loop-again c = (omega arith, loop-more _ _ _ _ _ (constantTurn _) (c .before .before .before .before .before .before .loop .j) (c .before .before .before .before .before .before .loop .inv .1) (marked-as _ _ _ _ _ _ (λ m l. ap (λ (x : ℕ). oneIf (eqb x m)) (c .before .before .before .field .ensures .0)) (c .before .before .mark .ensures)))
+loop-again c =
+    let loop = c .before .before .before .before .before .before .loop in
+    let field = c .before .before .before .field .ensures .0 in
+    let marked = marked-as _ _ _ _ _ _ (λ m l. ap (λ (x : ℕ). oneIf (eqb x m)) field) (c .before .before .mark .ensures) in
+    (omega arith, loop-more _ _ _ _ _ (constantTurn _) (loop .j) (loop .inv .1) marked)
 
 same-length : tie.Need-same-length Inv-loop μ-loop
 same-length c = c .before .loop .inv .1 .kept .long

@@ -26,7 +26,11 @@ same-length : tie.Need-same-length
 same-length c = c .before .before .mark-constants .ensures .kept .long
 
 returns-2 : tie.Need-returns-2
-returns-2 c = over-present _ _ _ _ _ _ (λ (b : Record) (m : ℕ). constantsNamed b (c .before .before .before .before .before .before .before .before .before .before .args .n) m) (sym (c .before .before .before .before .before .before .before .read .ensures) ∙ c .before .before .before .before .before .b .given .1) (c .before .before .mark-constants .ensures)
+returns-2 c =
+    let n = c .before .before .before .before .before .before .before .before .before .before .args .n in
+    let is = c .before .before .before .before .before .b .given .1 in
+    let there = sym (c .before .before .before .before .before .before .before .read .ensures) ∙ is in
+    over-present _ _ _ _ _ _ (λ (b : Record) (m : ℕ). constantsNamed b n m) there (c .before .before .mark-constants .ensures)
 
 pub mark-second-spec : {M : Type 1} → statement M
 mark-second-spec =

@@ -44,7 +44,8 @@ add-next c =
     let l = c .before .before .loop-test .taken in
     let b = c .before .before .before .before .before .before .pre .4 in
     let e = c .before .before .before .loop .inv .1 in
-    record { fits = omega (arith, c .cells-taken .ensures .0, variable-cells (c .before .before .before .before .before .before .args .sheet .now) (c .before .before .before .before .before .before .args .c) (c .before .before .before .loop .n) _ l) }
+    let a = c .before .before .before .before .before .before .args in
+    record { fits = omega (arith, c .cells-taken .ensures .0, variable-cells (a .sheet .now) (a .c) (c .before .before .before .loop .n) _ l) }
 
 add-n : tie.Need-add-n Inv-loop μ-loop
 add-n c = search needs
@@ -58,7 +59,8 @@ loop-again c =
     let b = c .before .before .before .before .before .before .pre .2 in
     let k = c .before .before .before .before .before .before .pre .3 in
     let e = c .before .before .before .loop .inv .1 in
-    (omega arith, next-cell _ (c .before .before .before .before .before .before .args .c) _ _ _ _ e (c .cells-taken .ensures .0), row-more _ _ _ _ _ _ _ _ (omega arith) e (c .before .before .before .loop .inv .2))
+    let next = next-cell _ (c .before .before .before .before .before .before .args .c) _ _ _ _ e (c .cells-taken .ensures .0) in
+    (omega arith, next, row-more _ _ _ _ _ _ _ _ (omega arith) e (c .before .before .before .loop .inv .2))
 
 add-cells-2 : tie.Need-add-cells-2 Inv-loop μ-loop
 add-cells-2 c = search needs

@@ -18,16 +18,25 @@ handed-requires : tie.Need-handed-requires
 handed-requires c κs = search needs
 
 returns : tie.Need-returns
-returns c = ap (λ a. ended a (c .before .before .before .before .before .before .args .st .now)) (c .handed .ensures) ∙ sym (handed-outside _ (c .before .before .before .before .before .before .args .old .now) (c .before .before .before .before .before .before .args .t) _ (ap (λ z. isBelow z (externalsOf (c .before .before .before .before .before .before .args .sheet .now))) (sym (given (c .before .before .before .before .before .before .args .t .receiver) (c .before .before .before .struct-told .given .1 .0 .1))) ∙ ap (isBelow _) (sym (c .before .before .before .before .externals .ensures .0)) ∙ sym (c .before .before .is-below .ensures) ∙ c .before .if1 .taken))
+returns c =
+    let a = c .before .before .before .before .before .before .args in
+    let word = ap (λ z. isBelow z (externalsOf (a .sheet .now))) (sym (given (a .t .receiver) (c .before .before .before .struct-told .given .1 .0 .1))) in
+    let below = word ∙ ap (isBelow _) (sym (c .before .before .before .before .externals .ensures .0)) ∙ sym (c .before .before .is-below .ensures) ∙ c .before .if1 .taken in
+    ap (λ x. ended x (a .st .now)) (c .handed .ensures) ∙ sym (handed-outside _ (a .old .now) (a .t) _ below)
 
-received-requires : tie.Need-received-requires
-received-requires c κs = (c .before .before .before .before .before .before .pre .0, c .before .before .before .before .before .before .pre .1, c .before .before .before .before .before .before .pre .2, c .before .before .before .before .before .before .pre .3, ap (λ z. isBelow z (externalsOf (c .before .before .before .before .before .before .args .sheet .now))) (sym (given (c .before .before .before .before .before .before .args .t .receiver) (c .before .before .before .struct-told .given .1 .0 .1))) ∙ ap (isBelow _) (sym (c .before .before .before .before .externals .ensures .0)) ∙ sym (c .before .before .is-below .ensures) ∙ c .before .if1 .left, c .before .before .before .before .before .before .pre .4)
+deliver-to-element-requires : tie.Need-deliver-to-element-requires
+deliver-to-element-requires c κs =
+    let a = c .before .before .before .before .before .before .args in
+    let pre = c .before .before .before .before .before .before .pre in
+    let word = ap (λ z. isBelow z (externalsOf (a .sheet .now))) (sym (given (a .t .receiver) (c .before .before .before .struct-told .given .1 .0 .1))) in
+    let far = word ∙ ap (isBelow _) (sym (c .before .before .before .before .externals .ensures .0)) ∙ sym (c .before .before .is-below .ensures) ∙ c .before .if1 .left in
+    (pre .0, pre .1, pre .2, pre .3, far, pre .4)
 
 same-length : tie.Need-same-length
 same-length c = search needs
 
 returns-2 : tie.Need-returns-2
-returns-2 c = c .before .received .ensures
+returns-2 c = c .before .deliver-to-element .ensures
 
 pub delivers-spec : {M : Type 1} → statement M
 delivers-spec =
@@ -37,6 +46,6 @@ delivers-spec =
     is-below-requires
     handed-requires
     returns
-    received-requires
+    deliver-to-element-requires
     same-length
     returns-2)

@@ -1,12 +1,14 @@
 use mathlib.Core.Path.{sym, _∙_}
 use borrow.Author.Needs.{needs}
 use Rattle.machine_events.proofs.Called.{has-chart}
-use Rattle.machine_events.proofs.Received.{panic-asked, as-panicking}
 use Rattle.engine_delivery.proofs.panicked.Statement.{statement}
 use Rattle.engine_delivery.proofs.panicked.Tie as tie
 
-chart-of-requires : tie.Need-chart-of-requires
-chart-of-requires c κs = search needs
+chart-number-requires : tie.Need-chart-number-requires
+chart-number-requires c κs = (c .before .pre .0 .directory, c .before .pre .0 .passed, c .before .pre .3, c .before .pre .2)
+
+read-requires : tie.Need-read-requires
+read-requires c κs = c .before .before .pre .0 .directory
 
 enum-known-c : tie.Need-enum-known-c
 enum-known-c c = search needs
@@ -14,42 +16,40 @@ enum-known-c c = search needs
 enum-told : tie.Need-enum-told
 enum-told c = search needs
 
+never-taken-requires : tie.Need-never-taken-requires
+never-taken-requires c κs =
+    let pre = c .before .before .before .before .before .pre in
+    has-chart _ (pre .0 .passed) _ (pre .2) (sym (c .before .before .before .chart-number .ensures) ∙ sym (c .before .before .read .ensures) ∙ c .enum-told .given .1)
+
 answered-requires : tie.Need-answered-requires
 answered-requires c κs = search needs
 
 returns : tie.Need-returns
-returns c = absurd (has-chart _ (c .before .before .before .before .before .pre .0 .passed) _ (c .before .before .before .before .before .pre .2) (sym (c .before .before .before .chart-of .ensures) ∙ c .before .enum-told .given .1))
+returns c = absurd (c .before .never-taken .ensures)
 
-with-role-requires : tie.Need-with-role-requires
-with-role-requires c κs = search needs
-
-cast-event-body : tie.Need-cast-event-body
-cast-event-body c = search needs
-
-add-event-body : tie.Need-add-event-body
-add-event-body c = search needs
-
-event-body-requires : tie.Need-event-body-requires
-event-body-requires c κs = (c .before .before .before .before .before .before .before .before .before .pre .0 .directory, c .before .before .before .before .before .before .before .before .before .pre .0 .passed, c .before .before .before .before .before .before .before .before .before .pre .0 .state, panic-asked _ (c .before .before .before .before .before .before .before .before .before .pre .0 .passed) _ _ (sym (c .before .before .before .before .before .before .before .chart-of .ensures) ∙ c .before .before .before .before .before .c .given .1) _ (c .before .before .before .with-role .ensures), c .before .before .before .before .before .before .before .before .before .pre .3, c .before .before .before .before .before .before .before .before .before .pre .1)
+run-panic-body-requires : tie.Need-run-panic-body-requires
+run-panic-body-requires c κs =
+    let pre = c .before .before .before .before .before .before .before .pre in
+    let there = sym (c .before .before .before .before .read .ensures) ∙ c .before .before .c .given .1 in
+    (pre .0, pre .1, pre .3, record { there = there; bound = sym (c .before .before .before .before .before .chart-number .ensures) ∙ there })
 
 same-length : tie.Need-same-length
 same-length c = search needs
 
 returns-2 : tie.Need-returns-2
-returns-2 c = as-panicking _ (c .before .before .before .before .before .before .before .before .before .before .before .pre .0 .passed) _ _ (sym (c .before .before .before .before .before .before .before .before .before .chart-of .ensures) ∙ c .before .before .before .before .before .before .before .c .given .1) _ (c .before .before .before .before .before .with-role .ensures) _ _ _ (c .before .event-body .ensures)
+returns-2 c = c .before .run-panic-body .ensures
 
 pub panicked-spec : {M : Type 1} → statement M
 panicked-spec =
     tie.close
     (tie.spec
-    chart-of-requires
+    chart-number-requires
+    read-requires
     enum-known-c
     enum-told
+    never-taken-requires
     answered-requires
     returns
-    with-role-requires
-    cast-event-body
-    add-event-body
-    event-body-requires
+    run-panic-body-requires
     same-length
     returns-2)

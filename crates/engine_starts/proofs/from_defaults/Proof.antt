@@ -10,7 +10,8 @@ use Rattle.engine_starts.proofs.from_defaults.Statement.{statement}
 use Rattle.engine_starts.proofs.from_defaults.Tie as tie
 
 abbrev Inv-loop : tie.InvT-loop
-Inv-loop sheet directory cells st₀ first count most steps₀ i₀ st steps i = (i ≤ count) × OfSheet sheet st × (steps ≤ i * 65535) × (started sheet ≡ startFrom sheet (count - i) (first + i) steps st)
+Inv-loop sheet directory cells st₀ first count most steps₀ i₀ st steps i =
+    (i ≤ count) × OfSheet sheet st × (steps ≤ i * 65535) × (started sheet ≡ startFrom sheet (count - i) (first + i) steps st)
 
 abbrev μ-loop : tie.MeasureT-loop
 μ-loop sheet directory cells st₀ first count most steps₀ i₀ st steps i = count - i
@@ -29,69 +30,137 @@ limit-requires c κs = search needs
 
 loop-holds : tie.Need-loop-holds Inv-loop μ-loop
 loop-holds c =
+    let ok = c .before .before .before .before .before .before .before .pre .1 in
     let p = c .before .before .externals .ensures .0 in
     let q = c .before .elements .ensures .0 in
-    (omega arith, subst (OfSheet _) (sym (c .before .before .before .before .default-state .ensures)) (default-of-sheet _ (c .before .before .before .before .before .before .before .pre .1)), omega arith, begins _ (c .before .before .before .before .before .before .before .pre .1) _ _ _ (omega arith) (omega arith) (c .before .before .before .before .default-state .ensures))
+    let defaults = c .before .before .before .before .default-state .ensures in
+    let of-sheet = subst (OfSheet _) (sym defaults) (default-of-sheet _ ok) in
+    (omega arith, of-sheet, omega arith, begins _ ok _ _ _ (omega arith) (omega arith) defaults)
 
 add-initial : tie.Need-add-initial Inv-loop μ-loop
 add-initial c =
-    let f = few _ (c .before .before .before .before .before .before .before .before .before .before .pre .1) _ _ _ _ (c .before .before .before .before .before .externals .ensures .0) (c .before .before .before .before .elements .ensures .0) (c .before .before .before .limit .ensures .0) (c .before .loop-test .taken) in
+    let p = c .before .before .before .before .before .externals .ensures .0 in
+    let q = c .before .before .before .before .elements .ensures .0 in
+    let m = c .before .before .before .limit .ensures .0 in
     let l = c .before .loop-test .taken in
+    let f = few _ (c .before .before .before .before .before .before .before .before .before .before .pre .1) _ _ _ _ p q m l in
     record { fits = omega arith }
 
 initial-requires : tie.Need-initial-requires Inv-loop μ-loop
-initial-requires c κs = (record { directory = c .before .before .before .before .before .before .before .before .before .before .pre .0; passed = c .before .before .before .before .before .before .before .before .before .before .pre .1; state = c .before .before .loop .inv .1 }, here-bound _ (c .before .before .before .before .before .before .before .before .before .before .pre .1) _ _ _ _ (c .before .before .before .before .before .externals .ensures .0) (c .before .before .before .before .elements .ensures .0) (c .before .before .before .limit .ensures .0) (c .before .loop-test .taken), c .before .before .before .before .before .before .before .before .before .before .pre .3)
+initial-requires c κs =
+    let pre = c .before .before .before .before .before .before .before .before .before .before .pre in
+    let p = c .before .before .before .before .before .externals .ensures .0 in
+    let q = c .before .before .before .before .elements .ensures .0 in
+    let m = c .before .before .before .limit .ensures .0 in
+    let l = c .before .loop-test .taken in
+    let o = c .before .before .loop .inv .1 in
+    (record { directory = pre .0; passed = pre .1; state = o }, here-bound _ (pre .1) _ _ _ _ p q m l, pre .3, m)
 
 enum-known-r : tie.Need-enum-known-r Inv-loop μ-loop
 enum-known-r c = search needs
 
 sub-steps : tie.Need-sub-steps Inv-loop μ-loop
-sub-steps c = let h = done-left _ (c .before .before .before .before .before .before .before .before .before .before .before .before .before .before .before .pre .1) _ _ _ _ (c .before .before .before .before .before .before .before .before .before .before .externals .ensures .0) (c .before .before .before .before .before .before .before .before .before .elements .ensures .0) (c .before .before .before .before .before .before .before .before .limit .ensures .0) (c .before .before .before .before .before .before .loop-test .taken) _ (c .before .before .before .before .before .before .before .loop .inv .1) _ _ (c .before .before .before .before .initial .ensures .0) (c .before .before .before .before .initial .ensures .1) _ (c .before .r .given .1) in search needs
+sub-steps c =
+    let ok = c .before .before .before .before .before .before .before .before .before .before .before .before .before .before .before .pre .1 in
+    let p = c .before .before .before .before .before .before .before .before .before .before .externals .ensures .0 in
+    let q = c .before .before .before .before .before .before .before .before .before .elements .ensures .0 in
+    let m = c .before .before .before .before .before .before .before .before .limit .ensures .0 in
+    let l = c .before .before .before .before .before .before .loop-test .taken in
+    let o = c .before .before .before .before .before .before .before .loop .inv .1 in
+    let ran = c .before .before .before .before .initial .ensures in
+    let h = done-left _ ok _ _ _ _ p q m l _ o _ _ (ran .0) (ran .1) _ (c .before .r .given .1) in
+    search needs
 
 add-steps : tie.Need-add-steps Inv-loop μ-loop
 add-steps c =
-    let f = few _ (c .before .before .before .before .before .before .before .before .before .before .before .before .before .before .before .pre .1) _ _ _ _ (c .before .before .before .before .before .before .before .before .before .before .externals .ensures .0) (c .before .before .before .before .before .before .before .before .before .elements .ensures .0) (c .before .before .before .before .before .before .before .before .limit .ensures .0) (c .before .before .before .before .before .before .loop-test .taken) in
-    let l = c .before .before .before .before .before .before .loop-test .taken in
-    let w = c .before .before .before .before .before .before .before .loop .inv .2 in
+    let ok = c .before .before .before .before .before .before .before .before .before .before .before .before .before .before .before .pre .1 in
+    let p = c .before .before .before .before .before .before .before .before .before .before .externals .ensures .0 in
+    let q = c .before .before .before .before .before .before .before .before .before .elements .ensures .0 in
+    let m = c .before .before .before .before .before .before .before .before .limit .ensures .0 in
     let z = c .before .before .before .before .before .before .before .before .limit .ensures .1 in
-    let h = done-left _ (c .before .before .before .before .before .before .before .before .before .before .before .before .before .before .before .pre .1) _ _ _ _ (c .before .before .before .before .before .before .before .before .before .before .externals .ensures .0) (c .before .before .before .before .before .before .before .before .before .elements .ensures .0) (c .before .before .before .before .before .before .before .before .limit .ensures .0) (c .before .before .before .before .before .before .loop-test .taken) _ (c .before .before .before .before .before .before .before .loop .inv .1) _ _ (c .before .before .before .before .initial .ensures .0) (c .before .before .before .before .initial .ensures .1) _ (c .before .r .given .1) in
+    let l = c .before .before .before .before .before .before .loop-test .taken in
+    let o = c .before .before .before .before .before .before .before .loop .inv .1 in
+    let w = c .before .before .before .before .before .before .before .loop .inv .2 in
+    let ran = c .before .before .before .before .initial .ensures in
+    let f = few _ ok _ _ _ _ p q m l in
+    let h = done-left _ ok _ _ _ _ p q m l _ o _ _ (ran .0) (ran .1) _ (c .before .r .given .1) in
     record { fits = omega arith }
 
 enum-known-r-2 : tie.Need-enum-known-r-2 Inv-loop μ-loop
 enum-known-r-2 c = search needs
 
 sub-refused : tie.Need-sub-refused Inv-loop μ-loop
-sub-refused c = let h = refused-left _ (c .before .before .before .before .before .before .before .before .before .before .before .before .before .before .before .before .pre .1) _ _ _ _ (c .before .before .before .before .before .before .before .before .before .before .before .externals .ensures .0) (c .before .before .before .before .before .before .before .before .before .before .elements .ensures .0) (c .before .before .before .before .before .before .before .before .before .limit .ensures .0) (c .before .before .before .before .before .before .before .loop-test .taken) _ (c .before .before .before .before .before .before .before .before .loop .inv .1) _ _ (c .before .before .before .before .before .initial .ensures .0) (c .before .before .before .before .before .initial .ensures .1) _ _ (c .before .before .r2 .given .1) in search needs
+sub-refused c =
+    let ok = c .before .before .before .before .before .before .before .before .before .before .before .before .before .before .before .before .pre .1 in
+    let p = c .before .before .before .before .before .before .before .before .before .before .before .externals .ensures .0 in
+    let q = c .before .before .before .before .before .before .before .before .before .before .elements .ensures .0 in
+    let m = c .before .before .before .before .before .before .before .before .before .limit .ensures .0 in
+    let l = c .before .before .before .before .before .before .before .loop-test .taken in
+    let o = c .before .before .before .before .before .before .before .before .loop .inv .1 in
+    let ran = c .before .before .before .before .before .initial .ensures in
+    let h = refused-left _ ok _ _ _ _ p q m l _ o _ _ (ran .0) (ran .1) _ _ (c .before .before .r2 .given .1) in
+    search needs
 
 add-refused : tie.Need-add-refused Inv-loop μ-loop
 add-refused c =
-    let f = few _ (c .before .before .before .before .before .before .before .before .before .before .before .before .before .before .before .before .pre .1) _ _ _ _ (c .before .before .before .before .before .before .before .before .before .before .before .externals .ensures .0) (c .before .before .before .before .before .before .before .before .before .before .elements .ensures .0) (c .before .before .before .before .before .before .before .before .before .limit .ensures .0) (c .before .before .before .before .before .before .before .loop-test .taken) in
-    let l = c .before .before .before .before .before .before .before .loop-test .taken in
-    let w = c .before .before .before .before .before .before .before .before .loop .inv .2 in
+    let ok = c .before .before .before .before .before .before .before .before .before .before .before .before .before .before .before .before .pre .1 in
+    let p = c .before .before .before .before .before .before .before .before .before .before .before .externals .ensures .0 in
+    let q = c .before .before .before .before .before .before .before .before .before .before .elements .ensures .0 in
+    let m = c .before .before .before .before .before .before .before .before .before .limit .ensures .0 in
     let z = c .before .before .before .before .before .before .before .before .before .limit .ensures .1 in
-    let h = refused-left _ (c .before .before .before .before .before .before .before .before .before .before .before .before .before .before .before .before .pre .1) _ _ _ _ (c .before .before .before .before .before .before .before .before .before .before .before .externals .ensures .0) (c .before .before .before .before .before .before .before .before .before .before .elements .ensures .0) (c .before .before .before .before .before .before .before .before .before .limit .ensures .0) (c .before .before .before .before .before .before .before .loop-test .taken) _ (c .before .before .before .before .before .before .before .before .loop .inv .1) _ _ (c .before .before .before .before .before .initial .ensures .0) (c .before .before .before .before .before .initial .ensures .1) _ _ (c .before .before .r2 .given .1) in
+    let l = c .before .before .before .before .before .before .before .loop-test .taken in
+    let o = c .before .before .before .before .before .before .before .before .loop .inv .1 in
+    let w = c .before .before .before .before .before .before .before .before .loop .inv .2 in
+    let ran = c .before .before .before .before .before .initial .ensures in
+    let f = few _ ok _ _ _ _ p q m l in
+    let h = refused-left _ ok _ _ _ _ p q m l _ o _ _ (ran .0) (ran .1) _ _ (c .before .before .r2 .given .1) in
     record { fits = omega arith }
 
 refused-requires : tie.Need-refused-requires Inv-loop μ-loop
 refused-requires c κs = search needs
 
 same-length : tie.Need-same-length Inv-loop μ-loop
-same-length c = c .st3 .given ∙ c .before .before .before .before .before .before .st2 .given ∙ c .before .before .before .before .before .before .before .before .before .before .loop .inv .1 .whole ∙ sym (c .before .before .before .before .before .before .before .before .before .before .before .before .before .before .before .before .before .before .pre .2)
+same-length c =
+    let whole = c .before .before .before .before .before .before .before .before .before .before .loop .inv .1 .whole in
+    let long = sym (c .before .before .before .before .before .before .before .before .before .before .before .before .before .before .before .before .before .before .pre .2) in
+    c .st3 .given ∙ c .before .before .before .before .before .before .st2 .given ∙ whole ∙ long
 
 returns : tie.Need-returns Inv-loop μ-loop
-returns c = refused-ends _ (c .before .before .before .before .before .before .before .before .before .before .before .before .before .before .before .before .before .before .pre .1) _ _ _ _ (c .before .before .before .before .before .before .before .before .before .before .before .before .before .externals .ensures .0) (c .before .before .before .before .before .before .before .before .before .before .before .before .elements .ensures .0) (c .before .before .before .before .before .before .before .before .before .before .before .limit .ensures .0) (c .before .before .before .before .before .before .before .before .before .loop-test .taken) _ (c .before .before .before .before .before .before .before .before .before .before .loop .inv .1) _ _ (c .before .before .before .before .before .before .before .initial .ensures .0) (c .before .before .before .before .before .before .before .initial .ensures .1) _ (c .before .before .before .before .before .before .before .before .before .before .loop .inv .3) _ _ (c .before .before .before .before .r2 .given .1) _ _ (c .before .refused .ensures .1) (c .before .before .before .before .before .before .st2 .given ∙ c .before .before .before .before .before .before .before .before .before .before .loop .inv .1 .whole) _ (c .before .refused .ensures .0)
+returns c =
+    let ok = c .before .before .before .before .before .before .before .before .before .before .before .before .before .before .before .before .before .before .pre .1 in
+    let p = c .before .before .before .before .before .before .before .before .before .before .before .before .before .externals .ensures .0 in
+    let q = c .before .before .before .before .before .before .before .before .before .before .before .before .elements .ensures .0 in
+    let m = c .before .before .before .before .before .before .before .before .before .before .before .limit .ensures .0 in
+    let l = c .before .before .before .before .before .before .before .before .before .loop-test .taken in
+    let inv = c .before .before .before .before .before .before .before .before .before .before .loop .inv in
+    let ran = c .before .before .before .before .before .before .before .initial .ensures in
+    let left = c .before .before .before .before .r2 .given .1 in
+    let whole = c .before .before .before .before .before .before .st2 .given ∙ inv .1 .whole in
+    let zeros = c .before .refused .ensures in
+    refused-ends _ ok _ _ _ _ p q m l _ (inv .1) _ _ (ran .0) (ran .1) _ (inv .3) _ _ left _ _ (zeros .1) whole _ (zeros .0)
 
 enum-told : tie.Need-enum-told Inv-loop μ-loop
 enum-told c = search needs
+
+never-taken-requires : tie.Need-never-taken-requires Inv-loop μ-loop
+never-taken-requires c κs =
+    let ok = c .before .before .before .before .before .before .before .before .before .before .before .before .before .before .pre .1 in
+    let p = c .before .before .before .before .before .before .before .before .before .externals .ensures .0 in
+    let q = c .before .before .before .before .before .before .before .before .elements .ensures .0 in
+    let m = c .before .before .before .before .before .before .before .limit .ensures .0 in
+    let l = c .before .before .before .before .before .loop-test .taken in
+    let o = c .before .before .before .before .before .before .loop .inv .1 in
+    let ran = c .before .before .before .initial .ensures in
+    not-stuck _ ok _ _ _ _ p q m l _ o _ _ (ran .0) (ran .1) (c .enum-told .given .1)
 
 answered-requires : tie.Need-answered-requires Inv-loop μ-loop
 answered-requires c κs = search needs
 
 same-length-2 : tie.Need-same-length-2 Inv-loop μ-loop
-same-length-2 c = c .before .before .before .st2 .given ∙ c .before .before .before .before .before .before .before .loop .inv .1 .whole ∙ sym (c .before .before .before .before .before .before .before .before .before .before .before .before .before .before .before .pre .2)
+same-length-2 c = absurd (c .before .never-taken .ensures)
 
 returns-2 : tie.Need-returns-2 Inv-loop μ-loop
-returns-2 c = absurd (not-stuck _ (c .before .before .before .before .before .before .before .before .before .before .before .before .before .before .before .pre .1) _ _ _ _ (c .before .before .before .before .before .before .before .before .before .before .externals .ensures .0) (c .before .before .before .before .before .before .before .before .before .elements .ensures .0) (c .before .before .before .before .before .before .before .before .limit .ensures .0) (c .before .before .before .before .before .before .loop-test .taken) _ (c .before .before .before .before .before .before .before .loop .inv .1) _ _ (c .before .before .before .before .initial .ensures .0) (c .before .before .before .before .initial .ensures .1) (c .before .enum-told .given .1))
+returns-2 c = absurd (c .before .never-taken .ensures)
 
 add-i : tie.Need-add-i Inv-loop μ-loop
 add-i c = search needs
@@ -101,11 +170,20 @@ loop-less c = search needs
 
 loop-again : tie.Need-loop-again Inv-loop μ-loop
 loop-again c =
-    let f = few _ (c .before .before .before .before .before .before .before .before .before .before .before .before .before .before .before .pre .1) _ _ _ _ (c .before .before .before .before .before .before .before .before .before .before .externals .ensures .0) (c .before .before .before .before .before .before .before .before .before .elements .ensures .0) (c .before .before .before .before .before .before .before .before .limit .ensures .0) (c .before .before .before .before .before .before .loop-test .taken) in
-    let l = c .before .before .before .before .before .before .loop-test .taken in
-    let w = c .before .before .before .before .before .before .before .loop .inv .2 in
+    let ok = c .before .before .before .before .before .before .before .before .before .before .before .before .before .before .before .pre .1 in
+    let p = c .before .before .before .before .before .before .before .before .before .before .externals .ensures .0 in
+    let q = c .before .before .before .before .before .before .before .before .before .elements .ensures .0 in
+    let m = c .before .before .before .before .before .before .before .before .limit .ensures .0 in
     let z = c .before .before .before .before .before .before .before .before .limit .ensures .1 in
-    (omega arith, done-kept _ (c .before .before .before .before .before .before .before .before .before .before .before .before .before .before .before .pre .1) _ _ _ _ (c .before .before .before .before .before .before .before .before .before .before .externals .ensures .0) (c .before .before .before .before .before .before .before .before .before .elements .ensures .0) (c .before .before .before .before .before .before .before .before .limit .ensures .0) (c .before .before .before .before .before .before .loop-test .taken) _ (c .before .before .before .before .before .before .before .loop .inv .1) _ _ (c .before .before .before .before .initial .ensures .0) (c .before .before .before .before .initial .ensures .1) _ (c .before .r .given .1), omega arith, done-next _ (c .before .before .before .before .before .before .before .before .before .before .before .before .before .before .before .pre .1) _ _ _ _ (c .before .before .before .before .before .before .before .before .before .before .externals .ensures .0) (c .before .before .before .before .before .before .before .before .before .elements .ensures .0) (c .before .before .before .before .before .before .before .before .limit .ensures .0) (c .before .before .before .before .before .before .loop-test .taken) _ (c .before .before .before .before .before .before .before .loop .inv .1) _ _ (c .before .before .before .before .initial .ensures .0) (c .before .before .before .before .initial .ensures .1) _ (c .before .before .before .before .before .before .before .loop .inv .3) _ (c .before .r .given .1))
+    let l = c .before .before .before .before .before .before .loop-test .taken in
+    let inv = c .before .before .before .before .before .before .before .loop .inv in
+    let w = inv .2 in
+    let ran = c .before .before .before .before .initial .ensures in
+    let left = c .before .r .given .1 in
+    let f = few _ ok _ _ _ _ p q m l in
+    let kept = done-kept _ ok _ _ _ _ p q m l _ (inv .1) _ _ (ran .0) (ran .1) _ left in
+    let next = done-next _ ok _ _ _ _ p q m l _ (inv .1) _ _ (ran .0) (ran .1) _ (inv .3) _ left in
+    (omega arith, kept, omega arith, next)
 
 answered-requires-2 : tie.Need-answered-requires-2 Inv-loop μ-loop
 answered-requires-2 c κs = search needs
@@ -142,6 +220,7 @@ from-defaults-spec =
     same-length
     returns
     enum-told
+    never-taken-requires
     answered-requires
     same-length-2
     returns-2
