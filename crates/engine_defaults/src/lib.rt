@@ -110,6 +110,7 @@ pub fn default_state(sheet: &[u8], directory: &[usize; 16], st: &mut [i32])
     let mut i: usize = 0;
     while i < count {
         let Found::Present(c) = sheet_bindings::chart_bound(sheet, directory, k) else {
+            sheet_branches::never_taken();
             return;
         };
         cell = default_cells(sheet, directory, st, c, cell);

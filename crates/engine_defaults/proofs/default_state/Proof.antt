@@ -40,11 +40,19 @@ enum-known-c c = search needs
 enum-told : tie.Need-enum-told Inv-loop μ-loop
 enum-told c = search needs
 
+never-taken-requires : tie.Need-never-taken-requires Inv-loop μ-loop
+never-taken-requires c κs =
+    let pre = c .before .before .before .before .before .before .before .before .before .before .pre in
+    let inv = c .before .before .before .before .loop .inv in
+    let l = c .before .before .before .loop-test .taken in
+    let none = sym (c .before .before .chart-bound .ensures) ∙ c .enum-told .given .1 in
+    bound-there _ (pre .1) _ _ (omega (arith, inv .1)) (inv .5) none
+
 same-length : tie.Need-same-length Inv-loop μ-loop
-same-length c = c .before .before .before .before .loop .inv .2 ∙ sym (c .before .before .before .before .before .before .before .before .before .before .pre .2)
+same-length c = absurd (c .never-taken .ensures)
 
 returns : tie.Need-returns Inv-loop μ-loop
-returns c = absurd (bound-there _ (c .before .before .before .before .before .before .before .before .before .before .pre .1) _ _ (let l = c .before .before .before .loop-test .taken in let e = c .before .before .before .before .loop .inv .1 in omega arith) (c .before .before .before .before .loop .inv .5) (sym (c .before .before .chart-bound .ensures) ∙ c .enum-told .given .1))
+returns c = absurd (c .never-taken .ensures)
 
 default-cells-requires : tie.Need-default-cells-requires Inv-loop μ-loop
 unfolding cellAt placeAt stateLength
@@ -99,6 +107,7 @@ default-state-spec =
     chart-bound-requires
     enum-known-c
     enum-told
+    never-taken-requires
     same-length
     returns
     default-cells-requires
