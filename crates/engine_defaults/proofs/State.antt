@@ -96,18 +96,27 @@ module _ (s : List ℕ) where
     unfolding defaultCells
     written-none st n cell done m h = let e : cell + cellsBefore s c 0 ≡ cell = omega (arith, cells-none s c) in let f : 8 * (n - cellsBefore s c 0) + m ≡ 8 * n + m = omega (arith, cells-none s c) in rw (append-nil done, e, f) h
 
-    pub written-more : (st₀ st st′ : List ℤ) (n cell j t x next : ℕ) (z : ℤ) → cellsBefore s c j + cellsTaken s (chartVariables c .first + j) ≤ n → t ≡ typeAt s (chartVariables c .first + j) → z ≡ defaultOf s t → x ≡ cellsTaken s (chartVariables c .first + j) → next ≡ cell + cellsBefore s c j → ((done : List ℤ) (m : ℕ) → Blank st done next (8 * x + m) → Blank st′ (done ++ alike x (cellOfWord z)) (next + x) m) → Written st₀ st n cell j → Written st₀ st′ n cell (j + 1)
+    pub written-more : (st₀ st st′ : List ℤ) (n cell j t x next : ℕ) (z : ℤ) → cellsBefore s c j + cellsTaken s (chartVariables c .first + j) ≤ n →
+        t ≡ typeAt s (chartVariables c .first + j) → z ≡ defaultOf s t → x ≡ cellsTaken s (chartVariables c .first + j) → next ≡ cell + cellsBefore s c j →
+        ((done : List ℤ) (m : ℕ) → Blank st done next (8 * x + m) → Blank st′ (done ++ alike x (cellOfWord z)) (next + x) m) → Written st₀ st n cell j →
+        Written st₀ st′ n cell (j + 1)
     unfolding defaultCell
     written-more st₀ st st′ n cell j t x next z l p q u a w h done m b =
         let d : ℕ = chartVariables c .first + j in
+        let append-assoc-here = append-assoc done (defaultCells s j (chartVariables c .first)) (own d) in
         let more : cellsBefore s c (j + 1) ≡ cellsBefore s c j + x = rw (add-one, u) (cells-next s c j) in
         let e : 8 * (n - cellsBefore s c j) + m ≡ 8 * x + (8 * (n - cellsBefore s c (j + 1)) + m) = omega arith in
         let f : cell + cellsBefore s c (j + 1) ≡ next + x = omega arith in
         let same : alike x (cellOfWord z) ≡ own d = rw (q, p, u) refl in
-        let g : done ++ defaultCells s (j + 1) (chartVariables c .first) ≡ done ++ defaultCells s j (chartVariables c .first) ++ alike x (cellOfWord z) = ap (λ (r : List ℤ). done ++ r) (rw add-one (cells-more j (chartVariables c .first))) ∙ sym (append-assoc done (defaultCells s j (chartVariables c .first)) (own d)) ∙ ap (λ (r : List ℤ). done ++ defaultCells s j (chartVariables c .first) ++ r) (sym same) in
+        let g : done ++ defaultCells s (j + 1) (chartVariables c .first) ≡ done ++ defaultCells s j (chartVariables c .first) ++ alike x (cellOfWord z) =
+        ap (λ (r : List ℤ). done ++ r) (rw add-one (cells-more j (chartVariables c .first)))
+        ∙ sym append-assoc-here
+        ∙ ap (λ (r : List ℤ). done ++ defaultCells s j (chartVariables c .first) ++ r) (sym same) in
         rw (f, g) (w (done ++ defaultCells s j (chartVariables c .first)) (8 * (n - cellsBefore s c (j + 1)) + m) (rw (e, sym a) at (h done m b)))
 
-    pub written-all : (st₀ st : List ℤ) (cell j next : ℕ) → j ≡ chartVariables c .count → next ≡ cell + cellsBefore s c j → Written st₀ st (cellsBefore s c (chartVariables c .count)) cell j → (next ≡ cell + cellsBefore s c (chartVariables c .count)) × ((done : List ℤ) (m : ℕ) → Blank st₀ done cell (8 * cellsBefore s c (chartVariables c .count) + m) → Blank st (done ++ defaultCells s (chartVariables c .count) (chartVariables c .first)) (cell + cellsBefore s c (chartVariables c .count)) m)
+    pub written-all : (st₀ st : List ℤ) (cell j next : ℕ) → j ≡ chartVariables c .count → next ≡ cell + cellsBefore s c j →
+        Written st₀ st (cellsBefore s c (chartVariables c .count)) cell j →
+        (next ≡ cell + cellsBefore s c (chartVariables c .count)) × ((done : List ℤ) (m : ℕ) → Blank st₀ done cell (8 * cellsBefore s c (chartVariables c .count) + m) → Blank st (done ++ defaultCells s (chartVariables c .count) (chartVariables c .first)) (cell + cellsBefore s c (chartVariables c .count)) m)
     written-all st₀ st cell j next e q h = (q ∙ ap (λ (k : ℕ). cell + cellsBefore s c k) e, λ done m b. let f : 8 * (cellsBefore s c (chartVariables c .count) - cellsBefore s c j) + m ≡ m = omega (arith, ap (cellsBefore s c) e) in subst (λ (k : ℕ). Blank st (done ++ defaultCells s k (chartVariables c .first)) (cell + cellsBefore s c k) m) e (rw f at (h done m b)))
 
 -- ---- elements

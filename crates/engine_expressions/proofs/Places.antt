@@ -30,7 +30,7 @@ use Rattle.engine_context.specs.Context.{elementIn, bindingIn, cellIn, leadsTo}
 use Rattle.engine_ready.specs.Ready.{contextAt, Ready, Reaches, IsExpression}
 use Rattle.engine_context.specs.declared.Place.{Place}
 use Rattle.engine_context.specs.declared.Place.the-variants.{At, Outside}
-use Rattle.engine_ready.specs.Words.{wordAt}
+use Rattle.engine_ready.specs.Words.{elementWord}
 use Rattle.engine_ready.proofs.Cells.{reaches}
 use Rattle.engine_ready.proofs.Expressions as laws
 
@@ -75,13 +75,13 @@ module _ (x : Work) (K : ℤ → ℕ → Work) where
 -- ---- an element, by where its index was found to lead
 
 module _ (st : List ℤ) (p q : Place) (l : ℕ) (found : q ≡ p) where
-  pub word-there : (k : ℕ) → q ≡ At k → Word (getD st k (pos 0)) l ≡ wordAt st p l
-  unfolding wordAt wordOf
-  word-there k e = ap (λ p. wordAt st p l) (sym e ∙ found)
+  pub word-there : (k : ℕ) → q ≡ At k → Word (getD st k (pos 0)) l ≡ elementWord st p l
+  unfolding elementWord wordOf
+  word-there k e = ap (λ p. elementWord st p l) (sym e ∙ found)
 
-  pub word-outside : q ≡ Outside → Refused 11 l ≡ wordAt st p l
-  unfolding wordAt
-  word-outside e = ap (λ p. wordAt st p l) (sym e ∙ found)
+  pub word-outside : q ≡ Outside → Refused 11 l ≡ elementWord st p l
+  unfolding elementWord
+  word-outside e = ap (λ p. elementWord st p l) (sym e ∙ found)
 
 -- a visit takes one step
 pub visit : (s w : List ℕ) (st lo : List ℤ) (n l : ℕ) → (l ≡ 0 → ⊥) → (o : Work) → o ≡ workOf (evalOf s (contextAt s w) st lo n (suc (l - 1))) → o ≡ workOf (evalOf s (contextAt s w) st lo n l)
@@ -148,8 +148,8 @@ module _ (s w : List ℕ) (st lo : List ℤ) (ready : Ready s w st lo) where
       pub reaches-at : Reaches w st (r .f1)
       reaches-at = reaches s w st lo ready (r .f1) (laws.element-below s w st lo ready n r there e q)
 
-      pub element-at : (l : ℕ) (y : Work) → y ≡ workOf (evalOf s (contextAt s w) st lo (r .f2) l) → thenWork y (λ i. wordAt st (leadsTo w (r .f1) i)) ≡ given l
-      element-at l y h = ap (λ o. thenWork o (λ i. wordAt st (leadsTo w (r .f1) i))) h ∙ sym (laws.element-word s w st lo ready n r there e q l)
+      pub element-at : (l : ℕ) (y : Work) → y ≡ workOf (evalOf s (contextAt s w) st lo (r .f2) l) → thenWork y (λ i. elementWord st (leadsTo w (r .f1) i)) ≡ given l
+      element-at l y h = ap (λ o. thenWork o (λ i. elementWord st (leadsTo w (r .f1) i))) h ∙ sym (laws.element-word s w st lo ready n r there e q l)
 
     pub not-at : formOf (operator r) ≡ unary → (l : ℕ) (y : Work) → y ≡ workOf (evalOf s (contextAt s w) st lo (r .f1) l) → thenWork y notWork ≡ given l
     not-at q l y h = ap (λ o. thenWork o notWork) h ∙ sym (laws.not-word s w st lo ready n r there e q l)

@@ -15,7 +15,7 @@ ghost use Rattle.machine.specs.Eval.{literalValue, evalOf};
 ghost use Rattle.engine_ints.specs.Work.{workOf, thenWork, binaryWork, notWork};
 ghost use Rattle.engine_context.specs.Context.{cellIn, leadsTo};
 ghost use Rattle.engine_ready.specs.Ready.{contextAt, Ready, Lies, Reaches, IsExpression};
-ghost use Rattle.engine_ready.specs.Words.{wordAt};
+ghost use Rattle.engine_ready.specs.Words.{elementWord};
 
 // The word that a literal writes down, in element e.
 fn literal(e: usize, r: Record) -> i32
@@ -66,7 +66,7 @@ fn cell_word(context: &[usize; 38], st: &[i32], n: usize, k: usize) -> i32
 // outside.
 fn element_at(context: &[usize; 38], st: &[i32], n: usize, i: i32, left: u32) -> Work
     requires { ⌜ Reaches (now context) (now st) n ⌝ }
-    ensures { λ z. ⌜ z ≡ wordAt (now (st .entry)) (leadsTo (now (context .entry)) n i) left ⌝ }
+    ensures { λ z. ⌜ z ≡ elementWord (now (st .entry)) (leadsTo (now (context .entry)) n i) left ⌝ }
 {
     let p = engine_context::element_word(context, n, i);
     match p {
@@ -78,7 +78,7 @@ fn element_at(context: &[usize; 38], st: &[i32], n: usize, i: i32, left: u32) ->
 // The same, by what the index gives.
 fn element(context: &[usize; 38], st: &[i32], n: usize, x: Work) -> Work
     requires { ⌜ Reaches (now context) (now st) n ⌝ }
-    ensures { λ z. ⌜ z ≡ thenWork x (λ i. wordAt (now (st .entry)) (leadsTo (now (context .entry)) n i)) ⌝ }
+    ensures { λ z. ⌜ z ≡ thenWork x (λ i. elementWord (now (st .entry)) (leadsTo (now (context .entry)) n i)) ⌝ }
 {
     match x {
         Work::Word { word, left } => element_at(context, st, n, word, left),

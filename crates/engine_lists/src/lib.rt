@@ -20,13 +20,11 @@ pub fn play(
 ) -> Answer
     ensures { λ a. ⌜ listed a (now (st .exit)) (now (answers .exit)) ≡ listCall (now (sheet .entry)) (now (events .entry)) (now (st .entry)) (now (spare .entry)) (now (answers .entry)) ⌝ }
 {
-    match checker::check(sheet) {
+    let directory = sheet_reader::directory(sheet);
+    match checker::check_opened(sheet, &directory) {
         Checked::Shape => answered(1, 0),
         Checked::Static => answered(2, 0),
-        Checked::Passed => {
-            let directory = sheet_reader::directory(sheet);
-            play_passed(sheet, &directory, events, st, spare, answers)
-        }
+        Checked::Passed => play_passed(sheet, &directory, events, st, spare, answers),
     }
 }
 

@@ -48,7 +48,7 @@ use Rattle.engine_ints.specs.Work.{workOf, thenWork, notWork, combinedWork, bin
 use Rattle.engine_context.specs.Context.{cellIn, leadsTo}
 use Rattle.engine_ready.specs.Ready.{contextAt, Ready, Lies, IsExpression}
 use Rattle.engine_context.specs.declared.Place.the-variants.{At, Outside}
-use Rattle.engine_ready.specs.Words.{wordAt}
+use Rattle.engine_ready.specs.Words.{elementWord}
 use Rattle.engine_ready.proofs.Cells.{cell-is, plain-is, taken-is, lies}
 
 -- a test that holds is passed
@@ -317,17 +317,17 @@ module _ (s w : List ℕ) (st lo : List ℤ) (ready : Ready s w st lo) where
           let r′ = declared-record s d (chart-variable-declared s (ready .running .passed) _ _ (placed .element .chart) (r .f1) element-below) in
           needs-met _ _ (lt-ltb _ _ element-below) ∙ on-present _ (r′ .0) _ (r′ .1) ∙ ap (λ t. elementAs s x st (r .f1) t (reached (indexAt s d) v) l) (r′ .2) ∙ ap (λ i. elementAs s x st (r .f1) (typeAt s d) i l) (index .goes v k i)
 
-      pub element-word : (l : ℕ) → workOf (evalOf s x st lo n (suc l)) ≡ thenWork (workOf (evalOf s x st lo (r .f2) l)) (λ i. wordAt st (leadsTo w (r .f1) i))
-      unfolding evalIn leadsTo wordAt elementAs variableAtCell within workOf
+      pub element-word : (l : ℕ) → workOf (evalOf s x st lo n (suc l)) ≡ thenWork (workOf (evalOf s x st lo (r .f2) l)) (λ i. elementWord st (leadsTo w (r .f1) i))
+      unfolding evalIn leadsTo elementWord elementAs variableAtCell within workOf
       element-word l =
           ap workOf (visited readElement q l)
           ∙ then-word s (index .kind) (evalOf s x st lo (r .f2) l) _ _ (operand-gives (r .f2) _ index-lower (index .kind) l (index .typed)) (λ v m k i.
           let gives = element-gives s (ready .running .passed) x placed st lo cells (ready .locals) (r .f1) m element-below (array-data s (ready .running .passed) d (f (r .f2)) indexed) v (array-leads s d (f (r .f2)) indexed v k i) in
           let same = ap workOf (element-value v m k i) in
           same ∙ go v m (isBelow (v .word) (cellsTaken s d)) (λ z. not-stuck s (typeAt s d) (elementVal s x st (r .f1) v m) gives (same ∙ z))
-          ∙ ap {B = Work} (λ c. wordAt st (elim (isBelow (v .word) c) [ true ↦ At (cellAt (cellIn w (r .f1) + natAbs (v .word))) | false ↦ Outside ]) m) (sym (taken-is s w (ready .running) (r .f1) element-below)))
+          ∙ ap {B = Work} (λ c. elementWord st (elim (isBelow (v .word) c) [ true ↦ At (cellAt (cellIn w (r .f1) + natAbs (v .word))) | false ↦ Outside ]) m) (sym (taken-is s w (ready .running) (r .f1) element-below)))
         where
-          go : (v : Value) (m : ℕ) (b : Bool) → (workOf (elementAs s x st (r .f1) (typeAt s d) (elim b [ true ↦ inside (natAbs (v .word)) | false ↦ outOfRange ]) m) ≡ Stuck → ⊥) → workOf (elementAs s x st (r .f1) (typeAt s d) (elim b [ true ↦ inside (natAbs (v .word)) | false ↦ outOfRange ]) m) ≡ wordAt st (elim b [ true ↦ At (cellAt (cellIn w (r .f1) + natAbs (v .word))) | false ↦ Outside ]) m
+          go : (v : Value) (m : ℕ) (b : Bool) → (workOf (elementAs s x st (r .f1) (typeAt s d) (elim b [ true ↦ inside (natAbs (v .word)) | false ↦ outOfRange ]) m) ≡ Stuck → ⊥) → workOf (elementAs s x st (r .f1) (typeAt s d) (elim b [ true ↦ inside (natAbs (v .word)) | false ↦ outOfRange ]) m) ≡ elementWord st (elim b [ true ↦ At (cellAt (cellIn w (r .f1) + natAbs (v .word))) | false ↦ Outside ]) m
           go v m true g = needs-word _ (out.Val (val (typeAt s d) (wordOf st (variableAtCell s x (r .f1) (natAbs (v .word))))) m) _ (λ b. ap (λ i. Word (wordOf st i) m) (cell-is s w (ready .running) (r .f1) element-below (natAbs (v .word)))) g
           go v m false g = refl
 

@@ -27,9 +27,9 @@ thenWord work.Stuck st lo K = world Stuck st lo
 -- ---- an element where an index leads
 
 -- "11, index outside its number"
-unfoldable pub wordAt : List ℤ → Place → ℕ → Work
-wordAt st (At k) l = work.Word (wordOf st k) l
-wordAt st Outside l = work.Refused 11 l
+unfoldable pub elementWord : List ℤ → Place → ℕ → Work
+elementWord st (At k) l = work.Word (wordOf st k) l
+elementWord st Outside l = work.Refused 11 l
 
 unfoldable pub putAt : Place → ℤ → ℕ → List ℤ → List ℤ → World
 putAt (At k) z l st lo = world (Done l) (set st k z) lo

@@ -15,7 +15,7 @@ use Rattle.engine_ints.specs.declared.Work.{Work}
 use Rattle.engine_ints.specs.declared.Work.the-variants as work
 use Rattle.engine_ready.specs.Ready.{contextAt}
 use Rattle.engine_ready.specs.Words.{Data, given, refused, stuck, before, thenDatum, dataFrom, ranData, fourWords}
-use Rattle.engine_sending.specs.Sent.{dataAt, wordAt}
+use Rattle.engine_sending.specs.Sent.{dataAt, workAt}
 
 -- ---- words in front of what is to come
 
@@ -95,16 +95,16 @@ module _ (s w : List ℕ) (st lo : List ℤ) (r : Record) (g : Range) where
         (ap length (c .words), ap ranData (sym d), λ zs m e. c .words ∙ ap (λ d. fourWords (words d)) (sym d ∙ e))
 
     module _ (h : j < g .count) where
-      next : dataAt s w st lo r g left ≡ befores (c .got) (thenDatum (wordAt s w st lo (fieldOf r (4 + j)) l) (λ m. dataFrom (evalOf s (contextAt s w) st lo) r (g .count - suc j) (suc j) m))
+      next : dataAt s w st lo r g left ≡ befores (c .got) (thenDatum (workAt s w st lo (fieldOf r (4 + j)) l) (λ m. dataFrom (evalOf s (contextAt s w) st lo) r (g .count - suc j) (suc j) m))
       unfolding dataFrom
       next =
           let z : g .count - j ≡ suc (g .count - suc j) = omega arith in
           rw z at (c .rest)
 
-      nextWith : (x : Work) → x ≡ wordAt s w st lo (fieldOf r (4 + j)) l → dataAt s w st lo r g left ≡ befores (c .got) (thenDatum x (λ m. dataFrom (evalOf s (contextAt s w) st lo) r (g .count - suc j) (suc j) m))
+      nextWith : (x : Work) → x ≡ workAt s w st lo (fieldOf r (4 + j)) l → dataAt s w st lo r g left ≡ befores (c .got) (thenDatum x (λ m. dataFrom (evalOf s (contextAt s w) st lo) r (g .count - suc j) (suc j) m))
       nextWith x e = next ∙ ap (λ x. befores (c .got) (thenDatum x (λ m. dataFrom (evalOf s (contextAt s w) st lo) r (g .count - suc j) (suc j) m))) (sym e)
 
-      pub data-again : g .count ≤ 4 → (z : ℤ) (m : ℕ) → work.Word z m ≡ wordAt s w st lo (fieldOf r (4 + j)) l → SoFar left (j + 1) m (set into j z)
+      pub data-again : g .count ≤ 4 → (z : ℤ) (m : ℕ) → work.Word z m ≡ workAt s w st lo (fieldOf r (4 + j)) l → SoFar left (j + 1) m (set into j z)
       unfolding thenDatum
       data-again small z m e =
           let k : j + 1 ≡ suc j = omega arith in
@@ -116,13 +116,13 @@ module _ (s w : List ℕ) (st lo : List ℤ) (r : Record) (g : Range) where
             rest = rw k (nextWith (work.Word z m) e ∙ befores-more (c .got) z _);
           }
 
-      pub data-refused : length into ≡ 4 → (k m : ℕ) → work.Refused k m ≡ wordAt s w st lo (fieldOf r (4 + j)) l → Told left (Refused k m) into
+      pub data-refused : length into ≡ 4 → (k m : ℕ) → work.Refused k m ≡ workAt s w st lo (fieldOf r (4 + j)) l → Told left (Refused k m) into
       unfolding thenDatum ranData dataKind
       data-refused four k m e =
           let d = nextWith (work.Refused k m) e ∙ befores-refused (c .got) k m in
           (four, ap ranData (sym d), λ zs m e. absurd (let q = ap dataKind (sym d ∙ e) in omega arith))
 
-      pub data-stuck : length into ≡ 4 → work.Stuck ≡ wordAt s w st lo (fieldOf r (4 + j)) l → Told left Stuck into
+      pub data-stuck : length into ≡ 4 → work.Stuck ≡ workAt s w st lo (fieldOf r (4 + j)) l → Told left Stuck into
       unfolding thenDatum ranData dataKind
       data-stuck four e =
           let d = nextWith work.Stuck e ∙ befores-stuck (c .got) in

@@ -15,8 +15,8 @@ use Rattle.engine_ready.specs.Words.{thenWord, Data, dataFrom, thenData}
 
 module _ (s w : List ℕ) (st lo : List ℤ) where
   -- the word of node n
-  abbrev pub wordAt : ℕ → ℕ → Work
-  wordAt n l = workOf (evalOf s (contextAt s w) st lo n l)
+  abbrev pub workAt : ℕ → ℕ → Work
+  workAt n l = workOf (evalOf s (contextAt s w) st lo n l)
 
   -- the data of a node's record r, for the declarations of a range
   abbrev pub dataAt : Record → Range → ℕ → Data
@@ -27,4 +27,4 @@ module _ (s w : List ℕ) (st lo : List ℤ) where
   sent r a receiver port l = thenData (dataAt r (dataOf a) l) st lo (λ zs l. append s (telegram (pos (elementIn w)) receiver port (r .f3) zs) l st lo)
 
   abbrev pub sentTo : Record → Record → ℤ → ℕ → World
-  sentTo r a receiver l = thenWord (wordAt (r .f2) l) st lo (λ port l. sent r a receiver port l)
+  sentTo r a receiver l = thenWord (workAt (r .f2) l) st lo (λ port l. sent r a receiver port l)

@@ -31,7 +31,7 @@ use Rattle.engine_ready.specs.Ready.{contextAt, Ready, IsStatement}
 use Rattle.engine_ready.specs.Words.{thenWord}
 use Rattle.engine_ready.proofs.Statements.{no-steps, absent, ready-after, skipped, choice-word, loop-word, loop-body, sequence-runs}
 use Rattle.engine_sending.specs.Visit.{Visit}
-use Rattle.engine_sending.specs.Sent.{wordAt}
+use Rattle.engine_sending.specs.Sent.{workAt}
 use Rattle.engine_sending.proofs.Sends.{on-word, on-refused, on-stuck}
 
 -- ---- fewer steps are left
@@ -134,19 +134,19 @@ module _ (s w : List ℕ) (st lo : List ℤ) (n : ℕ) (r : Record) where
     abbrev choosing : ℤ → ℕ → World
     choosing z m = elim (isZero z) [ true ↦ runOf s depth (contextAt s w) (r .f3) m st lo | false ↦ runOf s depth (contextAt s w) (r .f2) m st lo ]
 
-    chooses : runOf s depth (contextAt s w) n (suc l) st lo ≡ thenWord (wordAt s w st lo (r .f1) l) st lo choosing
+    chooses : runOf s depth (contextAt s w) n (suc l) st lo ≡ thenWord (workAt s w st lo (r .f1) l) st lo choosing
     chooses = choice-word s w st lo (v .ready) n r (v .there) (v .statement) (v .form) depth l
 
-    pub choice-no : (z : ℤ) (m : ℕ) → work.Word z m ≡ wordAt s w st lo (r .f1) l → isZero z ≡ true → runOf s depth (contextAt s w) (r .f3) m st lo ≡ runOf s depth (contextAt s w) n (suc l) st lo
+    pub choice-no : (z : ℤ) (m : ℕ) → work.Word z m ≡ workAt s w st lo (r .f1) l → isZero z ≡ true → runOf s depth (contextAt s w) (r .f3) m st lo ≡ runOf s depth (contextAt s w) n (suc l) st lo
     choice-no z m e q = ap (λ b. elim b as (λ b. World) [ true ↦ runOf s depth (contextAt s w) (r .f3) m st lo | false ↦ runOf s depth (contextAt s w) (r .f2) m st lo ]) (sym q) ∙ on-word _ st lo choosing z m e ∙ sym chooses
 
-    pub choice-yes : (z : ℤ) (m : ℕ) → work.Word z m ≡ wordAt s w st lo (r .f1) l → isZero z ≡ false → runOf s depth (contextAt s w) (r .f2) m st lo ≡ runOf s depth (contextAt s w) n (suc l) st lo
+    pub choice-yes : (z : ℤ) (m : ℕ) → work.Word z m ≡ workAt s w st lo (r .f1) l → isZero z ≡ false → runOf s depth (contextAt s w) (r .f2) m st lo ≡ runOf s depth (contextAt s w) n (suc l) st lo
     choice-yes z m e q = ap (λ b. elim b as (λ b. World) [ true ↦ runOf s depth (contextAt s w) (r .f3) m st lo | false ↦ runOf s depth (contextAt s w) (r .f2) m st lo ]) (sym q) ∙ on-word _ st lo choosing z m e ∙ sym chooses
 
-    pub choice-refused : (k m : ℕ) → work.Refused k m ≡ wordAt s w st lo (r .f1) l → world (Refused k m) st lo ≡ runOf s depth (contextAt s w) n (suc l) st lo
+    pub choice-refused : (k m : ℕ) → work.Refused k m ≡ workAt s w st lo (r .f1) l → world (Refused k m) st lo ≡ runOf s depth (contextAt s w) n (suc l) st lo
     choice-refused k m e = on-refused _ st lo choosing k m e ∙ sym chooses
 
-    pub choice-stuck : work.Stuck ≡ wordAt s w st lo (r .f1) l → world Stuck st lo ≡ runOf s depth (contextAt s w) n (suc l) st lo
+    pub choice-stuck : work.Stuck ≡ workAt s w st lo (r .f1) l → world Stuck st lo ≡ runOf s depth (contextAt s w) n (suc l) st lo
     choice-stuck e = on-stuck _ st lo choosing e ∙ sym chooses
 
   -- ---- a loop
@@ -155,20 +155,20 @@ module _ (s w : List ℕ) (st lo : List ℤ) (n : ℕ) (r : Record) where
     abbrev turning : ℤ → ℕ → World
     turning z m = elim (isZero z) [ true ↦ world (Done m) st lo | false ↦ thenRun (runOf s depth (contextAt s w) (r .f2) m st lo) (λ m st lo. runOf s depth (contextAt s w) n m st lo) ]
 
-    turns : runOf s depth (contextAt s w) n (suc l) st lo ≡ thenWord (wordAt s w st lo (r .f1) l) st lo turning
+    turns : runOf s depth (contextAt s w) n (suc l) st lo ≡ thenWord (workAt s w st lo (r .f1) l) st lo turning
     turns = loop-word s w st lo (v .ready) n r (v .there) (v .statement) (v .form) depth l
 
-    pub loop-ends : (z : ℤ) (m : ℕ) → work.Word z m ≡ wordAt s w st lo (r .f1) l → isZero z ≡ true → world (Done m) st lo ≡ runOf s depth (contextAt s w) n (suc l) st lo
+    pub loop-ends : (z : ℤ) (m : ℕ) → work.Word z m ≡ workAt s w st lo (r .f1) l → isZero z ≡ true → world (Done m) st lo ≡ runOf s depth (contextAt s w) n (suc l) st lo
     loop-ends z m e q = ap (λ b. elim b as (λ b. World) [ true ↦ world (Done m) st lo | false ↦ thenRun (runOf s depth (contextAt s w) (r .f2) m st lo) (λ m st lo. runOf s depth (contextAt s w) n m st lo) ]) (sym q) ∙ on-word _ st lo turning z m e ∙ sym turns
 
-    pub loop-refused : (k m : ℕ) → work.Refused k m ≡ wordAt s w st lo (r .f1) l → world (Refused k m) st lo ≡ runOf s depth (contextAt s w) n (suc l) st lo
+    pub loop-refused : (k m : ℕ) → work.Refused k m ≡ workAt s w st lo (r .f1) l → world (Refused k m) st lo ≡ runOf s depth (contextAt s w) n (suc l) st lo
     loop-refused k m e = on-refused _ st lo turning k m e ∙ sym turns
 
-    pub loop-stuck : work.Stuck ≡ wordAt s w st lo (r .f1) l → world Stuck st lo ≡ runOf s depth (contextAt s w) n (suc l) st lo
+    pub loop-stuck : work.Stuck ≡ workAt s w st lo (r .f1) l → world Stuck st lo ≡ runOf s depth (contextAt s w) n (suc l) st lo
     loop-stuck e = on-stuck _ st lo turning e ∙ sym turns
 
     -- a turn
-    module _ (z : ℤ) (m : ℕ) (e : work.Word z m ≡ wordAt s w st lo (r .f1) l) (q : isZero z ≡ false) where
+    module _ (z : ℤ) (m : ℕ) (e : work.Word z m ≡ workAt s w st lo (r .f1) l) (q : isZero z ≡ false) where
       turn : thenRun (runOf s depth (contextAt s w) (r .f2) m st lo) (λ m st lo. runOf s depth (contextAt s w) n m st lo) ≡ runOf s depth (contextAt s w) n (suc l) st lo
       turn = ap (λ b. elim b as (λ b. World) [ true ↦ world (Done m) st lo | false ↦ thenRun (runOf s depth (contextAt s w) (r .f2) m st lo) (λ m st lo. runOf s depth (contextAt s w) n m st lo) ]) (sym q) ∙ on-word _ st lo turning z m e ∙ sym turns
 

@@ -11,7 +11,7 @@ use mir.Syntax.{w32, w64}
 use mir.Val.{SFits, ofZ, toZ}
 use mir.ValLaws.{toZ-ofZ, toZ-pos, toZ-fits}
 use borrow.Author.Tests.{lt-ltb, le-ltb}
-use Rattle.engine_words.specs.Words.{wordAt, wordsAt}
+use Rattle.engine_words.specs.Words.{signedAt, wordsAt}
 
 module _ (n : ℕ) (h : 2147483648 ≤ n) (k : n < 4294967296) where
   less : pos n -ℤ pos 4294967296 ≡ toZ w32 n
@@ -39,6 +39,6 @@ module _ (n : ℕ) (h : 2147483648 ≤ n) (k : n < 4294967296) where
   high-back = rw high-word (toZ-ofZ w32 (toZ w32 n) fits)
 
 -- one word more
-pub words-more : (b : List ℕ) (at : ℕ) (out : List ℤ) (i : ℕ) (z : ℤ) → i < length out → take i out ≡ wordsAt b at i → z ≡ wordAt b (at + 4 * i) → take (i + 1) (set out i z) ≡ wordsAt b at (i + 1)
+pub words-more : (b : List ℕ) (at : ℕ) (out : List ℤ) (i : ℕ) (z : ℤ) → i < length out → take i out ≡ wordsAt b at i → z ≡ signedAt b (at + 4 * i) → take (i + 1) (set out i z) ≡ wordsAt b at (i + 1)
 unfolding wordsAt
 words-more b at out i z l e q = rw (add-one i) (take-suc-set out i z l ∙ ap (λ t. t ++ (z ∷ [])) e ∙ ap (λ w. wordsAt b at i ++ (w ∷ [])) q)

@@ -4,7 +4,7 @@ ghost use mathlib.Core.Path.{_≡_};
 ghost use lib.ListN.{length};
 ghost use mir.Syntax.{w32};
 ghost use mir.Val.{toZ};
-ghost use Rattle.engine_words.specs.Words.{numberAt, wordAt, wordsAt};
+ghost use Rattle.engine_words.specs.Words.{numberAt, signedAt, wordsAt};
 
 fn join(a: u8, b: u8, c: u8, d: u8) -> u32
     ensures { λ n. ⌜ (n ≡ a + 256 * b + 65536 * c + 16777216 * d) × (n < 4294967296) ⌝ }
@@ -32,7 +32,7 @@ pub fn signed(n: u32) -> i32
 
 fn word(bytes: &[u8], at: usize) -> i32
     requires { ⌜ at + 4 ≤ length (now bytes) ⌝ }
-    ensures { λ z. ⌜ z ≡ wordAt (now (bytes .entry)) at ⌝ }
+    ensures { λ z. ⌜ z ≡ signedAt (now (bytes .entry)) at ⌝ }
 {
     signed(number(bytes, at))
 }

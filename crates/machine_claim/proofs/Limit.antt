@@ -27,7 +27,11 @@ use Rattle.machine.specs.State.{stateLength, wordOf, waiting, telegramOf, witho
 use Rattle.machine.specs.Valid.{contentFits}
 use Rattle.machine.specs.Kinds as kind
 use Rattle.machine.specs.Kinds.{Kind, kindOf}
-use Rattle.machine.specs.Play.{Outcome, ended, stuck, answer, limitOf, isInitial, hasPanic, reactsOn, ranBody, elementBody, alone, eventEnd, eventEndWithin, bodyEvent, defaultState, elementsThere, startNext, startNextWithin, startFrom, startFromWithin, startedWithin, oldest, goesFrom, innerOf, taking, brought, reacting, reactingWithin, panicking, panickingWithin, withNumber, changeEnd, outside, bodiesThere, received, receivedWithin, delivered, deliveredWithin, deliverWithin, corruptWithin, innerWithin, slice, isEvent, telegramOfEvent, happensAs, happensAsWithin, happens, happensWithin, ifPassed, startCall, startCallBy, eventCall, eventCallBy}
+use Rattle.machine.specs.Play.{Outcome, ended, stuck, answer, limitOf, isInitial, hasPanic, reactsOn, ranBody, elementBody, alone, eventEnd, eventEndWithin}
+use Rattle.machine.specs.Play.{bodyEvent, defaultState, elementsThere, startNext, startNextWithin, startFrom, startFromWithin, startedWithin, oldest, goesFrom}
+use Rattle.machine.specs.Play.{innerOf, taking, brought, reacting, reactingWithin, panicking, panickingWithin, withNumber, changeEnd, outside, bodiesThere}
+use Rattle.machine.specs.Play.{received, receivedWithin, delivered, deliveredWithin, deliverWithin, corruptWithin, innerWithin, slice, isEvent, telegramOfEvent}
+use Rattle.machine.specs.Play.{happensAs, happensAsWithin, happens, happensWithin, ifPassed, startCall, startCallBy, eventCall, eventCallBy}
 use Rattle.sheet_rules.specs.Check.{checkOf}
 
 -- an answer has at most m steps

@@ -111,7 +111,10 @@ module _ (s : List ℕ) (st : List ℤ) (o : OfSheet s st) where
 -- ---- what is enough
 
 module _ (s : List ℕ) (st : List ℤ) where
-  pub cells-fit : ((i : ℕ) → i < elementsOf s → chartOf s (externalsOf s + i) ≡ Absent → ⊥) → ((e : ℕ) (c : Record) → chartOf s e ≡ Present c → (j : ℕ) → j < chartVariables c .count → chartVariables c .first + j < countOf s declarations) → ((e : ℕ) (c : Record) → chartOf s e ≡ Present c → (j : ℕ) → j < chartVariables c .count → (k : ℕ) → k < cellsTaken s (chartVariables c .first + j) → cellFits s e (typeAt s (chartVariables c .first + j)) st (cellOf s e c j k) ≡ true) → cellsFit s st ≡ true
+  pub cells-fit : ((i : ℕ) → i < elementsOf s → chartOf s (externalsOf s + i) ≡ Absent → ⊥) →
+      ((e : ℕ) (c : Record) → chartOf s e ≡ Present c → (j : ℕ) → j < chartVariables c .count → chartVariables c .first + j < countOf s declarations) →
+      ((e : ℕ) (c : Record) → chartOf s e ≡ Present c → (j : ℕ) → j < chartVariables c .count → (k : ℕ) → k < cellsTaken s (chartVariables c .first + j) →
+      cellFits s e (typeAt s (chartVariables c .first + j)) st (cellOf s e c j k) ≡ true) → cellsFit s st ≡ true
   unfolding cellsFit elementFits variableFits
   cells-fit some declared fits = all-true (elementsOf s) _ (λ i l. go i l (chartOf s (externalsOf s + i)) refl)
     where

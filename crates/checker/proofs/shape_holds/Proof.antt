@@ -89,7 +89,35 @@ same-length-2 c = c .before .before .before .before .before .used-once .ensures 
 
 returns-7 : tie.Need-returns-7
 unfolding shape shapeWith elementsBound
-returns-7 c = first-holds _ _ _ (right-with-head _ _ (count-opened _ _ _ (c .before .before .before .before .before .before .before .before .before .before .before .before .before .before .before .before .before .before .count-in .ensures) _ (c .before .before .before .before .before .before .before .before .before .before .before .before .before .before .before .before .before .before .before .before .before .pre .0)) (c .before .before .before .before .before .before .before .before .before .before .before .before .before .before .before .before .before .if1 .left)) (first-holds _ _ _ (eq-eqb _ _ (sym (count-opened _ _ _ (c .before .before .before .before .before .before .before .before .before .before .before .before .before .before .before .before .before .before .count-in .ensures) _ (c .before .before .before .before .before .before .before .before .before .before .before .before .before .before .before .before .before .before .before .before .before .pre .0)) ∙ c .before .before .before .before .before .before .before .before .before .before .before .before .before .before .before .before .before .if1 .left)) (first-holds _ _ _ (sym (c .before .before .before .before .before .before .before .before .before .before .before .before .before .before .before .before .sections-fit .ensures) ∙ not-false _ (c .before .before .before .before .before .before .before .before .before .before .before .before .before .before .before .if2 .left)) (first-holds _ _ _ (sym (c .before .before .before .before .before .before .before .before .before .before .before .before .before .before .bodies-covered .ensures) ∙ not-false _ (c .before .before .before .before .before .before .before .before .before .before .before .before .before .if3 .left)) (first-holds _ _ _ (eq-eqb _ _ (bound _ _ _ _ (c .before .before .before .before .before .before .before .before .before .before .before .field-at2 .ensures .0) (c .before .before .before .before .before .before .before .before .before .before .before .before .field-at .ensures .0) (c .before .before .before .before .before .before .before .before .before .before .elements-bound .ensures .0) (c .before .before .before .before .before .before .before .before .before .if4 .left))) (first-holds _ _ _ (le-leb _ _ (rw (c .before .before .before .before .before .before .before .before .cells .ensures) at (c .before .before .before .before .before .before .before .if5 .left))) (first-holds _ _ _ (sym (c .before .before .before .before .before .used-once .ensures .once) ∙ not-false _ (c .before .if6 .left)) (c .nodes-fit .ensures)))))))
+returns-7 c =
+    let at8 = c .before .before .before .before .before .before .before .before in
+    let at16 = at8 .before .before .before .before .before .before .before .before in
+    let used-once = c .before .before .before .before .before .used-once in
+    let if5 = c .before .before .before .before .before .before .before .if5 in
+    let cells = at8 .cells in
+    let if4 = at8 .before .if4 in
+    let elements-bound = at8 .before .before .elements-bound in
+    let field-at2 = at8 .before .before .before .field-at2 in
+    let field-at = at8 .before .before .before .before .field-at in
+    let if3 = at8 .before .before .before .before .before .if3 in
+    let bodies-covered = at8 .before .before .before .before .before .before .bodies-covered in
+    let if2 = at8 .before .before .before .before .before .before .before .if2 in
+    let sections-fit = at16 .sections-fit in
+    let if1 = at16 .before .if1 in
+    let count-in = at16 .before .before .count-in in
+    let pre = at16 .before .before .before .before .before .pre in
+    let sections-fit-is = sym (sections-fit .ensures) ∙ not-false _ (if2 .left) in
+    let bodies-covered-is = sym (bodies-covered .ensures) ∙ not-false _ (if3 .left) in
+    let used-once-is = sym (used-once .ensures .once) ∙ not-false _ (c .before .if6 .left) in
+    let bound-here = bound _ _ _ _ (field-at2 .ensures .0) (field-at .ensures .0) (elements-bound .ensures .0) (if4 .left) in
+    let count-opened-here = count-opened _ _ _ (count-in .ensures) _ (pre .0) in
+    let if1-is = sym count-opened-here ∙ if1 .left in
+    first-holds _ _ _ (right-with-head _ _ count-opened-here (if1 .left))
+    (first-holds _ _ _ (eq-eqb _ _ if1-is)
+    (first-holds _ _ _ sections-fit-is
+    (first-holds _ _ _ bodies-covered-is
+    (first-holds _ _ _ (eq-eqb _ _ bound-here)
+    (first-holds _ _ _ (le-leb _ _ (rw (cells .ensures) at (if5 .left))) (first-holds _ _ _ used-once-is (c .nodes-fit .ensures)))))))
 
 pub shape-holds-spec : {M : Type 1} → statement M
 shape-holds-spec =

@@ -37,7 +37,12 @@ slice-aggregate-shape-holds-2 : tie.Need-slice-aggregate-shape-holds-2
 slice-aggregate-shape-holds-2 c = front (c .before .before .count-in .result) 4096 (omega (arith, count-limit (c .before .before .before .before .args .sheet .now) 6, count-opened _ _ _ (c .before .before .count-in .ensures) (c .before .before .before .before .args .sheet .now) (c .before .before .before .before .pre)))
 
 shape-holds-requires-2 : tie.Need-shape-holds-requires-2
-shape-holds-requires-2 c κs = (c .before .before .before .before .pre, room _ (c .before .before .count-in .result) 4096 (count-opened _ _ _ (c .before .before .count-in .ensures) (c .before .before .before .before .args .sheet .now) (c .before .before .before .before .pre)) (omega (arith, count-limit (c .before .before .before .before .args .sheet .now) 6, count-opened _ _ _ (c .before .before .count-in .ensures) (c .before .before .before .before .args .sheet .now) (c .before .before .before .before .pre))))
+shape-holds-requires-2 c κs =
+    let count-in = c .before .before .count-in in
+    let args = c .before .before .before .before .args in
+    let pre = c .before .before .before .before .pre in
+    let count-opened-here = count-opened _ _ _ (count-in .ensures) (args .sheet .now) pre in
+    (pre, room _ (count-in .result) 4096 count-opened-here (omega (arith, count-limit (args .sheet .now) 6, count-opened-here)))
 
 returns-2 : tie.Need-returns-2
 returns-2 c = search needs

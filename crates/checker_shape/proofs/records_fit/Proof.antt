@@ -49,7 +49,15 @@ record-fits-requires c κs = search needs
 
 returns-2 : tie.Need-returns-2 Inv-loop μ-loop
 unfolding eachShape
-returns-2 c = loop-fails _ _ _ _ (count-opened _ _ _ (c .before .before .before .before .before .before .before .before .count-in .ensures) _ (c .before .before .before .before .before .before .before .before .before .before .pre)) (c .before .before .before .before .before .before .loop-test .taken) (holds-present _ _ _ (sym (c .before .before .before .before .before .read .ensures) ∙ c .before .before .before .r .given .1) ∙ sym (c .before .record-fits .ensures) ∙ not-true _ (c .if1 .taken))
+returns-2 c =
+    let r = c .before .before .before .r in
+    let read = c .before .before .before .before .before .read in
+    let loop-test = c .before .before .before .before .before .before .loop-test in
+    let count-in = c .before .before .before .before .before .before .before .before .count-in in
+    let pre = c .before .before .before .before .before .before .before .before .before .before .pre in
+    let r-is = sym (read .ensures) ∙ r .given .1 in
+    loop-fails _ _ _ _ (count-opened _ _ _ (count-in .ensures) _ pre) (loop-test .taken)
+    (holds-present _ _ _ r-is ∙ sym (c .before .record-fits .ensures) ∙ not-true _ (c .if1 .taken))
 
 add-i : tie.Need-add-i Inv-loop μ-loop
 add-i c = search needs

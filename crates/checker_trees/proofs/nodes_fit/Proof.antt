@@ -50,7 +50,15 @@ trees-fit-requires c κs = search needs
 
 returns-2 : tie.Need-returns-2 Inv-loop μ-loop
 unfolding nodesShape
-returns-2 c = loop-fails _ _ _ _ (count-opened _ _ _ (c .before .before .before .before .before .before .before .before .count-in .ensures) _ (c .before .before .before .before .before .before .before .before .before .before .pre)) (c .before .before .before .before .before .before .loop-test .taken) (holds-present _ _ _ (sym (c .before .before .before .before .before .read .ensures) ∙ c .before .before .before .c .given .1) ∙ sym (c .before .trees-fit .ensures) ∙ not-true _ (c .if1 .taken))
+returns-2 c =
+    let c-here = c .before .before .before .c in
+    let read = c .before .before .before .before .before .read in
+    let loop-test = c .before .before .before .before .before .before .loop-test in
+    let count-in = c .before .before .before .before .before .before .before .before .count-in in
+    let pre = c .before .before .before .before .before .before .before .before .before .before .pre in
+    let c-here-is = sym (read .ensures) ∙ c-here .given .1 in
+    loop-fails _ _ _ _ (count-opened _ _ _ (count-in .ensures) _ pre) (loop-test .taken)
+    (holds-present _ _ _ c-here-is ∙ sym (c .before .trees-fit .ensures) ∙ not-true _ (c .if1 .taken))
 
 add-k : tie.Need-add-k Inv-loop μ-loop
 add-k c = search needs

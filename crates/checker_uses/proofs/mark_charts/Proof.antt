@@ -28,7 +28,19 @@ mark-chart-requires : tie.Need-mark-chart-requires Inv-loop μ-loop
 mark-chart-requires c κs = (c .before .before .before .before .before .before .pre .0, omega (arith, c .before .before .loop .inv .3 .kept .long, c .before .before .before .before .before .before .pre .1 .0))
 
 add-gone : tie.Need-add-gone Inv-loop μ-loop
-add-gone c = omega (arith, c .before .before .before .before .before .loop .inv .1, c .before .before .mark-chart .ensures .1, count-limit (c .before .before .before .before .before .before .before .before .before .args .sheet .now) 4, count-opened _ _ _ (c .before .before .before .before .before .before .count-in .ensures) (c .before .before .before .before .before .before .before .before .before .args .sheet .now) (c .before .before .before .before .before .before .before .before .before .pre .0))
+add-gone c =
+    let at8 = c .before .before .before .before .before .before .before .before in
+    let loop = c .before .before .before .before .before .loop in
+    let count-in = c .before .before .before .before .before .before .count-in in
+    let args = at8 .before .args in
+    let pre = at8 .before .pre in
+    omega (
+      arith,
+      loop .inv .1,
+      c .before .before .mark-chart .ensures .1,
+      count-limit (args .sheet .now) 4,
+      count-opened _ _ _ (count-in .ensures) (args .sheet .now) (pre .0),
+    )
 
 add-i : tie.Need-add-i Inv-loop μ-loop
 add-i c = search needs
@@ -44,7 +56,15 @@ same-length c = c .before .loop .inv .3 .kept .long
 
 returns : tie.Need-returns Inv-loop μ-loop
 unfolding overCharts
-returns c = (count-end _ (c .before .loop .i) _ _ (omega (arith, count-opened _ _ _ (c .before .before .count-in .ensures) (c .before .before .before .before .before .args .sheet .now) (c .before .before .before .before .before .pre .0))) (c .before .loop .inv .2), omega (arith, c .before .loop .inv .1, count-limit (c .before .before .before .before .before .args .sheet .now) 4, count-opened _ _ _ (c .before .before .count-in .ensures) (c .before .before .before .before .before .args .sheet .now) (c .before .before .before .before .before .pre .0)), roots-end _ _ _ _ _ _ (omega (arith, count-opened _ _ _ (c .before .before .count-in .ensures) (c .before .before .before .before .before .args .sheet .now) (c .before .before .before .before .before .pre .0))) (c .before .loop .inv .3))
+returns c =
+    let count-in = c .before .before .count-in in
+    let args = c .before .before .before .before .before .args in
+    let pre = c .before .before .before .before .before .pre in
+    let count-opened-here = count-opened _ _ _ (count-in .ensures) (args .sheet .now) (pre .0) in (
+      count-end _ (c .before .loop .i) _ _ (omega (arith, count-opened-here)) (c .before .loop .inv .2),
+      omega (arith, c .before .loop .inv .1, count-limit (args .sheet .now) 4, count-opened-here),
+      roots-end _ _ _ _ _ _ (omega (arith, count-opened-here)) (c .before .loop .inv .3),
+    )
 
 pub mark-charts-spec : {M : Type 1} → statement M
 mark-charts-spec =

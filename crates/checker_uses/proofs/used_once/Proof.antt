@@ -26,17 +26,50 @@ clear-requires : tie.Need-clear-requires Inv-loop μ-loop
 clear-requires c κs = omega (arith, count-opened _ _ _ (c .before .count-in .ensures) (c .before .before .before .before .args .sheet .now) (c .before .before .before .before .pre .0), c .before .before .before .before .pre .1)
 
 mark-charts-requires : tie.Need-mark-charts-requires Inv-loop μ-loop
-mark-charts-requires c κs = (c .before .before .before .before .before .before .before .before .pre .0, (omega (arith, count-opened _ _ _ (c .before .before .before .before .before .count-in .ensures) (c .before .before .before .before .before .before .before .before .args .sheet .now) (c .before .before .before .before .before .before .before .before .pre .0), c .before .before .before .before .before .before .before .before .pre .1, c .before .before .before .clear .ensures .kept .long), c .before .before .before .clear .ensures .inside))
+mark-charts-requires c κs =
+    let clear = c .before .before .before .clear in
+    let count-in = c .before .before .before .before .before .count-in in
+    let args = c .before .before .before .before .before .before .before .before .args in
+    let pre = c .before .before .before .before .before .before .before .before .pre in
+    (pre .0, (omega (arith, count-opened _ _ _ (count-in .ensures) (args .sheet .now) (pre .0), pre .1, clear .ensures .kept .long), clear .ensures .inside))
 
 mark-bindings-requires : tie.Need-mark-bindings-requires Inv-loop μ-loop
-mark-bindings-requires c κs = (c .before .before .before .before .before .before .before .before .before .before .before .before .pre .0, omega (arith, count-opened _ _ _ (c .before .before .before .before .before .before .before .before .before .count-in .ensures) (c .before .before .before .before .before .before .before .before .before .before .before .before .args .sheet .now) (c .before .before .before .before .before .before .before .before .before .before .before .before .pre .0), c .before .before .before .before .before .before .before .before .before .before .before .before .pre .1, c .before .before .before .before .before .before .before .clear .ensures .kept .long, c .before .before .before .mark-charts .ensures .2 .kept .long))
+mark-bindings-requires c κs =
+    let at8 = c .before .before .before .before .before .before .before .before in
+    let mark-charts = c .before .before .before .mark-charts in
+    let clear = c .before .before .before .before .before .before .before .clear in
+    let count-in = at8 .before .count-in in
+    let args = at8 .before .before .before .before .args in
+    let pre = at8 .before .before .before .before .pre in (
+      pre .0,
+      omega (
+        arith,
+        count-opened _ _ _ (count-in .ensures) (args .sheet .now) (pre .0),
+        pre .1,
+        clear .ensures .kept .long,
+        mark-charts .ensures .2 .kept .long,
+      ),
+    )
 
 add-gone : tie.Need-add-gone Inv-loop μ-loop
 add-gone c = omega (arith, c .before .before .before .before .before .before .mark-charts .ensures .1, c .before .before .mark-bindings .ensures .0, count-limit (c .before .before .before .before .before .before .before .before .before .before .before .before .before .before .before .args .sheet .now) 7)
 
 loop-holds : tie.Need-loop-holds Inv-loop μ-loop
 unfolding goneOver
-loop-holds c = (omega (arith, c .before .before .before .before .before .before .mark-charts .ensures .0, c .before .before .mark-bindings .ensures .0, count-opened _ _ _ (c .before .before .before .before .before .before .before .before .before .before .before .before .count-in .ensures) (c .before .before .before .before .before .before .before .before .before .before .before .before .before .before .before .args .sheet .now) (c .before .before .before .before .before .before .before .before .before .before .before .before .before .before .before .pre .0)), omega (arith, c .before .before .before .before .before .before .mark-charts .ensures .1, c .before .before .mark-bindings .ensures .0, count-limit (c .before .before .before .before .before .before .before .before .before .before .before .before .before .before .before .args .sheet .now) 7, count-limit (c .before .before .before .before .before .before .before .before .before .before .before .before .before .before .before .args .sheet .now) 6, count-opened _ _ _ (c .before .before .before .before .before .before .before .before .before .before .before .before .count-in .ensures) (c .before .before .before .before .before .before .before .before .before .before .before .before .before .before .before .args .sheet .now) (c .before .before .before .before .before .before .before .before .before .before .before .before .before .before .before .pre .0)), kept-all _ _, going-start _ _ _ (count-opened _ _ _ (c .before .before .before .before .before .before .before .before .before .before .before .before .count-in .ensures) (c .before .before .before .before .before .before .before .before .before .before .before .before .before .before .before .args .sheet .now) (c .before .before .before .before .before .before .before .before .before .before .before .before .before .before .before .pre .0)) (agreed-start _ _ _ _ _ _ (count-opened _ _ _ (c .before .before .before .before .before .before .before .before .before .before .before .before .count-in .ensures) (c .before .before .before .before .before .before .before .before .before .before .before .before .before .before .before .args .sheet .now) (c .before .before .before .before .before .before .before .before .before .before .before .before .before .before .before .pre .0)) refl (c .before .before .before .before .before .before .mark-charts .ensures .2) (c .before .before .mark-bindings .ensures .1)))
+loop-holds c =
+    let at8 = c .before .before .before .before .before .before .before .before in
+    let mark-bindings = c .before .before .mark-bindings in
+    let mark-charts = c .before .before .before .before .before .before .mark-charts in
+    let count-in = at8 .before .before .before .before .count-in in
+    let args = at8 .before .before .before .before .before .before .before .args in
+    let pre = at8 .before .before .before .before .before .before .before .pre in
+    let count-opened-here = count-opened _ _ _ (count-in .ensures) (args .sheet .now) (pre .0) in
+    let agreed-start-here = agreed-start _ _ _ _ _ _ count-opened-here refl (mark-charts .ensures .2) (mark-bindings .ensures .1) in (
+      omega (arith, mark-charts .ensures .0, mark-bindings .ensures .0, count-opened-here),
+      omega (arith, mark-charts .ensures .1, mark-bindings .ensures .0, count-limit (args .sheet .now) 7, count-limit (args .sheet .now) 6, count-opened-here),
+      kept-all _ _,
+      going-start _ _ _ count-opened-here agreed-start-here,
+    )
 
 sub-n : tie.Need-sub-n Inv-loop μ-loop
 sub-n c = search needs
@@ -57,7 +90,28 @@ still-once-requires : tie.Need-still-once-requires Inv-loop μ-loop
 still-once-requires c κs = search needs
 
 mark-operands-requires : tie.Need-mark-operands-requires Inv-loop μ-loop
-mark-operands-requires c κs = (c .before .before .before .before .before .before .before .before .before .before .before .before .before .before .before .before .before .before .before .before .pre .0, (room-set (c .before .before .before .before .loop .marks) (c .before .before .before .before .loop .n - 1) _ (omega (arith, c .before .before .before .before .loop .inv .2 .long, c .before .before .before .before .loop .inv .3 .inside, c .before .before .before .before .before .before .before .before .before .before .before .before .before .before .before .before .before .before .before .before .pre .1, c .before .before .before .before .before .before .before .mark-bindings .ensures .1 .kept .long, c .before .before .before .before .before .before .before .before .before .before .before .mark-charts .ensures .2 .kept .long, c .before .before .before .before .before .before .before .before .before .before .before .before .before .before .before .clear .ensures .kept .long)), omega (arith, c .before .before .slice-known5 .given (c .before .before .before .before .loop .n - 1))))
+mark-operands-requires c κs =
+    let at8 = c .before .before .before .before .before .before .before .before in
+    let loop = c .before .before .before .before .loop in
+    let mark-bindings = c .before .before .before .before .before .before .before .mark-bindings in
+    let mark-charts = at8 .before .before .before .mark-charts in
+    let clear = at8 .before .before .before .before .before .before .before .clear in
+    let pre = at8 .before .before .before .before .before .before .before .before .before .before .before .before .pre in (
+      pre .0,
+      (
+        room-set (loop .marks) (loop .n - 1) _
+            (omega (
+              arith,
+              loop .inv .2 .long,
+              loop .inv .3 .inside,
+              pre .1,
+              mark-bindings .ensures .1 .kept .long,
+              mark-charts .ensures .2 .kept .long,
+              clear .ensures .kept .long,
+            )),
+        omega (arith, c .before .before .slice-known5 .given (loop .n - 1)),
+      ),
+    )
 
 add-gone-2 : tie.Need-add-gone-2 Inv-loop μ-loop
 add-gone-2 c = omega (arith, c .before .before .before .before .before .before .before .loop .inv .1, c .before .before .mark-operands .ensures .1)
@@ -66,13 +120,41 @@ loop-less : tie.Need-loop-less Inv-loop μ-loop
 loop-less c = search needs
 
 loop-again : tie.Need-loop-again Inv-loop μ-loop
-loop-again c = (omega (arith, c .before .before .before .before .before .before .before .loop .inv .0, c .before .before .mark-operands .ensures .0 ∙ number-present _ _ _ (record-present (c .before .before .before .before .before .before .before .before .before .before .before .before .before .before .before .before .before .before .before .before .before .before .before .args .sheet .now) 6 _ (omega (arith, c .before .before .before .before .before .before .before .loop .inv .3 .inside)))), omega (arith, c .before .before .before .before .before .before .before .loop .inv .1, c .before .before .mark-operands .ensures .1), kept-then _ _ _ _ (c .before .before .before .before .before .before .before .loop .inv .2) (kept-then _ _ _ _ (kept-set _ _ _ _ (omega (arith, c .before .before .before .before .before .before .before .loop .inv .3 .inside))) (kept-lower _ _ _ _ (omega (arith, c .before .before .before .before .before .before .before .loop .inv .3 .inside)) (c .before .before .mark-operands .ensures .2 .kept))), going-more _ _ _ _ _ (omega arith) (c .before .before .before .before .before .before .before .loop .inv .3) _ _ _ (omega (arith, c .before .before .before .before .before .before .before .loop .inv .2 .long, c .before .before .before .before .before .before .before .loop .inv .3 .inside, c .before .before .before .before .before .before .before .before .before .before .before .before .before .before .before .before .before .before .before .before .before .before .before .pre .1)) refl (c .before .before .before .before .still-once .ensures) (c .before .before .mark-operands .ensures .2))
+loop-again c =
+    let at8 = c .before .before .before .before .before .before .before .before in
+    let at16 = at8 .before .before .before .before .before .before .before .before in
+    let mark-operands = c .before .before .mark-operands in
+    let still-once = c .before .before .before .before .still-once in
+    let loop = c .before .before .before .before .before .before .before .loop in
+    let args = at16 .before .before .before .before .before .before .before .args in
+    let pre = at16 .before .before .before .before .before .before .before .pre in
+    let there = record-present (args .sheet .now) 6 (loop .n - 1) (omega (arith, loop .inv .3 .inside)) in (
+      omega (arith, loop .inv .0, mark-operands .ensures .0 ∙ number-present _ _ _ there),
+      omega (arith, loop .inv .1, mark-operands .ensures .1),
+      kept-then _ _ _ _ (loop .inv .2)
+          (kept-then _ _ _ _ (kept-set _ _ _ _ (omega (arith, loop .inv .3 .inside)))
+          (kept-lower _ _ _ _ (omega (arith, loop .inv .3 .inside)) (mark-operands .ensures .2 .kept))),
+      going-more _ _ _ _ _ (omega arith) (loop .inv .3) _ _ _ (omega (arith, loop .inv .2 .long, loop .inv .3 .inside, pre .1)) refl
+          (still-once .ensures) (mark-operands .ensures .2),
+    )
 
 same-length : tie.Need-same-length Inv-loop μ-loop
 same-length c = c .before .loop .inv .2 .long ∙ c .before .before .before .before .mark-bindings .ensures .1 .kept .long ∙ c .before .before .before .before .before .before .before .before .mark-charts .ensures .2 .kept .long ∙ c .before .before .before .before .before .before .before .before .before .before .before .before .clear .ensures .kept .long
 
 returns : tie.Need-returns Inv-loop μ-loop
-returns c = test-gives _ _ _ _ _ _ (omega arith) (kept-then _ _ _ _ (kept-at _ _ _ _ (count-opened _ _ _ (c .before .before .before .before .before .before .before .before .before .before .before .before .before .before .count-in .ensures) (c .before .before .before .before .before .before .before .before .before .before .before .before .before .before .before .before .before .args .sheet .now) (c .before .before .before .before .before .before .before .before .before .before .before .before .before .before .before .before .before .pre .0)) (kept-then _ _ _ _ (c .before .before .before .before .before .before .before .before .before .before .before .before .clear .ensures .kept) (kept-then _ _ _ _ (c .before .before .before .before .before .before .before .before .mark-charts .ensures .2 .kept) (c .before .before .before .before .mark-bindings .ensures .1 .kept)))) (c .before .loop .inv .2)) (c .before .loop .inv .3) (c .before .loop .inv .0)
+returns c =
+    let at8 = c .before .before .before .before .before .before .before .before in
+    let at16 = at8 .before .before .before .before .before .before .before .before in
+    let mark-bindings = c .before .before .before .before .mark-bindings in
+    let mark-charts = at8 .mark-charts in
+    let clear = at8 .before .before .before .before .clear in
+    let count-in = at8 .before .before .before .before .before .before .count-in in
+    let args = at16 .before .args in
+    let pre = at16 .before .pre in
+    let count-opened-here = count-opened _ _ _ (count-in .ensures) (args .sheet .now) (pre .0) in
+    let kept-then-here = kept-then _ _ _ _ (clear .ensures .kept) (kept-then _ _ _ _ (mark-charts .ensures .2 .kept) (mark-bindings .ensures .1 .kept)) in
+    let kept-then-here2 = kept-then _ _ _ _ (kept-at _ _ _ _ count-opened-here kept-then-here) (c .before .loop .inv .2) in
+    test-gives _ _ _ _ _ _ (omega arith) kept-then-here2 (c .before .loop .inv .3) (c .before .loop .inv .0)
 
 pub used-once-spec : {M : Type 1} → statement M
 used-once-spec =

@@ -29,7 +29,21 @@ copy-requires : tie.Need-copy-requires
 copy-requires c κs = search needs
 
 happened-requires : tie.Need-happened-requires
-happened-requires c κs = (c .before .before .before .before .before .before .before .before .before .before .pre .0, (sym (c .before .before .before .before .before .before .before .before .is-event .ensures) ∙ not-false _ (c .before .before .before .before .before .before .before .if1 .left)), c .before .before .before .before .before .sought .ensures _ (c .before .before .before .before .before .before .before .before .before .before .pre .0 .state .whole) (sym (c .before .before .before .before .before .before .before .before .is-event .ensures) ∙ not-false _ (c .before .before .before .before .before .before .before .if1 .left)), ⊎-elim (λ w. ap length (w .5 ∙ w .3 .ensures)) (λ w. ap length (w .1) ∙ c .before .before .before .before .before .before .before .before .before .before .pre .1) (c .before .before .if2 .came), λ u. ⊎-elim (λ w. w .5 ∙ w .3 .ensures) (λ w. absurd (true-false u (sym (c .before .before .before .may-undo .ensures) ∙ w .0 .left))) (c .before .before .if2 .came), c .before .before .before .before .before .before .before .before .before .before .pre .2)
+happened-requires c κs =
+    let if2 = c .before .before .if2 in
+    let may-undo = c .before .before .before .may-undo in
+    let sought = c .before .before .before .before .before .sought in
+    let if1 = c .before .before .before .before .before .before .before .if1 in
+    let is-event = c .before .before .before .before .before .before .before .before .is-event in
+    let pre = c .before .before .before .before .before .before .before .before .before .before .pre in
+    let is-event-is = sym (is-event .ensures) ∙ not-false _ (if1 .left) in (
+      pre .0,
+      is-event-is,
+      sought .ensures _ (pre .0 .state .whole) is-event-is,
+      ⊎-elim (λ w. ap length (w .5 ∙ w .3 .ensures)) (λ w. ap length (w .1) ∙ pre .1) (if2 .came),
+      λ u. ⊎-elim (λ w. w .5 ∙ w .3 .ensures) (λ w. absurd (true-false u (sym (may-undo .ensures) ∙ w .0 .left))) (if2 .came),
+      pre .2,
+    )
 
 same-length : tie.Need-same-length
 same-length c = search needs

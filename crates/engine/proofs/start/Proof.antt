@@ -32,13 +32,13 @@ start-passed-requires c κs =
     (c .before .before .before .before .before .before .directory .ensures, sym (c .before .before .before .before .check-opened .ensures .0) ∙ c .before .before .enum-told3 .given .1)
 
 returns : tie.Need-returns
-returns c = 
+returns c =
     let result = c .before .before .before .before .before .before .before .args .result .now in
     let shape = sym (c .before .before .before .check-opened .ensures .0) ∙ c .before .enum-told .given .1 in
     ap (λ (a : Answer). ended a result) (c .answered .ensures) ∙ sym (start-shape _ _ shape)
 
 returns-2 : tie.Need-returns-2
-returns-2 c = 
+returns-2 c =
     let result = c .before .before .before .before .before .before .before .args .result .now in
     let static = sym (c .before .before .before .check-opened .ensures .0) ∙ c .before .enum-told2 .given .1 in
     ap (λ (a : Answer). ended a result) (c .answered2 .ensures) ∙ sym (start-static _ _ static)

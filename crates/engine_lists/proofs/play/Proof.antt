@@ -1,11 +1,14 @@
 use mathlib.Core.Path.{sym, _∙_}
-use borrow.Author.Needs.{needs}
 use Rattle.engine_lists.proofs.Calls.{shape-list, static-list}
+use borrow.Author.Needs.{needs}
 use Rattle.engine_lists.proofs.play.Statement.{statement}
 use Rattle.engine_lists.proofs.play.Tie as tie
 
-check-requires : tie.Need-check-requires
-check-requires c κs = search needs
+directory-requires : tie.Need-directory-requires
+directory-requires c κs = search needs
+
+check-opened-requires : tie.Need-check-opened-requires
+check-opened-requires c κs = search needs
 
 enum-told : tie.Need-enum-told
 enum-told c = search needs
@@ -22,17 +25,21 @@ answered-requires-2 c κs = search needs
 enum-told-3 : tie.Need-enum-told-3
 enum-told-3 c = search needs
 
-directory-requires : tie.Need-directory-requires
-directory-requires c κs = search needs
-
 play-passed-requires : tie.Need-play-passed-requires
-play-passed-requires c κs = (c .before .before .before .before .directory .ensures, sym (c .before .before .before .before .before .before .before .check .ensures .0) ∙ c .before .before .before .before .before .enum-told3 .given .1)
+play-passed-requires c κs =
+    (c .before .before .before .before .before .before .before .before .directory .ensures, sym (c .before .before .before .before .before .before .check-opened .ensures .0) ∙ c .before .before .before .before .enum-told3 .given .1)
 
 returns : tie.Need-returns
-returns c = shape-list (c .before .before .before .before .before .args .sheet .now) (c .before .before .before .before .before .args .events .now) (c .before .before .before .before .before .args .st .now) (c .before .before .before .before .before .args .spare .now) (c .before .before .before .before .before .args .answers .now) _ (c .answered .ensures) (sym (c .before .before .before .check .ensures .0) ∙ c .before .enum-told .given .1)
+returns c =
+    let args = c .before .before .before .before .before .before .before .args in
+    let is = sym (c .before .before .before .check-opened .ensures .0) ∙ c .before .enum-told .given .1 in
+    shape-list (args .sheet .now) (args .events .now) (args .st .now) (args .spare .now) (args .answers .now) _ (c .answered .ensures) is
 
 returns-2 : tie.Need-returns-2
-returns-2 c = static-list (c .before .before .before .before .before .args .sheet .now) (c .before .before .before .before .before .args .events .now) (c .before .before .before .before .before .args .st .now) (c .before .before .before .before .before .args .spare .now) (c .before .before .before .before .before .args .answers .now) _ (c .answered2 .ensures) (sym (c .before .before .before .check .ensures .0) ∙ c .before .enum-told2 .given .1)
+returns-2 c =
+    let args = c .before .before .before .before .before .before .before .args in
+    let is = sym (c .before .before .before .check-opened .ensures .0) ∙ c .before .enum-told2 .given .1 in
+    static-list (args .sheet .now) (args .events .now) (args .st .now) (args .spare .now) (args .answers .now) _ (c .answered2 .ensures) is
 
 same-length : tie.Need-same-length
 same-length c = search needs
@@ -50,13 +57,13 @@ pub play-spec : {M : Type 1} → statement M
 play-spec =
     tie.close
     (tie.spec
-    check-requires
+    directory-requires
+    check-opened-requires
     enum-told
     answered-requires
     enum-told-2
     answered-requires-2
     enum-told-3
-    directory-requires
     play-passed-requires
     returns
     returns-2

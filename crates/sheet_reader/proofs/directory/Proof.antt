@@ -80,12 +80,24 @@ loop-less : tie.Need-loop-less Inv-loop μ-loop
 loop-less c = search needs
 
 loop-again : tie.Need-loop-again Inv-loop μ-loop
-loop-again c = (
-  omega arith,
-  c .before .before .before .before .before .loop .inv .1,
-  length-set (set (c .before .before .before .before .before .loop .sections) (c .before .before .before .offset-place .result) (c .before .number-at .result)) (c .before .before .count-place .result) (c .number-at2 .result / 16) ∙ length-set (c .before .before .before .before .before .loop .sections) (c .before .before .before .offset-place .result) (c .before .number-at .result) ∙ c .before .before .before .before .before .loop .inv .2,
-  entries-more _ (c .before .before .before .before .before .loop .sections) (c .before .before .before .before .before .loop .k) _ _ (c .before .number-at .result) (c .number-at2 .result) (c .before .before .before .offset-place .ensures) (c .before .before .count-place .ensures) (sym (c .before .before .before .before .before .before .before .directory-right .ensures) ∙ c .before .before .before .before .before .before .if1 .taken) (c .before .before .before .before .loop-test .taken) (c .before .before .before .before .before .loop .inv .2) (c .before .before .before .before .before .loop .inv .3) (c .before .number-at .ensures .0) (c .number-at2 .ensures .0),
-)
+loop-again c =
+    let count-place = c .before .before .count-place in
+    let offset-place = c .before .before .before .offset-place in
+    let loop-test = c .before .before .before .before .loop-test in
+    let loop = c .before .before .before .before .before .loop in
+    let if1 = c .before .before .before .before .before .before .if1 in
+    let directory-right = c .before .before .before .before .before .before .before .directory-right in
+    let directory-right-is = sym (directory-right .ensures) ∙ if1 .taken in
+    let set-here = set (loop .sections) (offset-place .result) (c .before .number-at .result) in (
+      omega arith,
+      loop .inv .1,
+      length-set set-here (count-place .result) (c .number-at2 .result / 16)
+          ∙ length-set (loop .sections) (offset-place .result) (c .before .number-at .result)
+          ∙ loop .inv .2,
+      entries-more _ (loop .sections) (loop .k) _ _ (c .before .number-at .result) (c .number-at2 .result) (offset-place .ensures)
+          (count-place .ensures) directory-right-is (loop-test .taken) (loop .inv .2) (loop .inv .3) (c .before .number-at .ensures .0)
+          (c .number-at2 .ensures .0),
+    )
 
 returns : tie.Need-returns Inv-loop μ-loop
 returns c = directory-is _ (sym (c .before .before .before .directory-right .ensures) ∙ c .before .before .if1 .taken) _ (c .before .loop .inv .2) (λ k h. c .before .loop .inv .3 k (omega arith))
