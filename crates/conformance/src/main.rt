@@ -4,7 +4,9 @@
 // words; for a run the number of its events and nine words for each, and what it prints is the
 // listing of `play`. Numbers are 32-bit little-endian. The lent result is filled with 777. An
 // incomplete last call ends it, a run after the events that came, and so does a kind or a length
-// that it doesn't take.
+// that it doesn't take; and an answer that can't be written or an input that can't be read, which is
+// said on standard error.
+use libc::STDERR_FILENO;
 use libc::STDIN_FILENO;
 use libc::STDOUT_FILENO;
 use machine::Answer;
@@ -22,12 +24,13 @@ const STATE: usize = 6000;
 
 const EVENT: usize = 16;
 
-// What the next number is where the input has ended: more than any length.
+// What the next number is where the input has ended or can't be read: more than any kind or length.
 const NONE: usize = 4294967296;
 
 fn read_number() -> usize {
     let mut bytes = [0u8; 4];
-    if io::read_full(STDIN_FILENO, &mut bytes) < 4 {
+    let came = program_input::read_all(STDIN_FILENO, &mut bytes);
+    if came.count < 4 {
         return NONE;
     }
     engine_words::number(&bytes, 0) as usize
@@ -39,28 +42,33 @@ fn read_words(out: &mut [i32]) -> bool
 {
     let mut bytes = [0u8; 24000];
     let size = 4 * out.len();
-    if io::read_full(STDIN_FILENO, &mut bytes[..size]) < size {
+    let came = program_input::read_all(STDIN_FILENO, &mut bytes[..size]);
+    if came.count < size {
         return false;
     }
     engine_words::words(&bytes, 0, out);
     true
 }
 
-fn print_words(words: &[i32]) {
+// The words that end a line. Each `print_` gives whether all was written.
+fn print_words(words: &[i32]) -> bool {
     if words.len() == 0 {
-        io::write_all(STDOUT_FILENO, b"-");
-        return;
+        return program_text::write_out(STDOUT_FILENO, b"-\n");
     }
     let mut out = [0u8; 32768];
     let mut at = program_text::put_signed(&mut out, 0, words[0]);
     let mut i: usize = 1;
     while i < words.len() {
-        let room = program_text::with_room(STDOUT_FILENO, &out, at, 22);
-        let next = program_text::put(&mut out, room, b',');
+        let place = program_text::with_room(STDOUT_FILENO, &out, at, 23);
+        if !place.written {
+            return false;
+        }
+        let next = program_text::put(&mut out, place.at, b',');
         at = program_text::put_signed(&mut out, next, words[i]);
         i += 1;
     }
-    io::write_all(STDOUT_FILENO, &out[..at]);
+    let end = program_text::put(&mut out, at, b'\n');
+    program_text::write_out(STDOUT_FILENO, &out[..end])
 }
 
 fn put_handed(out: &mut [u8], at: usize, h: Handed) -> usize
@@ -73,25 +81,27 @@ fn put_handed(out: &mut [u8], at: usize, h: Handed) -> usize
     }
 }
 
-fn print_start(a: Answer, result: &[i32]) {
+fn print_start(a: Answer, result: &[i32]) -> bool {
     let mut out = [0u8; 42];
     let counts = program_listing::put_counts(&mut out, 0, a.number, a.steps);
     let end = program_text::put(&mut out, counts, b' ');
-    io::write_all(STDOUT_FILENO, &out[..end]);
-    print_words(result);
-    io::write_all(STDOUT_FILENO, b"\n");
+    if !program_text::write_out(STDOUT_FILENO, &out[..end]) {
+        return false;
+    }
+    print_words(result)
 }
 
-fn print_event(a: Answer, result: &[i32]) {
+fn print_event(a: Answer, result: &[i32]) -> bool {
     let mut out = [0u8; 196];
     let counts = program_listing::put_counts(&mut out, 0, a.number, a.steps);
     let next = program_text::put(&mut out, counts, b' ');
     let h = a.handed;
     let handed = put_handed(&mut out, next, h);
     let end = program_text::put(&mut out, handed, b' ');
-    io::write_all(STDOUT_FILENO, &out[..end]);
-    print_words(result);
-    io::write_all(STDOUT_FILENO, b"\n");
+    if !program_text::write_out(STDOUT_FILENO, &out[..end]) {
+        return false;
+    }
+    print_words(result)
 }
 
 // The paper's number.
@@ -105,12 +115,14 @@ fn answer(r: Checked) -> u64
     }
 }
 
+// Each `replay_` gives whether the call was whole and its answer written.
 fn replay_check(sheet: &[u8]) -> bool {
-    io::print_decimal(STDOUT_FILENO, answer(checker::check(sheet)));
-    io::write_all(STDOUT_FILENO, b"\n")
+    let mut out = [0u8; 21];
+    let number = program_text::put_decimal(&mut out, 0, answer(checker::check(sheet)));
+    let end = program_text::put(&mut out, number, b'\n');
+    program_text::write_out(STDOUT_FILENO, &out[..end])
 }
 
-// Each gives whether the call was whole.
 fn replay_start(sheet: &[u8]) -> bool {
     let length = read_number();
     if STATE < length {
@@ -118,8 +130,7 @@ fn replay_start(sheet: &[u8]) -> bool {
     }
     let mut result = [777i32; STATE];
     let a = engine::start(sheet, &mut result[..length]);
-    print_start(a, &result[..length]);
-    true
+    print_start(a, &result[..length])
 }
 
 fn replay_event(sheet: &[u8]) -> bool {
@@ -145,8 +156,7 @@ fn replay_event(sheet: &[u8]) -> bool {
     }
     let mut result = [777i32; STATE];
     let a = engine::event(sheet, &old[..before], &mut result[..length], &ev[..count]);
-    print_event(a, &result[..length]);
-    true
+    print_event(a, &result[..length])
 }
 
 // Reads past `count` events, and gives whether they came.
@@ -154,7 +164,8 @@ fn skip_events(count: usize) -> bool {
     let mut ev = [0u8; 36];
     let mut left = count;
     while 0 < left {
-        if io::read_full(STDIN_FILENO, &mut ev) < 36 {
+        let came = program_input::read_all(STDIN_FILENO, &mut ev);
+        if came.count < 36 {
             return false;
         }
         left -= 1;
@@ -168,7 +179,11 @@ fn replay_run(sheet: &[u8]) -> bool {
     if NONE <= count {
         return false;
     }
-    if program_runs::play(STDIN_FILENO, sheet, count as u64) == 0 {
+    let played = program_runs::play(STDIN_FILENO, sheet, count as u64);
+    if !played.well {
+        return false;
+    }
+    if played.number == 0 {
         return true;
     }
     skip_events(count)
@@ -184,21 +199,36 @@ fn replay(kind: usize, sheet: &[u8]) -> bool {
     }
 }
 
-fn main() {
+fn replay_next() -> bool {
+    let kind = read_number();
+    if NONE <= kind {
+        return false;
+    }
+    let size = read_number();
+    if SHEET < size {
+        return false;
+    }
     let mut sheet = [0u8; SHEET];
+    let came = program_input::read_all(STDIN_FILENO, &mut sheet[..size]);
+    if came.count < size {
+        return false;
+    }
+    replay(kind, &sheet[..size])
+}
+
+fn main() {
+    if 1 < os::arg_count() {
+        io::write_all(
+            STDERR_FILENO,
+            b"use: conformance\nReplays calls from standard input and writes each answer on a line of standard output.\n",
+        );
+        return;
+    }
     let mut left: u64 = 1000000000000;
     while 0 < left {
+        if !replay_next() {
+            return;
+        }
         left -= 1;
-        let kind = read_number();
-        let size = read_number();
-        if SHEET < size {
-            return;
-        }
-        if io::read_full(STDIN_FILENO, &mut sheet[..size]) < size {
-            return;
-        }
-        if !replay(kind, &sheet[..size]) {
-            return;
-        }
     }
 }

@@ -7,8 +7,9 @@ ghost use lib.ListN.{length};
 ghost use Rattle.machine_events.specs.Playing.{Playing};
 ghost use Rattle.engine_cells.specs.Cells.{CellTable};
 
-// Lists `count` answers of ten words each, before which `done` were listed, and writes them out.
-fn list_events(answers: &[i32], count: usize, done: u64, out: &mut [u8])
+// Lists `count` answers of ten words each, before which `done` were listed, and gives whether all were
+// written out. It stops at the first that can't be.
+fn list_events(answers: &[i32], count: usize, done: u64, out: &mut [u8]) -> bool
     requires { ⌜ (10 * count ≤ length (now answers)) × (done + count < 18446744073709551616) × (length (now out) ≡ 32768) ⌝ }
 {
     let mut at: usize = 0;
@@ -24,14 +25,18 @@ fn list_events(answers: &[i32], count: usize, done: u64, out: &mut [u8])
             answers[k + 1],
             h,
         );
-        at = program_text::with_room(STDOUT_FILENO, out, end, 222);
+        let next = program_text::with_room(STDOUT_FILENO, out, end, 222);
+        if !next.written {
+            return false;
+        }
+        at = next.at;
         i += 1;
     }
-    io::write_all(STDOUT_FILENO, &out[..at]);
+    program_text::write_out(STDOUT_FILENO, &out[..at])
 }
 
-// Plays `count` events, before which `done` were played, and lists their answers. `words` and
-// `answers` are room for a thousand events and their answers in words.
+// Plays `count` events, before which `done` were played, lists their answers and gives whether these
+// were written. `words` and `answers` are room for a thousand events and their answers in words.
 fn round(
     sheet: &[u8],
     directory: &[usize; 16],
@@ -44,7 +49,7 @@ fn round(
     answers: &mut [i32],
     done: u64,
     out: &mut [u8],
-)
+) -> bool
     requires { ⌜ Playing (now sheet) (now directory) (now st) × (length (now spare) ≡ length (now st)) × (36 * count ≤ length (now events)) × (count ≤ 1000) × (length (now words) ≡ 9000) × (length (now answers) ≡ 10000) × (done + count < 18446744073709551616) × (length (now out) ≡ 32768) × CellTable (now sheet) (now cells) ⌝ }
     ensures { λ _. ⌜ Playing (now (sheet .entry)) (now (directory .entry)) (now (st .exit)) ⌝ }
 {
@@ -60,11 +65,12 @@ fn round(
         spare,
         &mut answers[..m],
     );
-    list_events(answers, count, done, out);
+    list_events(answers, count, done, out)
 }
 
 // Plays events as they come, `most` at most: those that came whole are played and listed before more
-// are waited for.
+// are waited for. Gives whether every answer was written and no read failed: it stops where one isn't
+// or does.
 pub fn play_events(
     fd: i32,
     sheet: &[u8],
@@ -73,7 +79,7 @@ pub fn play_events(
     st: &mut [i32],
     spare: &mut [i32],
     most: u64,
-)
+) -> bool
     requires { ⌜ Playing (now sheet) (now directory) (now st) × (length (now spare) ≡ length (now st)) × CellTable (now sheet) (now cells) ⌝ }
 {
     let mut events = [0u8; 36000];
@@ -83,12 +89,13 @@ pub fn play_events(
     let mut have: usize = 0;
     let mut done: u64 = 0;
     while done < most {
-        let came = program_input::read_more(fd, &mut events, have, most - done);
+        let more = program_input::read_more(fd, &mut events, have, most - done);
+        let came = more.count;
         if came == have {
-            return;
+            return !more.failed;
         }
         let count = came / 36;
-        round(
+        let written = round(
             sheet,
             directory,
             cells,
@@ -101,7 +108,11 @@ pub fn play_events(
             done,
             &mut out,
         );
+        if !written {
+            return false;
+        }
         have = program_input::keep_rest(&mut events, came);
         done += count as u64;
     }
+    true
 }

@@ -10,10 +10,27 @@ ghost use Rattle.sheet_rules.specs.Check.{checkOf};
 ghost use Rattle.engine_cells.specs.Cells.{CellTable};
 ghost use Rattle.program_runs.specs.Start.{StartAnswers};
 
-fn print_start(number: u8, steps: u32) {
+// Start's answer, and whether every line was written and no read failed.
+pub struct Played {
+    pub number: u8,
+    pub well: bool,
+}
+
+fn print_start(number: u8, steps: u32) -> bool {
     let mut out = [0u8; 48];
     let at = program_listing::put_start(&mut out, 0, number, steps);
-    io::write_all(STDOUT_FILENO, &out[..at]);
+    program_text::write_out(STDOUT_FILENO, &out[..at])
+}
+
+// A sheet that doesn't pass is refused in no step.
+fn refused(number: u8) -> Played
+    ensures { λ r. ⌜ r .number ≡ number ⌝ }
+{
+    let written = print_start(number, 0);
+    Played {
+        number: number,
+        well: written,
+    }
 }
 
 fn play_states(
@@ -24,22 +41,27 @@ fn play_states(
     st: &mut [i32],
     spare: &mut [i32],
     most: u64,
-) -> u8
+) -> Played
     requires { ⌜ (now directory ≡ directoryOf (now sheet)) × (checkOf (now sheet) ≡ Passed) × (length (now st) ≡ stateLength (now sheet)) × (length (now spare) ≡ length (now st)) × CellTable (now sheet) (now cells) ⌝ }
-    ensures { λ r. ⌜ StartAnswers (now (sheet .entry)) r ⌝ }
+    ensures { λ r. ⌜ StartAnswers (now (sheet .entry)) (r .number) ⌝ }
 {
     let a = engine::begin(sheet, directory, cells, st);
-    print_start(a.number, a.steps);
-    if a.number == 0 {
-        program_events::play_events(fd, sheet, directory, cells, st, spare, most);
+    let mut well = print_start(a.number, a.steps);
+    if well {
+        if a.number == 0 {
+            well = program_events::play_events(fd, sheet, directory, cells, st, spare, most);
+        }
     }
-    a.number
+    Played {
+        number: a.number,
+        well: well,
+    }
 }
 
 // A state has at most 512 cells of eight words, and 1,032 words besides.
-fn play_passed(fd: i32, sheet: &[u8], directory: &[usize; 16], most: u64) -> u8
+fn play_passed(fd: i32, sheet: &[u8], directory: &[usize; 16], most: u64) -> Played
     requires { ⌜ (now directory ≡ directoryOf (now sheet)) × (checkOf (now sheet) ≡ Passed) ⌝ }
-    ensures { λ r. ⌜ StartAnswers (now (sheet .entry)) r ⌝ }
+    ensures { λ r. ⌜ StartAnswers (now (sheet .entry)) (r .number) ⌝ }
 {
     let mut st = [0i32; 5128];
     let mut spare = [0i32; 5128];
@@ -58,19 +80,14 @@ fn play_passed(fd: i32, sheet: &[u8], directory: &[usize; 16], most: u64) -> u8
 }
 
 // Plays a sheet with at most `most` events from a descriptor, and gives start's answer: after one
-// other than 0 no event is read. What follows the events stays unread.
-pub fn play(fd: i32, sheet: &[u8], most: u64) -> u8
-    ensures { λ r. ⌜ StartAnswers (now (sheet .entry)) r ⌝ }
+// other than 0 no event is read. What follows the events stays unread. After a line that can't be
+// written or a read that fails nothing is played, read or written any more.
+pub fn play(fd: i32, sheet: &[u8], most: u64) -> Played
+    ensures { λ r. ⌜ StartAnswers (now (sheet .entry)) (r .number) ⌝ }
 {
     match checker::check(sheet) {
-        Checked::Shape => {
-            print_start(1, 0);
-            1
-        }
-        Checked::Static => {
-            print_start(2, 0);
-            2
-        }
+        Checked::Shape => refused(1),
+        Checked::Static => refused(2),
         Checked::Passed => {
             let directory = sheet_reader::directory(sheet);
             play_passed(fd, sheet, &directory, most)
@@ -81,11 +98,27 @@ pub fn play(fd: i32, sheet: &[u8], most: u64) -> u8
 // The most events that are taken.
 const MOST: u64 = 18446744073709550000;
 
-// Reads a sheet's length as a 32-bit little-endian number and the sheet, and plays it with the events
-// behind it. A sheet cut short is the bytes that came.
-pub fn desk(fd: i32) {
+// Reads a sheet's length as a 32-bit little-endian number and the sheet, plays it with the events
+// behind it, and gives whether every line was written and no read failed.
+pub fn desk(fd: i32) -> bool {
     let mut sheet = [0u8; 65536];
-    let size = program_input::sheet_size(fd);
-    let got = io::read_full(fd, &mut sheet[..size]);
-    play(fd, &sheet[..got], MOST);
+    let came = program_input::read_sheet(fd, &mut sheet);
+    if came.failed {
+        return false;
+    }
+    let size = came.count;
+    let played = play(fd, &sheet[..size], MOST);
+    played.well
+}
+
+// The same from a file. One that can't be opened is said on standard error, and nothing is played.
+pub fn desk_from(name: &[u8]) -> bool {
+    let fd = os::open_read(name);
+    if fd < 0 {
+        os::fail(name);
+        return false;
+    }
+    let well = desk(fd);
+    libc::close(fd);
+    well
 }

@@ -2,6 +2,7 @@
 // text at `at` and gives the place behind it.
 ghost use Prim.Native.Nat.{_+_, _<_, _≤_};
 ghost use mathlib.Core.Path.{_≡_};
+ghost use mathlib.Core.Bool.{true};
 ghost use mathlib.Core.List.{[], _∷_};
 ghost use lib.IntN.{natAbs};
 ghost use lib.ListN.{length};
@@ -60,15 +61,38 @@ pub fn put_signed(out: &mut [u8], at: usize, z: i32) -> usize
     put_decimal(out, at, magnitude(z))
 }
 
+// Writes a text out, and gives whether all of it was written. Why it wasn't is said on standard error
+// here, where errno still tells it, so a caller only stops.
+pub fn write_out(fd: i32, text: &[u8]) -> bool {
+    if io::write_all(fd, text) {
+        return true;
+    }
+    os::fail(b"the output can't be written");
+    false
+}
+
+// The place where a text goes on in its buffer, and whether the text before it is there still or was
+// written out.
+pub struct Place {
+    pub at: usize,
+    pub written: bool,
+}
+
 // Writes the buffer's text out once there is less than `room` behind it, and gives the place where
 // the text goes on.
-pub fn with_room(fd: i32, out: &[u8], at: usize, room: usize) -> usize
+pub fn with_room(fd: i32, out: &[u8], at: usize, room: usize) -> Place
     requires { ⌜ (at ≤ length (now out)) × (room ≤ length (now out)) ⌝ }
-    ensures { λ r. ⌜ (r ≡ placeWithRoom (length (now (out .entry))) at room) × (r + room ≤ length (now (out .entry))) ⌝ }
+    ensures { λ r. ⌜ (r .at ≡ placeWithRoom (length (now (out .entry))) at room) × (r .at + room ≤ length (now (out .entry))) × (at + room ≤ length (now (out .entry)) → r .written ≡ true) ⌝ }
 {
     if room <= out.len() - at {
-        return at;
+        return Place {
+            at: at,
+            written: true,
+        };
     }
-    io::write_all(fd, &out[..at]);
-    0
+    let written = write_out(fd, &out[..at]);
+    Place {
+        at: 0,
+        written: written,
+    }
 }

@@ -32,23 +32,25 @@ put-requires-2 c κs = search needs
 array-share-prefix-out : tie.Need-array-share-prefix-out
 array-share-prefix-out c = search needs
 
-slice-aggregate-write-all : tie.Need-slice-aggregate-write-all
-slice-aggregate-write-all c = let a = c .before .before .before .before .before .before .before .before .before .before .before .put-counts .ensures .1 in let b = c .before .before .before .before .before .before .before .before .put .ensures .1 in let d = c .before .before .before .before .before .put-handed .ensures in let e = c .before .before .put2 .ensures .1 in let k = c .before .before .before .before .before .before .before .before .before .before .before .put-counts .kept .0 in let l = c .before .before .before .before .before .before .before .before .put .kept .0 in let m = c .before .before .before .before .before .put-handed .kept .0 in let n = c .before .before .put2 .kept .0 in sym (length-take-le (c .before .before .put2 .result) (c .before .before .put2 .last .0) (omega arith))
+slice-aggregate-write-out : tie.Need-slice-aggregate-write-out
+slice-aggregate-write-out c =
+    let put-counts = c .before .before .before .before .before .before .before .before .before .before .before .put-counts in
+    let put = c .before .before .before .before .before .before .before .before .put in
+    let put-handed = c .before .before .before .before .before .put-handed in
+    let put2 = c .before .before .put2 in
+    sym (length-take-le (put2 .result) (put2 .last .0) (omega arith))
 
-write-all-requires : tie.Need-write-all-requires
-write-all-requires c κs = search needs
+write-out-requires : tie.Need-write-out-requires
+write-out-requires c κs = search needs
+
+returns : tie.Need-returns
+returns c = search needs
 
 print-words-requires : tie.Need-print-words-requires
 print-words-requires c κs = search needs
 
-slice-aggregate-write-all-2 : tie.Need-slice-aggregate-write-all-2
-slice-aggregate-write-all-2 c = search needs
-
-write-all-requires-2 : tie.Need-write-all-requires-2
-write-all-requires-2 c κs = search needs
-
-returns : tie.Need-returns
-returns c = search needs
+returns-2 : tie.Need-returns-2
+returns-2 c = search needs
 
 pub print-event-spec : {M : Type 1} → statement M
 print-event-spec =
@@ -63,9 +65,8 @@ print-event-spec =
     slice-aggregate-put-2
     put-requires-2
     array-share-prefix-out
-    slice-aggregate-write-all
-    write-all-requires
+    slice-aggregate-write-out
+    write-out-requires
+    returns
     print-words-requires
-    slice-aggregate-write-all-2
-    write-all-requires-2
-    returns)
+    returns-2)

@@ -20,23 +20,23 @@ put-requires c κs = search needs
 array-share-prefix-out : tie.Need-array-share-prefix-out
 array-share-prefix-out c = search needs
 
-slice-aggregate-write-all : tie.Need-slice-aggregate-write-all
-slice-aggregate-write-all c = let a = c .before .before .before .before .before .put-counts .ensures .1 in let b = c .before .before .put .ensures .1 in let k = c .before .before .before .before .before .put-counts .kept .0 in let l = c .before .before .put .kept .0 in sym (length-take-le (c .before .before .put .result) (c .before .before .put .last .0) (omega arith))
+slice-aggregate-write-out : tie.Need-slice-aggregate-write-out
+slice-aggregate-write-out c =
+    let put-counts = c .before .before .before .before .before .put-counts in
+    let put = c .before .before .put in
+    sym (length-take-le (put .result) (put .last .0) (omega arith))
 
-write-all-requires : tie.Need-write-all-requires
-write-all-requires c κs = search needs
+write-out-requires : tie.Need-write-out-requires
+write-out-requires c κs = search needs
+
+returns : tie.Need-returns
+returns c = search needs
 
 print-words-requires : tie.Need-print-words-requires
 print-words-requires c κs = search needs
 
-slice-aggregate-write-all-2 : tie.Need-slice-aggregate-write-all-2
-slice-aggregate-write-all-2 c = search needs
-
-write-all-requires-2 : tie.Need-write-all-requires-2
-write-all-requires-2 c κs = search needs
-
-returns : tie.Need-returns
-returns c = search needs
+returns-2 : tie.Need-returns-2
+returns-2 c = search needs
 
 pub print-start-spec : {M : Type 1} → statement M
 print-start-spec =
@@ -47,9 +47,8 @@ print-start-spec =
     slice-aggregate-put
     put-requires
     array-share-prefix-out
-    slice-aggregate-write-all
-    write-all-requires
+    slice-aggregate-write-out
+    write-out-requires
+    returns
     print-words-requires
-    slice-aggregate-write-all-2
-    write-all-requires-2
-    returns)
+    returns-2)

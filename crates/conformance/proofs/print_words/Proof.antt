@@ -1,4 +1,5 @@
-use Prim.Native.Nat.{_-_, _≤_}
+-- The loop's invariant: behind the text there is room for the line's end.
+use Prim.Native.Nat.{_+_, _-_, _≤_}
 use mathlib.Core.Path.{_≡_, sym, _∙_}
 use native.Mathlib.Omega.{arith}
 use lib.ListN.{length}
@@ -8,16 +9,16 @@ use Rattle.conformance.proofs.print_words.Statement.{statement}
 use Rattle.conformance.proofs.print_words.Tie as tie
 
 abbrev Inv-loop : tie.InvT-loop
-Inv-loop words out₀ at₀ i₀ out at i = (length out ≡ 32768) × (at ≤ 32768)
+Inv-loop words out₀ at₀ i₀ out at i = (length out ≡ 32768) × (at + 1 ≤ 32768)
 
 abbrev μ-loop : tie.MeasureT-loop
 μ-loop words out₀ at₀ i₀ out at i = length words - i
 
-slice-aggregate-write-all : tie.Need-slice-aggregate-write-all Inv-loop μ-loop
-slice-aggregate-write-all c = search needs
+slice-aggregate-write-out : tie.Need-slice-aggregate-write-out Inv-loop μ-loop
+slice-aggregate-write-out c = search needs
 
-write-all-requires : tie.Need-write-all-requires Inv-loop μ-loop
-write-all-requires c κs = search needs
+write-out-requires : tie.Need-write-out-requires Inv-loop μ-loop
+write-out-requires c κs = search needs
 
 returns : tie.Need-returns Inv-loop μ-loop
 returns c = search needs
@@ -32,22 +33,34 @@ put-signed-requires : tie.Need-put-signed-requires Inv-loop μ-loop
 put-signed-requires c κs = search needs
 
 loop-holds : tie.Need-loop-holds Inv-loop μ-loop
-loop-holds c = let a = c .before .put-signed .ensures .1 in (c .before .put-signed .kept .0, omega arith)
+loop-holds c =
+    let put-signed = c .before .put-signed in
+    (put-signed .kept .0, omega arith)
 
 slice-aggregate-with-room : tie.Need-slice-aggregate-with-room Inv-loop μ-loop
 slice-aggregate-with-room c = sym (c .before .before .loop .inv .0)
 
 with-room-requires : tie.Need-with-room-requires Inv-loop μ-loop
-with-room-requires c κs = let e = c .before .before .loop .inv .0 in let l = c .before .before .loop .inv .1 in (omega arith, omega arith)
+with-room-requires c κs =
+    let loop = c .before .before .loop in
+    (omega arith, omega arith)
+
+returns-2 : tie.Need-returns-2 Inv-loop μ-loop
+returns-2 c = search needs
 
 slice-aggregate-put : tie.Need-slice-aggregate-put Inv-loop μ-loop
-slice-aggregate-put c = sym (c .before .before .before .before .loop .inv .0)
+slice-aggregate-put c = sym (c .before .before .before .before .before .before .loop .inv .0)
 
 put-requires : tie.Need-put-requires Inv-loop μ-loop
-put-requires c κs = let r = c .before .with-room .ensures .1 in omega arith
+put-requires c κs =
+    let loop = c .before .before .before .before .before .before .loop in
+    let with-room = c .before .before .before .with-room in
+    omega arith
 
 slice-aggregate-put-signed-2 : tie.Need-slice-aggregate-put-signed-2 Inv-loop μ-loop
-slice-aggregate-put-signed-2 c = sym (c .before .before .put .kept .0 ∙ c .before .before .before .before .before .before .before .loop .inv .0)
+slice-aggregate-put-signed-2 c =
+    let loop = c .before .before .before .before .before .before .before .before .before .loop in
+    sym (c .before .before .put .kept .0 ∙ loop .inv .0)
 
 mul-put-signed : tie.Need-mul-put-signed Inv-loop μ-loop
 mul-put-signed c = search needs
@@ -56,28 +69,52 @@ shared-slice-copy-out-put-signed-2 : tie.Need-shared-slice-copy-out-put-signed-2
 shared-slice-copy-out-put-signed-2 c = search needs
 
 put-signed-requires-2 : tie.Need-put-signed-requires-2 Inv-loop μ-loop
-put-signed-requires-2 c κs = let r = c .before .before .before .before .before .with-room .ensures .1 in let a = c .before .before .before .put .ensures .1 in let k = c .before .before .before .put .kept .0 in omega arith
+put-signed-requires-2 c κs =
+    let loop = c .before .before .before .before .before .before .before .before .before .before .loop in
+    let with-room = c .before .before .before .before .before .before .before .with-room in
+    let put = c .before .before .before .put in
+    omega arith
 
 add-i : tie.Need-add-i Inv-loop μ-loop
 add-i c = search needs
 
 loop-less : tie.Need-loop-less Inv-loop μ-loop
-loop-less c = let l = c .before .before .before .before .before .before .before .before .before .loop-test .taken in omega arith
+loop-less c =
+    let turn = c .before .before .before .before .before .before .before .before .before .before .before .loop-test .taken in
+    omega arith
 
 loop-again : tie.Need-loop-again Inv-loop μ-loop
-loop-again c = let r = c .before .before .before .before .before .before .before .with-room .ensures .1 in let a = c .before .before .before .before .before .put .ensures .1 in let b = c .before .put-signed2 .ensures .1 in let e = c .before .before .before .before .before .before .before .before .before .before .loop .inv .0 in (c .before .put-signed2 .kept .0 ∙ c .before .before .before .before .before .put .kept .0 ∙ e, omega arith)
+loop-again c =
+    let loop = c .before .before .before .before .before .before .before .before .before .before .before .before .loop in
+    let with-room = c .before .before .before .before .before .before .before .before .before .with-room in
+    let put = c .before .before .before .before .before .put in
+    let put-signed = c .before .put-signed2 in
+    (put-signed .kept .0 ∙ put .kept .0 ∙ loop .inv .0, omega arith)
+
+slice-aggregate-put-2 : tie.Need-slice-aggregate-put-2 Inv-loop μ-loop
+slice-aggregate-put-2 c = sym (c .before .before .loop .inv .0)
+
+put-requires-2 : tie.Need-put-requires-2 Inv-loop μ-loop
+put-requires-2 c κs =
+    let loop = c .before .before .loop in
+    omega arith
 
 array-share-prefix-out : tie.Need-array-share-prefix-out Inv-loop μ-loop
-array-share-prefix-out c = let e = c .before .loop .inv .0 in let l = c .before .loop .inv .1 in omega arith
+array-share-prefix-out c =
+    let loop = c .before .before .before .before .loop in
+    let put = c .before .put2 in
+    omega arith
 
-slice-aggregate-write-all-2 : tie.Need-slice-aggregate-write-all-2 Inv-loop μ-loop
-slice-aggregate-write-all-2 c = let e = c .before .before .loop .inv .0 in let l = c .before .before .loop .inv .1 in sym (length-take-le (c .before .before .loop .at) (c .before .before .loop .out) (omega arith))
+slice-aggregate-write-out-2 : tie.Need-slice-aggregate-write-out-2 Inv-loop μ-loop
+slice-aggregate-write-out-2 c =
+    let put = c .before .before .put2 in
+    sym (length-take-le (put .result) (put .last .0) (array-share-prefix-out (c .before)))
 
-write-all-requires-2 : tie.Need-write-all-requires-2 Inv-loop μ-loop
-write-all-requires-2 c κs = search needs
+write-out-requires-2 : tie.Need-write-out-requires-2 Inv-loop μ-loop
+write-out-requires-2 c κs = search needs
 
-returns-2 : tie.Need-returns-2 Inv-loop μ-loop
-returns-2 c = search needs
+returns-3 : tie.Need-returns-3 Inv-loop μ-loop
+returns-3 c = search needs
 
 pub print-words-spec : {M : Type 1} → statement M
 print-words-spec =
@@ -85,8 +122,8 @@ print-words-spec =
     (tie.spec
     Inv-loop
     μ-loop
-    slice-aggregate-write-all
-    write-all-requires
+    slice-aggregate-write-out
+    write-out-requires
     returns
     slice-aggregate-put-signed
     shared-slice-copy-out-put-signed
@@ -94,6 +131,7 @@ print-words-spec =
     loop-holds
     slice-aggregate-with-room
     with-room-requires
+    returns-2
     slice-aggregate-put
     put-requires
     slice-aggregate-put-signed-2
@@ -103,7 +141,9 @@ print-words-spec =
     add-i
     loop-less
     loop-again
+    slice-aggregate-put-2
+    put-requires-2
     array-share-prefix-out
-    slice-aggregate-write-all-2
-    write-all-requires-2
-    returns-2)
+    slice-aggregate-write-out-2
+    write-out-requires-2
+    returns-3)

@@ -12,20 +12,28 @@ mul-size c = search needs
 array-borrow-prefix-bytes : tie.Need-array-borrow-prefix-bytes
 array-borrow-prefix-bytes c = search needs
 
-slice-aggregate-read-full : tie.Need-slice-aggregate-read-full
-slice-aggregate-read-full c = fresh-front (4 * length (c .before .args .out .now)) 24000 0 (let p = c .before .pre in omega arith)
+slice-aggregate-read-all : tie.Need-slice-aggregate-read-all
+slice-aggregate-read-all c =
+    let start = c .before in
+    fresh-front (4 * length (start .args .out .now)) 24000 0 (omega arith)
 
-read-full-requires : tie.Need-read-full-requires
-read-full-requires c κs = search needs
+read-all-requires : tie.Need-read-all-requires
+read-all-requires c κs = search needs
 
 returns : tie.Need-returns
 returns c = search needs
 
 slice-aggregate-words : tie.Need-slice-aggregate-words
-slice-aggregate-words c = fresh-written (4 * length (c .before .before .before .before .before .args .out .now)) 24000 0 (c .before .before .before .read-full .last .1 .0) (c .before .before .before .read-full .kept .1 .0)
+slice-aggregate-words c =
+    let start = c .before .before .before .before .before .before in
+    let read-all = c .before .before .before .before .read-all in
+    fresh-written (4 * length (start .args .out .now)) 24000 0 (read-all .last .1 .0) (read-all .kept .1 .0)
 
 words-requires : tie.Need-words-requires
-words-requires c κs = let p = c .before .before .before .before .before .before .pre in omega (arith, fresh-written (4 * length (c .before .before .before .before .before .before .args .out .now)) 24000 0 (c .before .before .before .before .read-full .last .1 .0) (c .before .before .before .before .read-full .kept .1 .0))
+words-requires c κs =
+    let start = c .before .before .before .before .before .before .before in
+    let read-all = c .before .before .before .before .before .read-all in
+    omega (arith, fresh-written (4 * length (start .args .out .now)) 24000 0 (read-all .last .1 .0) (read-all .kept .1 .0))
 
 same-length : tie.Need-same-length
 same-length c = search needs
@@ -39,8 +47,8 @@ read-words-spec =
     (tie.spec
     mul-size
     array-borrow-prefix-bytes
-    slice-aggregate-read-full
-    read-full-requires
+    slice-aggregate-read-all
+    read-all-requires
     returns
     slice-aggregate-words
     words-requires

@@ -48,31 +48,57 @@ returns-5 : tie.Need-returns-5
 returns-5 c = search needs
 
 array-share-prefix-old : tie.Need-array-share-prefix-old
-array-share-prefix-old c = front-fits (c .before .before .before .before .before .before .before .before .before .before .read-words .last .0) _ (c .before .before .before .before .before .before .before .before .before .before .before .before .before .read-number .result) (front-whole (c .before .before .before .before .before .before .before .before .before .before .before .before .before .read-number .result) 6000 (pos 0) (c .before .before .before .before .before .before .before .before .before .before .before .before .if1 .left) (c .before .before .before .before .before .before .before .before .before .before .read-words .last .0) (c .before .before .before .before .before .before .before .before .before .before .read-words .kept .0))
+array-share-prefix-old c =
+    let read-number = c .before .before .before .before .before .before .before .before .before .before .before .before .before .read-number in
+    let if1 = c .before .before .before .before .before .before .before .before .before .before .before .before .if1 in
+    let read-words = c .before .before .before .before .before .before .before .before .before .before .read-words in
+    front-fits (read-words .last .0) _ (read-number .result) (front-whole (read-number .result) 6000 (pos 0) (if1 .left) (read-words .last .0) (read-words .kept .0))
 
 slice-aggregate-event : tie.Need-slice-aggregate-event
-slice-aggregate-event c = front-length (c .before .before .before .before .before .before .before .before .before .before .before .read-words .last .0) _ (c .before .before .before .before .before .before .before .before .before .before .before .before .before .before .read-number .result) (front-whole (c .before .before .before .before .before .before .before .before .before .before .before .before .before .before .read-number .result) 6000 (pos 0) (c .before .before .before .before .before .before .before .before .before .before .before .before .before .if1 .left) (c .before .before .before .before .before .before .before .before .before .before .before .read-words .last .0) (c .before .before .before .before .before .before .before .before .before .before .before .read-words .kept .0))
+slice-aggregate-event c =
+    let read-number = c .before .before .before .before .before .before .before .before .before .before .before .before .before .before .read-number in
+    let if1 = c .before .before .before .before .before .before .before .before .before .before .before .before .before .if1 in
+    let read-words = c .before .before .before .before .before .before .before .before .before .before .before .read-words in
+    front-length (read-words .last .0) _ (read-number .result) (front-whole (read-number .result) 6000 (pos 0) (if1 .left) (read-words .last .0) (read-words .kept .0))
 
 array-borrow-prefix-result : tie.Need-array-borrow-prefix-result
 array-borrow-prefix-result c = search needs
 
 slice-aggregate-event-2 : tie.Need-slice-aggregate-event-2
-slice-aggregate-event-2 c = fresh-front (c .before .before .before .before .before .before .before .before .before .read-number2 .result) 6000 (pos 777) (c .before .before .before .before .before .before .before .before .if3 .left)
+slice-aggregate-event-2 c =
+    let read-number2 = c .before .before .before .before .before .before .before .before .before .read-number2 in
+    let if3 = c .before .before .before .before .before .before .before .before .if3 in
+    fresh-front (read-number2 .result) 6000 (pos 777) (if3 .left)
 
 array-share-prefix-ev : tie.Need-array-share-prefix-ev
-array-share-prefix-ev c = front-fits (c .before .before .before .before .read-words2 .last .0) _ (c .before .before .before .before .before .before .before .read-number3 .result) (front-whole (c .before .before .before .before .before .before .before .read-number3 .result) 16 (pos 0) (c .before .before .before .before .before .before .if4 .left) (c .before .before .before .before .read-words2 .last .0) (c .before .before .before .before .read-words2 .kept .0))
+array-share-prefix-ev c =
+    let read-number3 = c .before .before .before .before .before .before .before .read-number3 in
+    let if4 = c .before .before .before .before .before .before .if4 in
+    let read-words2 = c .before .before .before .before .read-words2 in
+    front-fits (read-words2 .last .0) _ (read-number3 .result) (front-whole (read-number3 .result) 16 (pos 0) (if4 .left) (read-words2 .last .0) (read-words2 .kept .0))
 
 slice-aggregate-event-3 : tie.Need-slice-aggregate-event-3
-slice-aggregate-event-3 c = front-length (c .before .before .before .before .before .read-words2 .last .0) _ (c .before .before .before .before .before .before .before .before .read-number3 .result) (front-whole (c .before .before .before .before .before .before .before .before .read-number3 .result) 16 (pos 0) (c .before .before .before .before .before .before .before .if4 .left) (c .before .before .before .before .before .read-words2 .last .0) (c .before .before .before .before .before .read-words2 .kept .0))
+slice-aggregate-event-3 c =
+    let read-number3 = c .before .before .before .before .before .before .before .before .read-number3 in
+    let if4 = c .before .before .before .before .before .before .before .if4 in
+    let read-words2 = c .before .before .before .before .before .read-words2 in
+    front-length (read-words2 .last .0) _ (read-number3 .result) (front-whole (read-number3 .result) 16 (pos 0) (if4 .left) (read-words2 .last .0) (read-words2 .kept .0))
 
 event-requires : tie.Need-event-requires
 event-requires c κs = search needs
 
 array-share-prefix-result : tie.Need-array-share-prefix-result
-array-share-prefix-result c = front-fits (c .before .event .last .1 .1 .0) _ (c .before .before .before .before .before .before .before .before .before .before .before .before .read-number2 .result) (front-whole (c .before .before .before .before .before .before .before .before .before .before .before .before .read-number2 .result) 6000 (pos 777) (c .before .before .before .before .before .before .before .before .before .before .before .if3 .left) (c .before .event .last .1 .1 .0) (c .before .event .kept .1 .1 .0))
+array-share-prefix-result c =
+    let read-number2 = c .before .before .before .before .before .before .before .before .before .before .before .before .read-number2 in
+    let if3 = c .before .before .before .before .before .before .before .before .before .before .before .if3 in
+    front-fits (c .before .event .last .1 .1 .0) _ (read-number2 .result) (front-whole (read-number2 .result) 6000 (pos 777) (if3 .left) (c .before .event .last .1 .1 .0) (c .before .event .kept .1 .1 .0))
 
 slice-aggregate-print-event : tie.Need-slice-aggregate-print-event
-slice-aggregate-print-event c = front-length (c .before .before .event .last .1 .1 .0) _ (c .before .before .before .before .before .before .before .before .before .before .before .before .before .read-number2 .result) (front-whole (c .before .before .before .before .before .before .before .before .before .before .before .before .before .read-number2 .result) 6000 (pos 777) (c .before .before .before .before .before .before .before .before .before .before .before .before .if3 .left) (c .before .before .event .last .1 .1 .0) (c .before .before .event .kept .1 .1 .0))
+slice-aggregate-print-event c =
+    let read-number2 = c .before .before .before .before .before .before .before .before .before .before .before .before .before .read-number2 in
+    let if3 = c .before .before .before .before .before .before .before .before .before .before .before .before .if3 in
+    let event = c .before .before .event in
+    front-length (event .last .1 .1 .0) _ (read-number2 .result) (front-whole (read-number2 .result) 6000 (pos 777) (if3 .left) (event .last .1 .1 .0) (event .kept .1 .1 .0))
 
 print-event-requires : tie.Need-print-event-requires
 print-event-requires c κs = search needs

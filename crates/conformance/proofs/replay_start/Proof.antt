@@ -20,10 +20,17 @@ start-requires : tie.Need-start-requires
 start-requires c κs = search needs
 
 array-share-prefix-result : tie.Need-array-share-prefix-result
-array-share-prefix-result c = front-fits (c .before .start .last .1 .0) _ (c .before .before .before .before .read-number .result) (front-whole (c .before .before .before .before .read-number .result) 6000 (pos 777) (c .before .before .before .if1 .left) (c .before .start .last .1 .0) (c .before .start .kept .1 .0))
+array-share-prefix-result c =
+    let read-number = c .before .before .before .before .read-number in
+    let if1 = c .before .before .before .if1 in
+    front-fits (c .before .start .last .1 .0) _ (read-number .result) (front-whole (read-number .result) 6000 (pos 777) (if1 .left) (c .before .start .last .1 .0) (c .before .start .kept .1 .0))
 
 slice-aggregate-print-start : tie.Need-slice-aggregate-print-start
-slice-aggregate-print-start c = front-length (c .before .before .start .last .1 .0) _ (c .before .before .before .before .before .read-number .result) (front-whole (c .before .before .before .before .before .read-number .result) 6000 (pos 777) (c .before .before .before .before .if1 .left) (c .before .before .start .last .1 .0) (c .before .before .start .kept .1 .0))
+slice-aggregate-print-start c =
+    let read-number = c .before .before .before .before .before .read-number in
+    let if1 = c .before .before .before .before .if1 in
+    let start = c .before .before .start in
+    front-length (start .last .1 .0) _ (read-number .result) (front-whole (read-number .result) 6000 (pos 777) (if1 .left) (start .last .1 .0) (start .kept .1 .0))
 
 print-start-requires : tie.Need-print-start-requires
 print-start-requires c κs = search needs

@@ -17,66 +17,115 @@ loop-holds : tie.Need-loop-holds Inv-loop μ-loop
 loop-holds c = (refl, omega arith, omega arith)
 
 mul-k : tie.Need-mul-k Inv-loop μ-loop
-mul-k c = let l = c .loop-test .taken in let p = c .before .before .before .pre .0 in search needs
+mul-k c =
+    let start = c .before .before .before in
+    let turn = c .loop-test .taken in
+    search needs
 
 add-handed-at : tie.Need-add-handed-at Inv-loop μ-loop
-add-handed-at c = let l = c .loop-test .taken in let p = c .before .before .before .pre .0 in search needs
+add-handed-at c =
+    let start = c .before .before .before in
+    let turn = c .loop-test .taken in
+    search needs
 
 handed-at-requires : tie.Need-handed-at-requires Inv-loop μ-loop
-handed-at-requires c κs = let l = c .loop-test .taken in let p = c .before .before .before .pre .0 in omega arith
+handed-at-requires c κs =
+    let start = c .before .before .before in
+    let turn = c .loop-test .taken in
+    omega arith
 
 add-put-event : tie.Need-add-put-event Inv-loop μ-loop
-add-put-event c = let l = c .before .before .loop-test .taken in let p = c .before .before .before .before .before .pre .1 in search needs
+add-put-event c =
+    let start = c .before .before .before .before .before in
+    let turn = c .before .before .loop-test .taken in
+    search needs
 
 add-put-event-2 : tie.Need-add-put-event-2 Inv-loop μ-loop
-add-put-event-2 c = let l = c .before .before .loop-test .taken in let p = c .before .before .before .before .before .pre .1 in search needs
+add-put-event-2 c =
+    let start = c .before .before .before .before .before in
+    let turn = c .before .before .loop-test .taken in
+    search needs
 
 mul-put-event : tie.Need-mul-put-event Inv-loop μ-loop
 mul-put-event c = search needs
 
 shared-slice-copy-out-put-event : tie.Need-shared-slice-copy-out-put-event Inv-loop μ-loop
-shared-slice-copy-out-put-event c = let l = c .before .before .loop-test .taken in let p = c .before .before .before .before .before .pre .0 in omega arith
+shared-slice-copy-out-put-event c =
+    let start = c .before .before .before .before .before in
+    let turn = c .before .before .loop-test .taken in
+    omega arith
 
 add-put-event-3 : tie.Need-add-put-event-3 Inv-loop μ-loop
-add-put-event-3 c = let l = c .before .before .before .loop-test .taken in let p = c .before .before .before .before .before .before .pre .0 in search needs
+add-put-event-3 c =
+    let start = c .before .before .before .before .before .before in
+    let turn = c .before .before .before .loop-test .taken in
+    search needs
 
 mul-put-event-2 : tie.Need-mul-put-event-2 Inv-loop μ-loop
 mul-put-event-2 c = search needs
 
 shared-slice-copy-out-put-event-2 : tie.Need-shared-slice-copy-out-put-event-2 Inv-loop μ-loop
-shared-slice-copy-out-put-event-2 c = let l = c .before .before .before .loop-test .taken in let p = c .before .before .before .before .before .before .pre .0 in omega arith
+shared-slice-copy-out-put-event-2 c =
+    let start = c .before .before .before .before .before .before in
+    let turn = c .before .before .before .loop-test .taken in
+    omega arith
 
 put-event-requires : tie.Need-put-event-requires Inv-loop μ-loop
-put-event-requires c κs = let a = c .before .before .before .before .before .loop .inv .1 in let o = c .before .before .before .before .before .loop .inv .0 in let q = c .before .before .before .before .before .before .before .pre .2 in omega arith
+put-event-requires c κs =
+    let start = c .before .before .before .before .before .before .before in
+    let loop = c .before .before .before .before .before .loop in
+    omega arith
 
 with-room-requires : tie.Need-with-room-requires Inv-loop μ-loop
-with-room-requires c κs = let a = c .before .before .before .before .before .before .before .before .before .loop .inv .1 in let o = c .before .before .before .before .before .before .before .before .before .loop .inv .0 in let q = c .before .before .before .before .before .before .before .before .before .before .before .pre .2 in let k = c .before .before .before .put-event .kept .0 in let l = c .before .before .before .put-event .ensures .1 in (omega arith, omega arith)
+with-room-requires c κs =
+    let start = c .before .before .before .before .before .before .before .before .before .before .before in
+    let loop = c .before .before .before .before .before .before .before .before .before .loop in
+    let put-event = c .before .before .before .put-event in
+    (omega arith, omega arith)
+
+same-length : tie.Need-same-length Inv-loop μ-loop
+same-length c =
+    let loop = c .before .before .before .before .before .before .before .before .before .before .before .before .loop in
+    let put-event = c .before .before .before .before .before .before .put-event in
+    put-event .kept .0 ∙ loop .inv .0
+
+returns : tie.Need-returns Inv-loop μ-loop
+returns c = search needs
 
 add-i : tie.Need-add-i Inv-loop μ-loop
 add-i c = search needs
 
 loop-less : tie.Need-loop-less Inv-loop μ-loop
-loop-less c = let l = c .before .before .before .before .before .before .before .before .before .loop-test .taken in omega arith
+loop-less c =
+    let turn = c .before .before .before .before .before .before .before .before .before .before .before .loop-test .taken in
+    omega arith
 
 loop-again : tie.Need-loop-again Inv-loop μ-loop
 loop-again c =
-    let l = c .before .before .before .before .before .before .before .before .before .loop-test .taken in
-    (c .before .before .before .before .put-event .kept .0 ∙ c .before .before .before .before .before .before .before .before .before .before .loop .inv .0, (let r = c .with-room .ensures .1 in let k = c .before .before .before .before .put-event .kept .0 in let o = c .before .before .before .before .before .before .before .before .before .before .loop .inv .0 in let q = c .before .before .before .before .before .before .before .before .before .before .before .before .pre .2 in omega arith), omega arith)
+    let start = c .before .before .before .before .before .before .before .before .before .before .before .before .before .before in
+    let loop = c .before .before .before .before .before .before .before .before .before .before .before .before .loop in
+    let turn = c .before .before .before .before .before .before .before .before .before .before .before .loop-test .taken in
+    let put-event = c .before .before .before .before .before .before .put-event in
+    let room = c .before .before .with-room .ensures in
+    (put-event .kept .0 ∙ loop .inv .0, omega arith, omega arith)
 
-slice-reshare-prefix-write-all : tie.Need-slice-reshare-prefix-write-all Inv-loop μ-loop
-slice-reshare-prefix-write-all c = let a = c .before .loop .inv .1 in let o = c .before .loop .inv .0 in let q = c .before .before .before .pre .2 in omega arith
+slice-reshare-prefix-write-out : tie.Need-slice-reshare-prefix-write-out Inv-loop μ-loop
+slice-reshare-prefix-write-out c =
+    let start = c .before .before .before in
+    let loop = c .before .loop in
+    omega arith
 
-slice-aggregate-write-all : tie.Need-slice-aggregate-write-all Inv-loop μ-loop
-slice-aggregate-write-all c = sym (length-take-le _ _ (slice-reshare-prefix-write-all (c .before)))
+slice-aggregate-write-out : tie.Need-slice-aggregate-write-out Inv-loop μ-loop
+slice-aggregate-write-out c = sym (length-take-le _ _ (slice-reshare-prefix-write-out (c .before)))
 
-write-all-requires : tie.Need-write-all-requires Inv-loop μ-loop
-write-all-requires c κs = search needs
+write-out-requires : tie.Need-write-out-requires Inv-loop μ-loop
+write-out-requires c κs = search needs
 
-same-length : tie.Need-same-length Inv-loop μ-loop
-same-length c = search needs
+same-length-2 : tie.Need-same-length-2 Inv-loop μ-loop
+same-length-2 c = search needs
 
-returns : tie.Need-returns Inv-loop μ-loop
-returns c = search needs
+returns-2 : tie.Need-returns-2 Inv-loop μ-loop
+returns-2 c = search needs
 
 pub list-events-spec : {M : Type 1} → statement M
 list-events-spec =
@@ -97,11 +146,13 @@ list-events-spec =
     shared-slice-copy-out-put-event-2
     put-event-requires
     with-room-requires
+    same-length
+    returns
     add-i
     loop-less
     loop-again
-    slice-reshare-prefix-write-all
-    slice-aggregate-write-all
-    write-all-requires
-    same-length
-    returns)
+    slice-reshare-prefix-write-out
+    slice-aggregate-write-out
+    write-out-requires
+    same-length-2
+    returns-2)

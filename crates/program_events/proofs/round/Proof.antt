@@ -33,7 +33,9 @@ slice-aggregate-play-on-2 : tie.Need-slice-aggregate-play-on-2
 slice-aggregate-play-on-2 c = sym (length-take-le _ _ (slice-relend-prefix-play-on (c .before)))
 
 play-on-requires : tie.Need-play-on-requires
-play-on-requires c κs = (c .before .before .before .before .before .before .before .before .before .before .pre .0, c .before .before .before .before .before .before .before .before .before .before .pre .1, answers-room _ _ _ (slice-reshare-prefix-play-on (c .before .before .before .before)) (slice-relend-prefix-play-on (c .before)), c .before .before .before .before .before .before .before .before .before .before .pre .8)
+play-on-requires c κs =
+    let start = c .before .before .before .before .before .before .before .before .before .before in
+    (start .pre .0, start .pre .1, answers-room _ _ _ (slice-reshare-prefix-play-on (c .before .before .before .before)) (slice-relend-prefix-play-on (c .before)), start .pre .8)
 
 list-events-requires : tie.Need-list-events-requires
 list-events-requires c κs = search needs

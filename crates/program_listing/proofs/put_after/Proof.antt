@@ -19,10 +19,10 @@ same-length c = search needs
 returns : tie.Need-returns
 unfolding afterText
 returns c =
-    let p = c .before .before .before .before .before .before .before .before .before .pre in
-    let a = c .before .before .before .before .before .before .put .ensures .1 in
-    let b = c .before .before .put-signed .ensures .1 in
-    (put-then (c .before .before .before .before .before .before .put .ensures .0) (omega arith) (subst (λ w. Put (c .before .before .before .before .before .before .put .last .0) (c .before .before .before .before .before .before .put .result) (signed w) (c .before .before .put-signed .last .0) (c .before .before .put-signed .result)) (back (c .before .before .before .before .before .before .before .before .before .args .z) (c .before .before .before .before .before .before .before .before .before .fits .z)) (c .before .before .put-signed .ensures .0)), omega arith)
+    let start = c .before .before .before .before .before .before .before .before .before in
+    let put = c .before .before .before .before .before .before .put in
+    let put-signed = c .before .before .put-signed in
+    (put-then (put .ensures .0) (omega arith) (subst (λ w. Put (put .last .0) (put .result) (signed w) (put-signed .last .0) (put-signed .result)) (back (start .args .z) (start .fits .z)) (put-signed .ensures .0)), omega arith)
 
 pub put-after-spec : {M : Type 1} → statement M
 put-after-spec = tie.close (tie.spec put-requires put-signed-requires same-length returns)

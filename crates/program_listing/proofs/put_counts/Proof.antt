@@ -20,11 +20,11 @@ same-length c = search needs
 returns : tie.Need-returns
 unfolding countsText
 returns c =
-    let p = c .before .before .before .before .before .before .before .before .before .before .before .before .before .pre in
-    let a = c .before .before .before .before .before .before .before .before .before .before .put-decimal .ensures .1 in
-    let b = c .before .before .before .before .before .before .put .ensures .1 in
-    let d = c .before .before .put-decimal2 .ensures .1 in
-    (put-then (put-then (c .before .before .before .before .before .before .before .before .before .before .put-decimal .ensures .0) (omega arith) (c .before .before .before .before .before .before .put .ensures .0)) (omega arith) (c .before .before .put-decimal2 .ensures .0), omega arith)
+    let start = c .before .before .before .before .before .before .before .before .before .before .before .before .before in
+    let put-decimal = c .before .before .before .before .before .before .before .before .before .before .put-decimal in
+    let put = c .before .before .before .before .before .before .put in
+    let put-decimal2 = c .before .before .put-decimal2 in
+    (put-then (put-then (put-decimal .ensures .0) (omega arith) (put .ensures .0)) (omega arith) (put-decimal2 .ensures .0), omega arith)
 
 pub put-counts-spec : {M : Type 1} → statement M
 put-counts-spec =

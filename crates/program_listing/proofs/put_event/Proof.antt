@@ -26,16 +26,16 @@ same-length c = search needs
 returns : tie.Need-returns
 unfolding eventLine
 returns c =
+    let put-decimal = c .before .before .before .before .before .before .before .before .before .before .before .before .before .before .before .before .before .before .put-decimal in
+    let put-after = c .before .before .before .before .before .before .before .before .before .before .before .before .before .before .put-after in
+    let put-after2 = c .before .before .before .before .before .before .before .before .before .before .put-after2 in
+    let put-handed = c .before .before .before .before .before .before .put-handed in
+    let put = c .before .before .put in
     let s = c .before .before .before .before .before .before .before .before .before .before .before .before .before .before .before .before .before .before .before .before .before in
     let p = s .pre in
-    let a = c .before .before .before .before .before .before .before .before .before .before .before .before .before .before .before .before .before .before .put-decimal .ensures .1 in
-    let b = c .before .before .before .before .before .before .before .before .before .before .before .before .before .before .put-after .ensures .1 in
-    let d = c .before .before .before .before .before .before .before .before .before .before .put-after2 .ensures .1 in
-    let e = c .before .before .before .before .before .before .put-handed .ensures .1 in
-    let f = c .before .before .put .ensures .1 in
-    let number = rw (back (s .args .number) (s .fits .number)) at (c .before .before .before .before .before .before .before .before .before .before .before .before .before .before .put-after .ensures .0) in
-    let steps = rw (back (s .args .steps) (s .fits .steps)) at (c .before .before .before .before .before .before .before .before .before .before .put-after2 .ensures .0) in
-    (put-then (put-then (put-then (put-then (c .before .before .before .before .before .before .before .before .before .before .before .before .before .before .before .before .before .before .put-decimal .ensures .0) (omega arith) number) (omega arith) steps) (omega arith) (c .before .before .before .before .before .before .put-handed .ensures .0)) (omega arith) (c .before .before .put .ensures .0), omega arith)
+    let number = rw (back (s .args .number) (s .fits .number)) at (put-after .ensures .0) in
+    let steps = rw (back (s .args .steps) (s .fits .steps)) at (put-after2 .ensures .0) in
+    (put-then (put-then (put-then (put-then (put-decimal .ensures .0) (omega arith) number) (omega arith) steps) (omega arith) (put-handed .ensures .0)) (omega arith) (put .ensures .0), omega arith)
 
 pub put-event-spec : {M : Type 1} → statement M
 put-event-spec =

@@ -24,7 +24,9 @@ put-telegram-requires c κs = search needs
 
 returns : tie.Need-returns
 unfolding handedText
-returns c = (subst (λ h. Put (c .before .before .before .args .out .now) (c .before .before .before .args .at) (handedText h) (c .before .before .before .args .out .now) (c .before .before .before .args .at)) (sym (c .enum-told .given .1)) (put-none (c .before .before .before .args .out .now) (c .before .before .before .args .at)), omega arith)
+returns c =
+    let start = c .before .before .before in
+    (subst (λ h. Put (start .args .out .now) (start .args .at) (handedText h) (start .args .out .now) (start .args .at)) (sym (c .enum-told .given .1)) (put-none (start .args .out .now) (start .args .at)), omega arith)
 
 same-length : tie.Need-same-length
 same-length c = search needs
@@ -32,10 +34,11 @@ same-length c = search needs
 returns-2 : tie.Need-returns-2
 unfolding handedText
 returns-2 c =
-    let p = c .before .before .before .before .before .before .before .before .before .before .before .before .before .pre in
-    let a = c .before .before .before .before .before .before .put-bytes .ensures .1 in
-    let b = c .before .before .put-telegram .ensures .1 in
-    (subst (λ h. Put (c .before .before .before .before .before .before .before .before .before .before .before .before .before .args .out .now) (c .before .before .before .before .before .before .before .before .before .before .before .before .before .args .at) (handedText h) (c .before .before .put-telegram .last .0) (c .before .before .put-telegram .result)) (sym (c .before .before .before .before .before .before .before .before .before .before .h .given .1)) (put-then (c .before .before .before .before .before .before .put-bytes .ensures .0) (omega arith) (c .before .before .put-telegram .ensures .0)), omega arith)
+    let start = c .before .before .before .before .before .before .before .before .before .before .before .before .before in
+    let h = c .before .before .before .before .before .before .before .before .before .before .h in
+    let put-bytes = c .before .before .before .before .before .before .put-bytes in
+    let put-telegram = c .before .before .put-telegram in
+    (subst (λ h. Put (start .args .out .now) (start .args .at) (handedText h) (put-telegram .last .0) (put-telegram .result)) (sym (h .given .1)) (put-then (put-bytes .ensures .0) (omega arith) (put-telegram .ensures .0)), omega arith)
 
 pub put-handed-spec : {M : Type 1} → statement M
 put-handed-spec =

@@ -23,11 +23,11 @@ same-length c = search needs
 returns : tie.Need-returns
 unfolding startLine
 returns c =
-    let p = c .before .before .before .before .before .before .before .before .before .before .before .before .before .before .pre in
-    let a = c .before .before .before .before .before .before .before .before .before .before .put-bytes .ensures .1 in
-    let b = c .before .before .before .before .before .before .put-counts .ensures .1 in
-    let d = c .before .before .put .ensures .1 in
-    (put-then (put-then (c .before .before .before .before .before .before .before .before .before .before .put-bytes .ensures .0) (omega arith) (c .before .before .before .before .before .before .put-counts .ensures .0)) (omega arith) (c .before .before .put .ensures .0), omega arith)
+    let start = c .before .before .before .before .before .before .before .before .before .before .before .before .before .before in
+    let put-bytes = c .before .before .before .before .before .before .before .before .before .before .put-bytes in
+    let put-counts = c .before .before .before .before .before .before .put-counts in
+    let put = c .before .before .put in
+    (put-then (put-then (put-bytes .ensures .0) (omega arith) (put-counts .ensures .0)) (omega arith) (put .ensures .0), omega arith)
 
 pub put-start-spec : {M : Type 1} → statement M
 put-start-spec =

@@ -30,39 +30,67 @@ put-after-requires-3 c κs = search needs
 
 put-after-requires-4 : tie.Need-put-after-requires-4
 put-after-requires-4 c κs =
-    let p = c .before .before .before .before .before .before .before .before .before .before .before .before .before .before .before .before .before .before .before .before .before .before .before .pre in let a = c .before .before .before .before .before .before .before .before .before .before .before .before .before .before .before .before .before .before .before .put-signed .ensures .1 in let b = c .before .before .before .before .before .before .before .before .before .before .before .before .before .before .put-after .ensures .1 in let d = c .before .before .before .before .before .before .before .before .before .put-after2 .ensures .1 in let e = c .before .before .before .before .put-after3 .ensures .1 in
-    let l = c .before .before .before .before .before .before .before .before .before .before .before .before .before .before .before .before .before .before .before .put-signed .kept .0 in let m = c .before .before .before .before .before .before .before .before .before .before .before .before .before .before .put-after .kept .0 in let n = c .before .before .before .before .before .before .before .before .before .put-after2 .kept .0 in let o = c .before .before .before .before .put-after3 .kept .0 in omega arith
+    let three = c .before .before .before .before in
+    let two = three .before .before .before .before .before in
+    let one = two .before .before .before .before .before in
+    let signed = one .before .before .before .before .before in
+    let start = signed .before .before .before .before in
+    omega arith
 
 put-after-requires-5 : tie.Need-put-after-requires-5
 put-after-requires-5 c κs =
-    let p = c .before .before .before .before .before .before .before .before .before .before .before .before .before .before .before .before .before .before .before .before .before .before .before .before .before .before .before .before .pre in let a = c .before .before .before .before .before .before .before .before .before .before .before .before .before .before .before .before .before .before .before .before .before .before .before .before .put-signed .ensures .1 in let b = c .before .before .before .before .before .before .before .before .before .before .before .before .before .before .before .before .before .before .before .put-after .ensures .1 in let d = c .before .before .before .before .before .before .before .before .before .before .before .before .before .before .put-after2 .ensures .1 in let e = c .before .before .before .before .before .before .before .before .before .put-after3 .ensures .1 in let f = c .before .before .before .before .put-after4 .ensures .1 in
-    let l = c .before .before .before .before .before .before .before .before .before .before .before .before .before .before .before .before .before .before .before .before .before .before .before .before .put-signed .kept .0 in let m = c .before .before .before .before .before .before .before .before .before .before .before .before .before .before .before .before .before .before .before .put-after .kept .0 in let n = c .before .before .before .before .before .before .before .before .before .before .before .before .before .before .put-after2 .kept .0 in let o = c .before .before .before .before .before .before .before .before .before .put-after3 .kept .0 in let q = c .before .before .before .before .put-after4 .kept .0 in omega arith
+    let four = c .before .before .before .before in
+    let three = four .before .before .before .before .before in
+    let two = three .before .before .before .before .before in
+    let one = two .before .before .before .before .before in
+    let signed = one .before .before .before .before .before in
+    let start = signed .before .before .before .before in
+    omega arith
 
 put-after-requires-6 : tie.Need-put-after-requires-6
 put-after-requires-6 c κs =
-    let p = c .before .before .before .before .before .before .before .before .before .before .before .before .before .before .before .before .before .before .before .before .before .before .before .before .before .before .before .before .before .before .before .before .before .pre in let a = c .before .before .before .before .before .before .before .before .before .before .before .before .before .before .before .before .before .before .before .before .before .before .before .before .before .before .before .before .before .put-signed .ensures .1 in let b = c .before .before .before .before .before .before .before .before .before .before .before .before .before .before .before .before .before .before .before .before .before .before .before .before .put-after .ensures .1 in let d = c .before .before .before .before .before .before .before .before .before .before .before .before .before .before .before .before .before .before .before .put-after2 .ensures .1 in let e = c .before .before .before .before .before .before .before .before .before .before .before .before .before .before .put-after3 .ensures .1 in let f = c .before .before .before .before .before .before .before .before .before .put-after4 .ensures .1 in let g = c .before .before .before .before .put-after5 .ensures .1 in
-    let l = c .before .before .before .before .before .before .before .before .before .before .before .before .before .before .before .before .before .before .before .before .before .before .before .before .before .before .before .before .before .put-signed .kept .0 in let m = c .before .before .before .before .before .before .before .before .before .before .before .before .before .before .before .before .before .before .before .before .before .before .before .before .put-after .kept .0 in let n = c .before .before .before .before .before .before .before .before .before .before .before .before .before .before .before .before .before .before .before .put-after2 .kept .0 in let o = c .before .before .before .before .before .before .before .before .before .before .before .before .before .before .put-after3 .kept .0 in let q = c .before .before .before .before .before .before .before .before .before .put-after4 .kept .0 in let r = c .before .before .before .before .put-after5 .kept .0 in omega arith
+    let five = c .before .before .before .before in
+    let four = five .before .before .before .before .before in
+    let three = four .before .before .before .before .before in
+    let two = three .before .before .before .before .before in
+    let one = two .before .before .before .before .before in
+    let signed = one .before .before .before .before .before in
+    let start = signed .before .before .before .before in
+    omega arith
 
 same-length : tie.Need-same-length
-same-length c = c .before .before .put-after6 .kept .0 ∙ c .before .before .before .before .before .before .before .put-after5 .kept .0 ∙ c .before .before .before .before .before .before .before .before .before .before .before .before .put-after4 .kept .0 ∙ c .before .before .before .before .before .before .before .before .before .before .before .before .before .before .before .before .before .put-after3 .kept .0 ∙ c .before .before .before .before .before .before .before .before .before .before .before .before .before .before .before .before .before .before .before .before .before .before .put-after2 .kept .0 ∙ c .before .before .before .before .before .before .before .before .before .before .before .before .before .before .before .before .before .before .before .before .before .before .before .before .before .before .before .put-after .kept .0 ∙ c .before .before .before .before .before .before .before .before .before .before .before .before .before .before .before .before .before .before .before .before .before .before .before .before .before .before .before .before .before .before .before .before .put-signed .kept .0
+same-length c =
+    let six = c .before .before in
+    let five = six .before .before .before .before .before in
+    let four = five .before .before .before .before .before in
+    let three = four .before .before .before .before .before in
+    let two = three .before .before .before .before .before in
+    let one = two .before .before .before .before .before in
+    let signed = one .before .before .before .before .before in
+    six .put-after6 .kept .0 ∙ five .put-after5 .kept .0 ∙ four .put-after4 .kept .0 ∙ three .put-after3 .kept .0 ∙ two .put-after2 .kept .0 ∙ one .put-after .kept .0 ∙ signed .put-signed .kept .0
 
 returns : tie.Need-returns
 unfolding telegramText
 returns c =
-    let p = c .before .before .before .before .before .before .before .before .before .before .before .before .before .before .before .before .before .before .before .before .before .before .before .before .before .before .before .before .before .before .before .before .before .before .before .before .pre in
-    let a = c .before .before .before .before .before .before .before .before .before .before .before .before .before .before .before .before .before .before .before .before .before .before .before .before .before .before .before .before .before .before .before .before .put-signed .ensures .1 in
-    let b = c .before .before .before .before .before .before .before .before .before .before .before .before .before .before .before .before .before .before .before .before .before .before .before .before .before .before .before .put-after .ensures .1 in
-    let d = c .before .before .before .before .before .before .before .before .before .before .before .before .before .before .before .before .before .before .before .before .before .before .put-after2 .ensures .1 in
-    let e = c .before .before .before .before .before .before .before .before .before .before .before .before .before .before .before .before .before .put-after3 .ensures .1 in
-    let f = c .before .before .before .before .before .before .before .before .before .before .before .before .put-after4 .ensures .1 in
-    let g = c .before .before .before .before .before .before .before .put-after5 .ensures .1 in
-    let h = c .before .before .put-after6 .ensures .1 in
-    let t = c .before .before .before .before .before .before .before .before .before .before .before .before .before .before .before .before .before .before .before .before .before .before .before .before .before .before .before .before .before .before .before .before .before .before .before .before .args .t in
-    let told = c .before .before .before .struct-told7 .given in (
-      rw (given (t .receiver) (told .1 .0 .1), given (t .port) (told .1 .1 .0 .1), given (t .name) (told .1 .1 .1 .0 .1), given (t .d0) (told .1 .1 .1 .1 .0 .1), given (t .d1) (told .1 .1 .1 .1 .1 .0 .1), given (t .d2) (told .1 .1 .1 .1 .1 .1 .0 .1), given (t .d3) (told .1 .1 .1 .1 .1 .1 .1 .0 .1)) at
-          (put-then (put-then (put-then (put-then (put-then (put-then (c .before .before .before .before .before .before .before .before .before .before .before .before .before .before .before .before .before .before .before .before .before .before .before .before .before .before .before .before .before .before .before .before .put-signed .ensures .0) (omega arith) (c .before .before .before .before .before .before .before .before .before .before .before .before .before .before .before .before .before .before .before .before .before .before .before .before .before .before .before .put-after .ensures .0)) (omega arith) (c .before .before .before .before .before .before .before .before .before .before .before .before .before .before .before .before .before .before .before .before .before .before .put-after2 .ensures .0)) (omega arith) (c .before .before .before .before .before .before .before .before .before .before .before .before .before .before .before .before .before .put-after3 .ensures .0)) (omega arith) (c .before .before .before .before .before .before .before .before .before .before .before .before .put-after4 .ensures .0)) (omega arith) (c .before .before .before .before .before .before .before .put-after5 .ensures .0)) (omega arith) (c .before .before .put-after6 .ensures .0)),
-      omega arith,
-    )
+    let six = c .before .before in
+    let five = six .before .before .before .before .before in
+    let four = five .before .before .before .before .before in
+    let three = four .before .before .before .before .before in
+    let two = three .before .before .before .before .before in
+    let one = two .before .before .before .before .before in
+    let signed = one .before .before .before .before .before in
+    let start = signed .before .before .before .before in
+    let t = start .args .t in
+    let told = c .before .before .before .struct-told7 .given .1 in
+    let to-one = put-then (signed .put-signed .ensures .0) (omega arith) (one .put-after .ensures .0) in
+    let to-two = put-then to-one (omega arith) (two .put-after2 .ensures .0) in
+    let to-three = put-then to-two (omega arith) (three .put-after3 .ensures .0) in
+    let to-four = put-then to-three (omega arith) (four .put-after4 .ensures .0) in
+    let to-five = put-then to-four (omega arith) (five .put-after5 .ensures .0) in
+    let to-six = put-then to-five (omega arith) (six .put-after6 .ensures .0) in
+    let addressed = rw (given (t .receiver) (told .0 .1), given (t .port) (told .1 .0 .1), given (t .name) (told .1 .1 .0 .1)) at to-six in
+    let first = rw (given (t .d0) (told .1 .1 .1 .0 .1), given (t .d1) (told .1 .1 .1 .1 .0 .1)) at addressed in
+    (rw (given (t .d2) (told .1 .1 .1 .1 .1 .0 .1), given (t .d3) (told .1 .1 .1 .1 .1 .1 .0 .1)) at first, omega arith)
 
 pub put-telegram-spec : {M : Type 1} → statement M
 put-telegram-spec =

@@ -1,41 +1,41 @@
+use mathlib.Core.Path.{sym}
+use native.Mathlib.Omega.{arith}
+use lib.Seq.{length-take-le}
 use borrow.Author.Needs.{needs}
-use Rattle.program_text.proofs.Parts.{fresh-front, front-fits, front-length}
 use Rattle.program_runs.proofs.desk.Statement.{statement}
 use Rattle.program_runs.proofs.desk.Tie as tie
 
-sheet-size-requires : tie.Need-sheet-size-requires
-sheet-size-requires c κs = search needs
+slice-aggregate-read-sheet : tie.Need-slice-aggregate-read-sheet
+slice-aggregate-read-sheet c = search needs
 
-array-borrow-prefix-sheet : tie.Need-array-borrow-prefix-sheet
-array-borrow-prefix-sheet c = search needs
+read-sheet-requires : tie.Need-read-sheet-requires
+read-sheet-requires c κs = search needs
 
-slice-aggregate-read-full : tie.Need-slice-aggregate-read-full
-slice-aggregate-read-full c = fresh-front (c .before .sheet-size .result) 65536 0 (c .before .sheet-size .ensures)
-
-read-full-requires : tie.Need-read-full-requires
-read-full-requires c κs = search needs
+returns : tie.Need-returns
+returns c = search needs
 
 array-share-prefix-sheet : tie.Need-array-share-prefix-sheet
-array-share-prefix-sheet c = front-fits (c .before .read-full .last .1 .0) _ (c .before .read-full .result) (c .before .read-full .ensures .0)
+array-share-prefix-sheet c = search needs
 
 slice-aggregate-play : tie.Need-slice-aggregate-play
-slice-aggregate-play c = front-length (c .before .before .read-full .last .1 .0) _ (c .before .before .read-full .result) (c .before .before .read-full .ensures .0)
+slice-aggregate-play c =
+    let read-sheet = c .before .before .before .read-sheet in
+    sym (length-take-le (read-sheet .result .count) (read-sheet .last .1 .0) (omega arith))
 
 play-requires : tie.Need-play-requires
 play-requires c κs = search needs
 
-returns : tie.Need-returns
-returns c = search needs
+returns-2 : tie.Need-returns-2
+returns-2 c = search needs
 
 pub desk-spec : {M : Type 1} → statement M
 desk-spec =
     tie.close
     (tie.spec
-    sheet-size-requires
-    array-borrow-prefix-sheet
-    slice-aggregate-read-full
-    read-full-requires
+    slice-aggregate-read-sheet
+    read-sheet-requires
+    returns
     array-share-prefix-sheet
     slice-aggregate-play
     play-requires
-    returns)
+    returns-2)

@@ -10,14 +10,14 @@ check-requires c κs = search needs
 enum-told : tie.Need-enum-told
 enum-told c = search needs
 
-print-start-requires : tie.Need-print-start-requires
-print-start-requires c κs = search needs
+refused-requires : tie.Need-refused-requires
+refused-requires c κs = search needs
 
 enum-told-2 : tie.Need-enum-told-2
 enum-told-2 c = search needs
 
-print-start-requires-2 : tie.Need-print-start-requires-2
-print-start-requires-2 c κs = search needs
+refused-requires-2 : tie.Need-refused-requires-2
+refused-requires-2 c κs = search needs
 
 enum-told-3 : tie.Need-enum-told-3
 enum-told-3 c = search needs
@@ -26,13 +26,25 @@ directory-requires : tie.Need-directory-requires
 directory-requires c κs = search needs
 
 play-passed-requires : tie.Need-play-passed-requires
-play-passed-requires c κs = (c .before .directory .ensures, sym (c .before .before .before .before .check .ensures .0) ∙ c .before .before .enum-told3 .given .1)
+play-passed-requires c κs =
+    let check = c .before .before .before .before .check in
+    (c .before .directory .ensures, sym (check .ensures .0) ∙ c .before .before .enum-told3 .given .1)
 
 returns : tie.Need-returns
-returns c = shape-answers (c .before .before .before .before .before .args .sheet .now) (sym (c .before .before .before .check .ensures .0) ∙ c .before .enum-told .given .1)
+returns c =
+    let start = c .before .before .before .before .before in
+    let check = c .before .before .before .check in
+    let told = c .before .enum-told .given .1 in
+    let answers = shape-answers (start .args .sheet .now) (sym (check .ensures .0) ∙ told) in
+    (answers .0, answers .1, answers .2, c .refused .ensures ∙ answers .3)
 
 returns-2 : tie.Need-returns-2
-returns-2 c = static-answers (c .before .before .before .before .before .args .sheet .now) (sym (c .before .before .before .check .ensures .0) ∙ c .before .enum-told2 .given .1)
+returns-2 c =
+    let start = c .before .before .before .before .before in
+    let check = c .before .before .before .check in
+    let told = c .before .enum-told2 .given .1 in
+    let answers = static-answers (start .args .sheet .now) (sym (check .ensures .0) ∙ told) in
+    (answers .0, answers .1, answers .2, c .refused2 .ensures ∙ answers .3)
 
 returns-3 : tie.Need-returns-3
 returns-3 c = search needs
@@ -43,9 +55,9 @@ play-spec =
     (tie.spec
     check-requires
     enum-told
-    print-start-requires
+    refused-requires
     enum-told-2
-    print-start-requires-2
+    refused-requires-2
     enum-told-3
     directory-requires
     play-passed-requires

@@ -12,7 +12,14 @@ print-start-requires : tie.Need-print-start-requires
 print-start-requires c κs = search needs
 
 play-events-requires : tie.Need-play-events-requires
-play-events-requires c κs = (begun (c .before .before .before .before .before .before .before .before .before .args .sheet .now) (c .before .before .before .before .before .before .before .before .before .args .directory .now) (c .before .before .before .before .before .before .before .before .before .args .st .now) (c .before .before .before .before .before .before .begin .result) (c .before .before .before .before .before .before .begin .last .1 .1 .1 .0) (c .before .before .before .before .before .before .before .before .before .pre .0) (c .before .before .before .before .before .before .before .before .before .pre .1) (c .before .before .before .before .before .before .before .before .before .pre .2) (c .before .before .before .before .before .before .begin .ensures) (c .before .before .if1 .taken), c .before .before .before .before .before .before .before .before .before .pre .3 ∙ sym (c .before .before .before .before .before .before .begin .kept .1 .1 .1 .0), c .before .before .before .before .before .before .before .before .before .pre .4)
+play-events-requires c κs =
+    let start = c .before .before .before .before .before .before .before .before .before .before in
+    let args = start .args in
+    let begin = c .before .before .before .before .before .before .before .begin in
+    let st = begin .last .1 .1 .1 .0 in
+    let p = start .pre in
+    let begun-there = begun (args .sheet .now) (args .directory .now) (args .st .now) (begin .result) st (p .0) (p .1) (p .2) (begin .ensures) (c .before .before .if2 .taken) in
+    (begun-there, p .3 ∙ sym (begin .kept .1 .1 .1 .0), p .4)
 
 same-length : tie.Need-same-length
 same-length c = search needs
@@ -21,13 +28,34 @@ same-length-2 : tie.Need-same-length-2
 same-length-2 c = search needs
 
 returns : tie.Need-returns
-returns c = start-answers (c .before .before .before .before .before .before .before .before .before .before .before .before .args .sheet .now) (c .before .before .before .before .before .before .before .before .before .before .before .before .args .st .now) (c .before .before .before .before .before .before .before .before .before .begin .result) (c .before .before .before .before .before .before .before .before .before .begin .last .1 .1 .1 .0) (c .before .before .before .before .before .before .before .before .before .before .before .before .pre .1) (c .before .before .before .before .before .before .before .before .before .before .before .before .pre .2) (c .before .before .before .before .before .before .before .before .before .begin .ensures)
+returns c =
+    let start = c .before .before .before .before .before .before .before .before .before .before .before .before .before in
+    let args = start .args in
+    let begin = c .before .before .before .before .before .before .before .before .before .before .begin in
+    let st = begin .last .1 .1 .1 .0 in
+    start-answers (args .sheet .now) (args .st .now) (begin .result) st (start .pre .1) (start .pre .2) (begin .ensures)
 
 same-length-3 : tie.Need-same-length-3
 same-length-3 c = search needs
 
 returns-2 : tie.Need-returns-2
-returns-2 c = start-answers (c .before .before .before .before .before .before .before .args .sheet .now) (c .before .before .before .before .before .before .before .args .st .now) (c .before .before .before .before .begin .result) (c .before .before .before .before .begin .last .1 .1 .1 .0) (c .before .before .before .before .before .before .before .pre .1) (c .before .before .before .before .before .before .before .pre .2) (c .before .before .before .before .begin .ensures)
+returns-2 c =
+    let start = c .before .before .before .before .before .before .before .before in
+    let args = start .args in
+    let begin = c .before .before .before .before .before .begin in
+    let st = begin .last .1 .1 .1 .0 in
+    start-answers (args .sheet .now) (args .st .now) (begin .result) st (start .pre .1) (start .pre .2) (begin .ensures)
+
+same-length-4 : tie.Need-same-length-4
+same-length-4 c = search needs
+
+returns-3 : tie.Need-returns-3
+returns-3 c =
+    let start = c .before .before .before .before .before .before in
+    let args = start .args in
+    let begin = c .before .before .before .begin in
+    let st = begin .last .1 .1 .1 .0 in
+    start-answers (args .sheet .now) (args .st .now) (begin .result) st (start .pre .1) (start .pre .2) (begin .ensures)
 
 pub play-states-spec : {M : Type 1} → statement M
 play-states-spec =
@@ -40,4 +68,6 @@ play-states-spec =
     same-length-2
     returns
     same-length-3
-    returns-2)
+    returns-2
+    same-length-4
+    returns-3)

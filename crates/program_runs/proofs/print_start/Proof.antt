@@ -14,11 +14,13 @@ put-start-requires c κs = search needs
 array-share-prefix-out : tie.Need-array-share-prefix-out
 array-share-prefix-out c = search needs
 
-slice-aggregate-write-all : tie.Need-slice-aggregate-write-all
-slice-aggregate-write-all c = let a = c .before .before .put-start .ensures .1 in let k = c .before .before .put-start .kept .0 in sym (length-take-le _ (c .before .before .put-start .last .0) (omega arith))
+slice-aggregate-write-out : tie.Need-slice-aggregate-write-out
+slice-aggregate-write-out c =
+    let put-start = c .before .before .put-start in
+    sym (length-take-le _ (put-start .last .0) (omega arith))
 
-write-all-requires : tie.Need-write-all-requires
-write-all-requires c κs = search needs
+write-out-requires : tie.Need-write-out-requires
+write-out-requires c κs = search needs
 
 returns : tie.Need-returns
 returns c = search needs
@@ -30,6 +32,6 @@ print-start-spec =
     slice-aggregate-put-start
     put-start-requires
     array-share-prefix-out
-    slice-aggregate-write-all
-    write-all-requires
+    slice-aggregate-write-out
+    write-out-requires
     returns)

@@ -63,7 +63,11 @@ put-decimal-returns : (t : ℕ) → put-decimal-lts.Need-returns (
   put-decimal-below t,
   put-decimal.Post,
 ) (put-decimal-at t) put-decimal.Post
-put-decimal-returns t c = (subst (λ u. Put (c .before .before .before .before .before .before .args .out .now) (c .before .before .before .before .before .before .args .at) u (c .before .before .put .last .0) (c .before .before .put .result)) (sym (decimal-one (c .before .before .before .before .before .before .args .n) (c .before .before .before .before .if1 .taken))) (c .before .before .put .ensures .0), (let l = c .before .before .put .ensures .1 in omega arith))
+put-decimal-returns t c =
+    let start = c .before .before .before .before .before .before in
+    let if1 = c .before .before .before .before .if1 in
+    let put = c .before .before .put in
+    (subst (λ u. Put (start .args .out .now) (start .args .at) u (put .last .0) (put .result)) (sym (decimal-one (start .args .n) (if1 .taken))) (put .ensures .0), (let l = put .ensures .1 in omega arith))
 
 put-decimal-put-decimal-requires : (t : ℕ) → put-decimal-lts.Need-put-decimal-requires (
   put-reads.Asked,
@@ -95,7 +99,11 @@ put-decimal-put-requires-2 : (t : ℕ) → put-decimal-lts.Need-put-requires-2 (
   put-decimal-below t,
   put-decimal.Post,
 ) (put-decimal-at t) put-decimal.Post
-put-decimal-put-requires-2 t c κs = let e = c .before .before .before .put-decimal .ensures .0 .end in let k = c .before .before .before .put-decimal .kept .0 in let p = c .before .before .before .before .before .before .before .pre .1 in omega (arith, decimal-room (c .before .before .before .before .before .before .before .args .n) (c .before .before .before .before .before .if1 .left) (c .before .before .before .before .before .before .before .fits .n .fits))
+put-decimal-put-requires-2 t c κs =
+    let start = c .before .before .before .before .before .before .before in
+    let if1 = c .before .before .before .before .before .if1 in
+    let put-decimal = c .before .before .before .put-decimal in
+    omega (arith, decimal-room (start .args .n) (if1 .left) (start .fits .n .fits))
 
 put-decimal-same-length-2 : (t : ℕ) → put-decimal-lts.Need-same-length-2 (
   put-reads.Asked,
@@ -112,12 +120,13 @@ put-decimal-returns-2 : (t : ℕ) → put-decimal-lts.Need-returns-2 (
   put-decimal.Post,
 ) (put-decimal-at t) put-decimal.Post
 put-decimal-returns-2 t c =
-    let n = c .before .before .before .before .before .before .before .before .before .before .args .n in
-    let room = decimal-room n (c .before .before .before .before .before .before .before .before .if1 .left) (c .before .before .before .before .before .before .before .before .before .before .fits .n .fits) in
-    let p = c .before .before .before .before .before .before .before .before .before .before .pre .1 in
-    let e = c .before .before .before .before .before .before .put-decimal .ensures .0 .end in
-    let l = c .before .before .put2 .ensures .1 in
-    (subst (λ u. Put (c .before .before .before .before .before .before .before .before .before .before .args .out .now) (c .before .before .before .before .before .before .before .before .before .before .args .at) u (c .before .before .put2 .last .0) (c .before .before .put2 .result)) (sym (decimal-more n (c .before .before .before .before .before .before .before .before .if1 .left) (c .before .before .before .before .before .before .before .before .before .before .fits .n .fits))) (put-then (c .before .before .before .before .before .before .put-decimal .ensures .0) (omega arith) (c .before .before .put2 .ensures .0)), omega arith)
+    let start = c .before .before .before .before .before .before .before .before .before .before in
+    let if1 = c .before .before .before .before .before .before .before .before .if1 in
+    let put-decimal = c .before .before .before .before .before .before .put-decimal in
+    let put2 = c .before .before .put2 in
+    let n = start .args .n in
+    let room = decimal-room n (if1 .left) (start .fits .n .fits) in
+    (subst (λ u. Put (start .args .out .now) (start .args .at) u (put2 .last .0) (put2 .result)) (sym (decimal-more n (if1 .left) (start .fits .n .fits))) (put-then (put-decimal .ensures .0) (omega arith) (put2 .ensures .0)), omega arith)
 
 pub +put-decimal-spec : {M : Type 1} → statement M
 +put-decimal-spec = close μ-put-decimal λ t. put-decimal-lts.spec (

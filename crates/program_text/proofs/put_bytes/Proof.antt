@@ -34,7 +34,11 @@ loop-less : tie.Need-loop-less Inv-loop μ-loop
 loop-less c = search needs
 
 loop-again : tie.Need-loop-again Inv-loop μ-loop
-loop-again c = let l = c .before .loop-test .taken in let p = c .before .before .before .pre in (omega arith, rw (add-one, c .before .before .loop .inv .1) (paste-suc (c .before .before .before .args .out .now) (c .before .before .before .args .at) (c .before .before .before .args .bytes .now) (c .before .before .loop .i) 0 (omega arith) l), simp length-set (c .before .before .loop .inv .2))
+loop-again c =
+    let start = c .before .before .before in
+    let loop = c .before .before .loop in
+    let l = c .before .loop-test .taken in
+    (omega arith, rw (add-one, loop .inv .1) (paste-suc (start .args .out .now) (start .args .at) (start .args .bytes .now) (loop .i) 0 (omega arith) l), simp length-set (loop .inv .2))
 
 add-result : tie.Need-add-result Inv-loop μ-loop
 add-result c = let l = c .before .loop .inv .0 in let p = c .before .before .pre in omega arith
@@ -43,7 +47,12 @@ same-length : tie.Need-same-length Inv-loop μ-loop
 same-length c = c .before .loop .inv .2
 
 returns : tie.Need-returns Inv-loop μ-loop
-returns c = let l = c .before .loop .inv .0 in let m = c .loop-test .left in let e : c .before .loop .i ≡ length (c .before .before .args .bytes .now) = omega arith in (record { text = c .before .loop .inv .1 ∙ placed-all (c .before .before .args .out .now) (c .before .before .args .at) (c .before .before .args .bytes .now) (c .before .loop .i) e; end = ap (λ k. c .before .before .args .at + k) e }, omega arith)
+returns c =
+    let start = c .before .before in
+    let l = c .before .loop .inv .0 in
+    let m = c .loop-test .left in
+    let e : c .before .loop .i ≡ length (start .args .bytes .now) = omega arith in
+    (record { text = c .before .loop .inv .1 ∙ placed-all (start .args .out .now) (start .args .at) (start .args .bytes .now) (c .before .loop .i) e; end = ap (λ k. start .args .at + k) e }, omega arith)
 
 pub put-bytes-spec : {M : Type 1} → statement M
 put-bytes-spec =

@@ -21,12 +21,14 @@ same-length c = search needs
 
 returns : tie.Need-returns
 returns c =
-    let p = c .before .before .before .before .before .before .before .before .before .before .before .pre in
-    let l = c .before .before .put-decimal .ensures .1 in
-    let m = c .before .before .before .before .before .before .before .put .ensures .1 in
-    let z = c .before .before .before .before .before .before .before .before .before .before .before .args .z in
-    let e = back z (c .before .before .before .before .before .before .before .before .before .before .before .fits .z) in
-    (subst (λ u. Put (c .before .before .before .before .before .before .before .before .before .before .before .args .out .now) (c .before .before .before .before .before .before .before .before .before .before .before .args .at) u (c .before .before .put-decimal .last .0) (c .before .before .put-decimal .result)) (sym (signed-below z (rw e at (c .before .before .before .before .before .before .before .before .before .if1 .taken)))) (put-then (c .before .before .before .before .before .before .before .put .ensures .0) (omega arith) (subst (λ n. Put (c .before .before .before .before .before .before .before .put .last .0) (c .before .before .before .before .before .before .before .put .result) (decimal n) (c .before .before .put-decimal .last .0) (c .before .before .put-decimal .result)) (c .before .before .before .magnitude .ensures ∙ ap natAbs e) (c .before .before .put-decimal .ensures .0))), omega arith)
+    let start = c .before .before .before .before .before .before .before .before .before .before .before in
+    let if1 = c .before .before .before .before .before .before .before .before .before .if1 in
+    let put = c .before .before .before .before .before .before .before .put in
+    let magnitude = c .before .before .before .magnitude in
+    let put-decimal = c .before .before .put-decimal in
+    let z = start .args .z in
+    let e = back z (start .fits .z) in
+    (subst (λ u. Put (start .args .out .now) (start .args .at) u (put-decimal .last .0) (put-decimal .result)) (sym (signed-below z (rw e at (if1 .taken)))) (put-then (put .ensures .0) (omega arith) (subst (λ n. Put (put .last .0) (put .result) (decimal n) (put-decimal .last .0) (put-decimal .result)) (magnitude .ensures ∙ ap natAbs e) (put-decimal .ensures .0))), omega arith)
 
 magnitude-requires-2 : tie.Need-magnitude-requires-2
 magnitude-requires-2 c κs = search needs
@@ -39,10 +41,13 @@ same-length-2 c = search needs
 
 returns-2 : tie.Need-returns-2
 returns-2 c =
-    let l = c .before .before .put-decimal2 .ensures .1 in
-    let z = c .before .before .before .before .before .before .before .args .z in
-    let e = back z (c .before .before .before .before .before .before .before .fits .z) in
-    (subst (λ u. Put (c .before .before .before .before .before .before .before .args .out .now) (c .before .before .before .before .before .before .before .args .at) u (c .before .before .put-decimal2 .last .0) (c .before .before .put-decimal2 .result)) (ap decimal (c .before .before .before .magnitude2 .ensures ∙ ap natAbs e) ∙ sym (signed-other z (rw e at (c .before .before .before .before .before .if1 .left)))) (c .before .before .put-decimal2 .ensures .0), omega arith)
+    let start = c .before .before .before .before .before .before .before in
+    let if1 = c .before .before .before .before .before .if1 in
+    let magnitude2 = c .before .before .before .magnitude2 in
+    let put-decimal2 = c .before .before .put-decimal2 in
+    let z = start .args .z in
+    let e = back z (start .fits .z) in
+    (subst (λ u. Put (start .args .out .now) (start .args .at) u (put-decimal2 .last .0) (put-decimal2 .result)) (ap decimal (magnitude2 .ensures ∙ ap natAbs e) ∙ sym (signed-other z (rw e at (if1 .left)))) (put-decimal2 .ensures .0), omega arith)
 
 pub put-signed-spec : {M : Type 1} → statement M
 put-signed-spec =
