@@ -11,7 +11,7 @@ ghost use Rattle.engine_cells.specs.Cells.{CellTable};
 ghost use Rattle.program_runs.specs.Start.{StartAnswers};
 
 // Start's answer, and whether every line was written and no read failed.
-pub struct Played {
+pub struct RunEnd {
     pub number: u8,
     pub well: bool,
 }
@@ -23,11 +23,11 @@ fn print_start(number: u8, steps: u32) -> bool {
 }
 
 // A sheet that doesn't pass is refused in no step.
-fn refused(number: u8) -> Played
+fn refused(number: u8) -> RunEnd
     ensures { λ r. ⌜ r .number ≡ number ⌝ }
 {
     let written = print_start(number, 0);
-    Played {
+    RunEnd {
         number: number,
         well: written,
     }
@@ -41,7 +41,7 @@ fn play_states(
     st: &mut [i32],
     spare: &mut [i32],
     most: u64,
-) -> Played
+) -> RunEnd
     requires { ⌜ (now directory ≡ directoryOf (now sheet)) × (checkOf (now sheet) ≡ Passed) × (length (now st) ≡ stateLength (now sheet)) × (length (now spare) ≡ length (now st)) × CellTable (now sheet) (now cells) ⌝ }
     ensures { λ r. ⌜ StartAnswers (now (sheet .entry)) (r .number) ⌝ }
 {
@@ -52,14 +52,14 @@ fn play_states(
             well = program_events::play_events(fd, sheet, directory, cells, st, spare, most);
         }
     }
-    Played {
+    RunEnd {
         number: a.number,
         well: well,
     }
 }
 
 // A state has at most 512 cells of eight words, and 1,032 words besides.
-fn play_passed(fd: i32, sheet: &[u8], directory: &[usize; 16], most: u64) -> Played
+fn play_passed(fd: i32, sheet: &[u8], directory: &[usize; 16], most: u64) -> RunEnd
     requires { ⌜ (now directory ≡ directoryOf (now sheet)) × (checkOf (now sheet) ≡ Passed) ⌝ }
     ensures { λ r. ⌜ StartAnswers (now (sheet .entry)) (r .number) ⌝ }
 {
@@ -82,16 +82,14 @@ fn play_passed(fd: i32, sheet: &[u8], directory: &[usize; 16], most: u64) -> Pla
 // Plays a sheet with at most `most` events from a descriptor, and gives start's answer: after one
 // other than 0 no event is read. What follows the events stays unread. After a line that can't be
 // written or a read that fails nothing is played, read or written any more.
-pub fn play(fd: i32, sheet: &[u8], most: u64) -> Played
+pub fn play(fd: i32, sheet: &[u8], most: u64) -> RunEnd
     ensures { λ r. ⌜ StartAnswers (now (sheet .entry)) (r .number) ⌝ }
 {
-    match checker::check(sheet) {
+    let directory = sheet_reader::directory(sheet);
+    match checker::check_opened(sheet, &directory) {
         Checked::Shape => refused(1),
         Checked::Static => refused(2),
-        Checked::Passed => {
-            let directory = sheet_reader::directory(sheet);
-            play_passed(fd, sheet, &directory, most)
-        }
+        Checked::Passed => play_passed(fd, sheet, &directory, most),
     }
 }
 

@@ -73,25 +73,25 @@ pub fn write_out(fd: i32, text: &[u8]) -> bool {
 
 // The place where a text goes on in its buffer, and whether the text before it is there still or was
 // written out.
-pub struct Place {
+pub struct TextEnd {
     pub at: usize,
     pub written: bool,
 }
 
 // Writes the buffer's text out once there is less than `room` behind it, and gives the place where
 // the text goes on.
-pub fn with_room(fd: i32, out: &[u8], at: usize, room: usize) -> Place
+pub fn with_room(fd: i32, out: &[u8], at: usize, room: usize) -> TextEnd
     requires { ⌜ (at ≤ length (now out)) × (room ≤ length (now out)) ⌝ }
     ensures { λ r. ⌜ (r .at ≡ placeWithRoom (length (now (out .entry))) at room) × (r .at + room ≤ length (now (out .entry))) × (at + room ≤ length (now (out .entry)) → r .written ≡ true) ⌝ }
 {
     if room <= out.len() - at {
-        return Place {
+        return TextEnd {
             at: at,
             written: true,
         };
     }
     let written = write_out(fd, &out[..at]);
-    Place {
+    TextEnd {
         at: 0,
         written: written,
     }

@@ -120,8 +120,7 @@ loop-again c =
     let round = c .before .before .before .before .before .before .before .before .before .round in
     let kept = round .kept .1 .1 .1 in
     let came = read-more .ensures in
-    let rest = c .before .keep-rest .ensures .0 in
-    (
+    let rest = c .before .keep-rest .ensures .0 in (
       round .ensures,
       kept .0 ∙ inv .1,
       kept .1 .0 ∙ inv .2,
