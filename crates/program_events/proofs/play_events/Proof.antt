@@ -11,7 +11,8 @@ use Rattle.program_events.proofs.play_events.Tie as tie
 
 abbrev Inv-loop : tie.InvT-loop
 Inv-loop fd sheet directory cells st₀ spare₀ most events₀ words₀ answers₀ out₀ have₀ done₀ st spare events words answers out have done =
-    Playing sheet directory st × (length st ≡ length st₀) × (length spare ≡ length spare₀) × (length events ≡ 36000) × (length words ≡ 9000) × (length answers ≡ 10000) × (length out ≡ 32768) × (have < 36) × (done ≤ most)
+    Playing sheet directory st × (length st ≡ length st₀) × (length spare ≡ length spare₀) × (length events ≡ 36000)
+    × (length words ≡ 9000) × (length answers ≡ 10000) × (length out ≡ 32768) × (have < 36) × (done ≤ most)
 
 abbrev μ-loop : tie.MeasureT-loop
 μ-loop fd sheet directory cells st₀ spare₀ most events₀ words₀ answers₀ out₀ have₀ done₀ st spare events words answers out have done =

@@ -22,7 +22,9 @@ returns c =
     let start = c .before .before .before .before .before .before .before .before .before in
     let put = c .before .before .before .before .before .before .put in
     let put-signed = c .before .before .put-signed in
-    (put-then (put .ensures .0) (omega arith) (subst (λ w. Put (put .last .0) (put .result) (signed w) (put-signed .last .0) (put-signed .result)) (back (start .args .z) (start .fits .z)) (put-signed .ensures .0)), omega arith)
+    let text = back (start .args .z) (start .fits .z) in
+    let number = subst (λ w. Put (put .last .0) (put .result) (signed w) (put-signed .last .0) (put-signed .result)) text (put-signed .ensures .0) in
+    (put-then (put .ensures .0) (omega arith) number, omega arith)
 
 pub put-after-spec : {M : Type 1} → statement M
 put-after-spec = tie.close (tie.spec put-requires put-signed-requires same-length returns)

@@ -26,7 +26,9 @@ returns : tie.Need-returns
 unfolding handedText
 returns c =
     let start = c .before .before .before in
-    (subst (λ h. Put (start .args .out .now) (start .args .at) (handedText h) (start .args .out .now) (start .args .at)) (sym (c .enum-told .given .1)) (put-none (start .args .out .now) (start .args .at)), omega arith)
+    let out = start .args .out .now in
+    let at = start .args .at in
+    (subst (λ h. Put out at (handedText h) out at) (sym (c .enum-told .given .1)) (put-none out at), omega arith)
 
 same-length : tie.Need-same-length
 same-length c = search needs
@@ -35,10 +37,11 @@ returns-2 : tie.Need-returns-2
 unfolding handedText
 returns-2 c =
     let start = c .before .before .before .before .before .before .before .before .before .before .before .before .before in
-    let h = c .before .before .before .before .before .before .before .before .before .before .h in
+    let told = c .before .before .before .before .before .before .before .before .before .before .h in
     let put-bytes = c .before .before .before .before .before .before .put-bytes in
     let put-telegram = c .before .before .put-telegram in
-    (subst (λ h. Put (start .args .out .now) (start .args .at) (handedText h) (put-telegram .last .0) (put-telegram .result)) (sym (h .given .1)) (put-then (put-bytes .ensures .0) (omega arith) (put-telegram .ensures .0)), omega arith)
+    let both = put-then (put-bytes .ensures .0) (omega arith) (put-telegram .ensures .0) in
+    (subst (λ h. Put (start .args .out .now) (start .args .at) (handedText h) (put-telegram .last .0) (put-telegram .result)) (sym (told .given .1)) both, omega arith)
 
 pub put-handed-spec : {M : Type 1} → statement M
 put-handed-spec =

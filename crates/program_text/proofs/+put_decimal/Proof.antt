@@ -67,7 +67,8 @@ put-decimal-returns t c =
     let start = c .before .before .before .before .before .before in
     let if1 = c .before .before .before .before .if1 in
     let put = c .before .before .put in
-    (subst (λ u. Put (start .args .out .now) (start .args .at) u (put .last .0) (put .result)) (sym (decimal-one (start .args .n) (if1 .taken))) (put .ensures .0), (let l = put .ensures .1 in omega arith))
+    let text = sym (decimal-one (start .args .n) (if1 .taken)) in
+    (subst (λ u. Put (start .args .out .now) (start .args .at) u (put .last .0) (put .result)) text (put .ensures .0), omega arith)
 
 put-decimal-put-decimal-requires : (t : ℕ) → put-decimal-lts.Need-put-decimal-requires (
   put-reads.Asked,
@@ -126,7 +127,9 @@ put-decimal-returns-2 t c =
     let put2 = c .before .before .put2 in
     let n = start .args .n in
     let room = decimal-room n (if1 .left) (start .fits .n .fits) in
-    (subst (λ u. Put (start .args .out .now) (start .args .at) u (put2 .last .0) (put2 .result)) (sym (decimal-more n (if1 .left) (start .fits .n .fits))) (put-then (put-decimal .ensures .0) (omega arith) (put2 .ensures .0)), omega arith)
+    let text = sym (decimal-more n (if1 .left) (start .fits .n .fits)) in
+    let both = put-then (put-decimal .ensures .0) (omega arith) (put2 .ensures .0) in
+    (subst (λ u. Put (start .args .out .now) (start .args .at) u (put2 .last .0) (put2 .result)) text both, omega arith)
 
 pub +put-decimal-spec : {M : Type 1} → statement M
 +put-decimal-spec = close μ-put-decimal λ t. put-decimal-lts.spec (

@@ -28,7 +28,10 @@ returns c =
     let put-decimal = c .before .before .put-decimal in
     let z = start .args .z in
     let e = back z (start .fits .z) in
-    (subst (λ u. Put (start .args .out .now) (start .args .at) u (put-decimal .last .0) (put-decimal .result)) (sym (signed-below z (rw e at (if1 .taken)))) (put-then (put .ensures .0) (omega arith) (subst (λ n. Put (put .last .0) (put .result) (decimal n) (put-decimal .last .0) (put-decimal .result)) (magnitude .ensures ∙ ap natAbs e) (put-decimal .ensures .0))), omega arith)
+    let number = subst (λ n. Put (put .last .0) (put .result) (decimal n) (put-decimal .last .0) (put-decimal .result)) (magnitude .ensures ∙ ap natAbs e) (put-decimal .ensures .0) in
+    let both = put-then (put .ensures .0) (omega arith) number in
+    let text = sym (signed-below z (rw e at (if1 .taken))) in
+    (subst (λ u. Put (start .args .out .now) (start .args .at) u (put-decimal .last .0) (put-decimal .result)) text both, omega arith)
 
 magnitude-requires-2 : tie.Need-magnitude-requires-2
 magnitude-requires-2 c κs = search needs
@@ -47,7 +50,8 @@ returns-2 c =
     let put-decimal2 = c .before .before .put-decimal2 in
     let z = start .args .z in
     let e = back z (start .fits .z) in
-    (subst (λ u. Put (start .args .out .now) (start .args .at) u (put-decimal2 .last .0) (put-decimal2 .result)) (ap decimal (magnitude2 .ensures ∙ ap natAbs e) ∙ sym (signed-other z (rw e at (if1 .left)))) (put-decimal2 .ensures .0), omega arith)
+    let text = ap decimal (magnitude2 .ensures ∙ ap natAbs e) ∙ sym (signed-other z (rw e at (if1 .left))) in
+    (subst (λ u. Put (start .args .out .now) (start .args .at) u (put-decimal2 .last .0) (put-decimal2 .result)) text (put-decimal2 .ensures .0), omega arith)
 
 pub put-signed-spec : {M : Type 1} → statement M
 put-signed-spec =
