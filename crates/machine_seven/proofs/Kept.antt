@@ -26,7 +26,7 @@ use Rattle.machine.specs.declared.Out.{Out}
 use Rattle.machine.specs.Values.{isBound, bindingAt, bindingOf, chartOf, firstCell}
 use Rattle.machine.specs.Eval.{Context, needs, onRecord, literalValue, within, ofType, parameterVal, readAs, readVal}
 use Rattle.machine_seven.specs.Before as before
-use Rattle.machine_seven.specs.Kept.{Kept, EveryStored}
+use Rattle.machine_seven.specs.Kept.{StoredKept, EveryStored}
 
 -- what a test needs is worked out only where it holds
 needs-same : (b : Bool) (p q : Out) → (b ≡ true → p ≡ q) → needs b p ≡ needs b q
@@ -82,7 +82,7 @@ module _ (s : List ℕ) (h : upToSeven s ≡ true) where
     unfolding readVal before.readVal
     kept-reading st lo place n l = needs-same _ _ _ (λ m. record-same _ _ _ (λ r. kept-as st lo place n _ l (and-first _ _ m)))
 
-  all-kept : Kept s
+  all-kept : StoredKept s
   all-kept = record { sheet = sheet-kept s h; binding = kept-binding; chart = kept-chart; first = kept-first; held = kept-held; reading = λ x b k chart bound. kept-reading x b k chart bound }
 
 pub every-stored : EveryStored

@@ -14,7 +14,7 @@ use Rattle.machine.specs.Values.{bindingAt, bindingOf, chartOf, firstCell}
 use Rattle.machine.specs.Eval.{Context, readVal}
 use Rattle.machine_seven.specs.Before as before
 
-pub record Kept (s : List ℕ) : Type 0 where
+pub record StoredKept (s : List ℕ) : Type 0 where
   -- shape, uses, static rules, check
   pub sheet : SheetKept s
   -- an element's binding, chart and first cell
@@ -28,4 +28,4 @@ pub record Kept (s : List ℕ) : Type 0 where
 
 -- for every sheet none of whose charts has more than seven parameters, passed or not
 abbrev pub EveryStored : Type 0
-EveryStored = (s : List ℕ) → upToSeven s ≡ true → Kept s
+EveryStored = (s : List ℕ) → upToSeven s ≡ true → StoredKept s
