@@ -199,7 +199,10 @@ fn replay(kind: usize, sheet: &[u8]) -> bool {
     }
 }
 
-fn replay_next() -> bool {
+// `sheet` is room for any sheet that it takes, cleared once for all calls.
+fn replay_next(sheet: &mut [u8]) -> bool
+    requires { ⌜ length (now sheet) ≡ 70000 ⌝ }
+{
     let kind = read_number();
     if NONE <= kind {
         return false;
@@ -208,7 +211,6 @@ fn replay_next() -> bool {
     if SHEET < size {
         return false;
     }
-    let mut sheet = [0u8; SHEET];
     let came = program_input::read_all(STDIN_FILENO, &mut sheet[..size]);
     if came.count < size {
         return false;
@@ -224,9 +226,10 @@ fn main() {
         );
         return;
     }
+    let mut sheet = [0u8; SHEET];
     let mut left: u64 = 1000000000000;
     while 0 < left {
-        if !replay_next() {
+        if !replay_next(&mut sheet) {
             return;
         }
         left -= 1;

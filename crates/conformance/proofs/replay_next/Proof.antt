@@ -1,5 +1,7 @@
+use native.Mathlib.Omega.{arith}
+use mathlib.Core.Path.{sym}
+use lib.Seq.{length-take-le, length-front}
 use borrow.Author.Needs.{needs}
-use Rattle.program_text.proofs.Parts.{fresh-front, front-whole, front-fits, front-length}
 use Rattle.conformance.proofs.replay_next.Statement.{statement}
 use Rattle.conformance.proofs.replay_next.Tie as tie
 
@@ -15,34 +17,42 @@ read-number-requires-2 c κs = search needs
 returns-2 : tie.Need-returns-2
 returns-2 c = search needs
 
-array-borrow-prefix-sheet : tie.Need-array-borrow-prefix-sheet
-array-borrow-prefix-sheet c = search needs
+slice-relend-prefix-read-all : tie.Need-slice-relend-prefix-read-all
+slice-relend-prefix-read-all c = search needs
 
 slice-aggregate-read-all : tie.Need-slice-aggregate-read-all
-slice-aggregate-read-all c = fresh-front (c .before .before .read-number2 .result) 70000 0 (c .before .if2 .left)
+slice-aggregate-read-all c =
+    let start = c .before .before .before .before .before .before in
+    let long = start .pre in
+    let fits = c .before .if2 .left in
+    sym (length-take-le (c .before .before .read-number2 .result) (start .args .sheet .now) (omega arith))
 
 read-all-requires : tie.Need-read-all-requires
 read-all-requires c κs = search needs
 
+same-length : tie.Need-same-length
+same-length c = search needs
+
 returns-3 : tie.Need-returns-3
 returns-3 c = search needs
 
-array-share-prefix-sheet : tie.Need-array-share-prefix-sheet
-array-share-prefix-sheet c =
-    let size = c .before .before .before .before .before .before .read-number2 .result in
-    let read-all = c .before .before .before .read-all in
-    let whole = front-whole size 70000 0 (c .before .before .before .before .before .if2 .left) (read-all .last .1 .0) (read-all .kept .1 .0) in
-    front-fits (read-all .last .1 .0) _ size whole
+slice-reshare-prefix-replay : tie.Need-slice-reshare-prefix-replay
+slice-reshare-prefix-replay c = search needs
 
 slice-aggregate-replay : tie.Need-slice-aggregate-replay
 slice-aggregate-replay c =
-    let size = c .before .before .before .before .before .before .before .read-number2 .result in
-    let read-all = c .before .before .before .before .read-all in
-    let whole = front-whole size 70000 0 (c .before .before .before .before .before .before .if2 .left) (read-all .last .1 .0) (read-all .kept .1 .0) in
-    front-length (read-all .last .1 .0) _ size whole
+    let start = c .before .before .before .before .before .before .before .before .before .before .before .before in
+    let size = c .before .before .before .before .before .before .before .before .read-number2 .result in
+    let read-all = c .before .before .before .before .before .read-all in
+    let long = start .pre in
+    let fits = c .before .before .before .before .before .before .before .if2 .left in
+    sym (length-take-le size _ (omega (arith, length-front (start .args .sheet .now) (read-all .last .1 .0) size (read-all .kept .1 .0))))
 
 replay-requires : tie.Need-replay-requires
 replay-requires c κs = search needs
+
+same-length-2 : tie.Need-same-length-2
+same-length-2 c = search needs
 
 returns-4 : tie.Need-returns-4
 returns-4 c = search needs
@@ -55,11 +65,13 @@ replay-next-spec =
     returns
     read-number-requires-2
     returns-2
-    array-borrow-prefix-sheet
+    slice-relend-prefix-read-all
     slice-aggregate-read-all
     read-all-requires
+    same-length
     returns-3
-    array-share-prefix-sheet
+    slice-reshare-prefix-replay
     slice-aggregate-replay
     replay-requires
+    same-length-2
     returns-4)
