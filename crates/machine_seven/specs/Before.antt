@@ -1,4 +1,5 @@
--- The machine's definitions that changed with M-105 and that a stored sheet can be compared by, with the text that they had before: record i of section 7 bound element i, and a run held its element's binding record.
+-- The machine's definitions that changed with M-105 and that a stored sheet can be compared by: record i of section 7 bound element i, and a run held its element's binding record.
+-- Binding, chart and first cell have the text that they had before. Reading has it but for one thing: the record b that a run held is a parameter here, since a context no longer has it.
 -- They stand over today's definitions of everything else (values, words of the state, types ..), so a comparison with them says nothing about those.
 use Prim.Native.Nat.{ℕ, _+_, _-_}
 use mathlib.Core.List.{List}

@@ -13,7 +13,7 @@ use Rattle.sheet_rules.specs.declared.Checked.{Checked}
 use Rattle.sheet_rules.specs.declared.Checked.the-variants.{Passed, Shape, Static}
 use Rattle.sheet_rules.specs.Fields.{fieldOf, zeroFrom, holds, numberOr0, sumBelow, countBelow, componentsOf, externalsOf, elementsOf, typeAt, inSection}
 use Rattle.sheet_rules.specs.Indices.{cellsBefore}
-use Rattle.sheet_rules.specs.Shape.{mostVariables, mostCells, headShape, enumeratedShape, declarationShape, nameShape, bodiesUpTo, bodiesCovered, bodyShape, constantShape}
+use Rattle.sheet_rules.specs.Shape.{headShape, enumeratedShape, declarationShape, nameShape, bodiesUpTo, bodiesCovered, bodyShape, constantShape}
 use Rattle.sheet_rules.specs.Uses.{overCharts, homeOf, homeChart, operandUses, rootUses}
 use Rattle.sheet_rules.specs.Static.{declarationStatic, nameStatic, chartStatic, constantStatic}
 use Rattle.sheet_rules.specs.Check.{nodesShape}
@@ -25,7 +25,7 @@ chartShape s k r =
     inSection s declarations (chartParameters r)
     and leb (chartParameters r .count) 7
     and inSection s declarations (chartVariables r)
-    and leb (chartVariables r .count) mostVariables
+    and leb (chartVariables r .count) 32
     and eqb (chartBodies r .first) (bodiesUpTo s k)
     and zeroFrom 6 r
 
@@ -76,7 +76,7 @@ shapeWith once s =
     and sectionsShape s
     and bodiesCovered s
     and elementsBound s
-    and leb (cellsOf s) mostCells
+    and leb (cellsOf s) 512
     and once
     and nodesShape s
 
