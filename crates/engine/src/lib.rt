@@ -11,6 +11,7 @@ ghost use Rattle.sheet_rules.specs.Check.{checkOf};
 ghost use Rattle.machine.specs.Lists.{StartGives, EventGives};
 ghost use Rattle.machine_events.specs.Playing.{Playing};
 ghost use Rattle.engine_cells.specs.Cells.{CellTable};
+ghost use Rattle.machine.specs.Play.{limitOf};
 
 // The next event of a list: the sheet is passed, the state is of it and becomes the state that goes
 // on; `spare` is a second state's room, used where there may be work to undo.
@@ -23,7 +24,7 @@ pub fn next(
     ev: &[i32],
 ) -> Answer
     requires { ⌜ Playing (now sheet) (now directory) (now st) × (length (now spare) ≡ length (now st)) × CellTable (now sheet) (now cells) ⌝ }
-    ensures { λ a. ⌜ EventGives (now (sheet .entry)) (now (st .entry)) (now (st .entry)) (now (ev .entry)) a (now (st .exit)) ⌝ }
+    ensures { λ a. ⌜ EventGives (now (sheet .entry)) (limitOf (now (sheet .entry))) (now (st .entry)) (now (st .entry)) (now (ev .entry)) a (now (st .exit)) ⌝ }
 {
     if !engine_valid_events::is_event(sheet, directory, ev) {
         return answered(4, 0);
@@ -37,7 +38,7 @@ pub fn next(
 
 // An event on any sheet, state and words.
 pub fn event(sheet: &[u8], old: &[i32], result: &mut [i32], ev: &[i32]) -> Answer
-    ensures { λ a. ⌜ EventGives (now (sheet .entry)) (now (old .entry)) (now (result .entry)) (now (ev .entry)) a (now (result .exit)) ⌝ }
+    ensures { λ a. ⌜ EventGives (now (sheet .entry)) (limitOf (now (sheet .entry))) (now (old .entry)) (now (result .entry)) (now (ev .entry)) a (now (result .exit)) ⌝ }
 {
     let directory = sheet_reader::directory(sheet);
     match checker::check_opened(sheet, &directory) {
@@ -55,7 +56,7 @@ fn on_passed(
     ev: &[i32],
 ) -> Answer
     requires { ⌜ (now directory ≡ directoryOf (now sheet)) × (checkOf (now sheet) ≡ Passed) ⌝ }
-    ensures { λ a. ⌜ EventGives (now (sheet .entry)) (now (old .entry)) (now (result .entry)) (now (ev .entry)) a (now (result .exit)) ⌝ }
+    ensures { λ a. ⌜ EventGives (now (sheet .entry)) (limitOf (now (sheet .entry))) (now (old .entry)) (now (result .entry)) (now (ev .entry)) a (now (result .exit)) ⌝ }
 {
     let mut cells = [0usize; 2176];
     let count = engine_cells::fill(sheet, directory, &mut cells);
@@ -80,14 +81,14 @@ fn on_passed(
 // Start on a passed sheet.
 pub fn begin(sheet: &[u8], directory: &[usize; 16], cells: &[usize; 2176], st: &mut [i32]) -> Answer
     requires { ⌜ (now directory ≡ directoryOf (now sheet)) × (checkOf (now sheet) ≡ Passed) × (length (now st) ≡ stateLength (now sheet)) × CellTable (now sheet) (now cells) ⌝ }
-    ensures { λ a. ⌜ StartGives (now (sheet .entry)) (now (st .entry)) a (now (st .exit)) ⌝ }
+    ensures { λ a. ⌜ StartGives (now (sheet .entry)) (limitOf (now (sheet .entry))) (now (st .entry)) a (now (st .exit)) ⌝ }
 {
     engine_starts::from_defaults(sheet, directory, cells, st)
 }
 
 // Start on any sheet and state.
 pub fn start(sheet: &[u8], result: &mut [i32]) -> Answer
-    ensures { λ a. ⌜ StartGives (now (sheet .entry)) (now (result .entry)) a (now (result .exit)) ⌝ }
+    ensures { λ a. ⌜ StartGives (now (sheet .entry)) (limitOf (now (sheet .entry))) (now (result .entry)) a (now (result .exit)) ⌝ }
 {
     let directory = sheet_reader::directory(sheet);
     match checker::check_opened(sheet, &directory) {
@@ -99,7 +100,7 @@ pub fn start(sheet: &[u8], result: &mut [i32]) -> Answer
 
 fn start_passed(sheet: &[u8], directory: &[usize; 16], result: &mut [i32]) -> Answer
     requires { ⌜ (now directory ≡ directoryOf (now sheet)) × (checkOf (now sheet) ≡ Passed) ⌝ }
-    ensures { λ a. ⌜ StartGives (now (sheet .entry)) (now (result .entry)) a (now (result .exit)) ⌝ }
+    ensures { λ a. ⌜ StartGives (now (sheet .entry)) (limitOf (now (sheet .entry))) (now (result .entry)) a (now (result .exit)) ⌝ }
 {
     let mut cells = [0usize; 2176];
     let count = engine_cells::fill(sheet, directory, &mut cells);

@@ -207,7 +207,7 @@ pub fn clock(context: &[usize; 38], st: &mut [i32], r: Record, left: u32) -> Ran
     ensures { λ o. ⌜ ((s : List ℕ) (lo : List ℤ) (n depth : ℕ) → Visit s (now (context .entry)) (now (st .entry)) lo n r clockAct → world o (now (st .exit)) lo ≡ runOf s depth (contextAt s (now (context .entry))) n (suc left) (now (st .entry)) lo) ⌝ }
 {
     let running = engine_ints::bool_word(r.f0 == 38);
-    engine_store::set_clock(
+    engine_store::set_cell(
         st,
         engine_context::first_word(context, r.f1 as usize),
         running,

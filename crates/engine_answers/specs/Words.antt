@@ -9,12 +9,13 @@ use Rattle.machine.specs.declared.Handed.the-variants.{Nothing, Outside}
 use Rattle.machine.specs.declared.Answer.{Answer}
 use Rattle.machine.specs.Values.{isZero}
 use Rattle.machine.specs.State.{wordOf, telegramIn}
+use Rattle.machine.specs.Play.{wordsOfEvent}
 use Rattle.machine.specs.Lists.{Played, played, nowhere}
 
 -- ---- events: "An event is nine words"
 
 abbrev pub eventAt : List ℤ → ℕ → List ℤ
-eventAt ws i = take 9 (drop (9 * i) ws)
+eventAt ws i = take wordsOfEvent (drop (wordsOfEvent * i) ws)
 
 -- n events from number i on
 unfoldable pub eventsFrom : List ℤ → ℕ → ℕ → List (List ℤ)
@@ -22,9 +23,12 @@ eventsFrom ws zero i = []
 eventsFrom ws (suc n) i = eventAt ws i ∷ eventsFrom ws n (suc i)
 
 abbrev pub eventsIn : List ℤ → List (List ℤ)
-eventsIn ws = eventsFrom ws (length ws / 9) 0
+eventsIn ws = eventsFrom ws (length ws / wordsOfEvent) 0
 
 -- ---- answers: "its number, the steps used, and the telegram handed outside where there is one"
+
+abbrev pub wordsOfAnswer : ℕ
+wordsOfAnswer = 11
 
 -- 1 and the receiver, port, name and four data that were handed outside; or zeros
 unfoldable pub handedWords : Handed → List ℤ
@@ -35,9 +39,9 @@ handedWords (Outside t) = pos 1 ∷ t .receiver ∷ t .port ∷ t .name ∷ t .d
 abbrev pub handedIn : List ℤ → ℕ → Handed
 handedIn ws at = elim (isZero (wordOf ws at)) [ true ↦ Nothing | false ↦ Outside (telegramIn ws at) ]
 
--- ten words
+-- number, steps, dropped, and what is handed
 abbrev pub answerWords : Answer → List ℤ
-answerWords a = pos (a .number) ∷ pos (a .steps) ∷ handedWords (a .handed)
+answerWords a = pos (a .number) ∷ pos (a .steps) ∷ pos (a .dropped) ∷ handedWords (a .handed)
 
 unfoldable pub answersWords : List Answer → List ℤ
 answersWords [] = []

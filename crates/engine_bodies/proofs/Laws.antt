@@ -25,7 +25,7 @@ use Rattle.sheet_rules.specs.Static.{bodyStatic}
 use Rattle.machine.specs.Values.{inType, isBound, bindingAt, firstCell}
 use Rattle.machine.specs.Eval.{Context}
 use Rattle.machine.specs.Run.{World, world, datum, localsOf, runOf}
-use Rattle.machine.specs.Play.{ended, answer, limitOf, ranBody, eventEnd, eventEndWithin, bodyEvent}
+use Rattle.machine.specs.Play.{ended, answer, limitOf, ranBody, eventEnd, bodyEvent}
 use Rattle.sheet_rules.specs.Check.{checkOf}
 use Rattle.machine_equations.proofs.Left.{RanWithin, run-left}
 use Rattle.machine_passed.specs.Places.{InChart, Element, Placed, Locals}
@@ -145,33 +145,33 @@ module _ {s directory table : List ℕ} {st : List ℤ} {e n : ℕ} {c : Record}
       }
 
       abbrev Ended : Ran → List ℤ → Type 0
-      Ended r st′ = (r ≡ ranBody s e (recordOf s bodies number) zs st .ran) × (st′ ≡ ranBody s e (recordOf s bodies number) zs st .st)
+      Ended r st′ = (r ≡ ranBody s (limitOf s) e (recordOf s bodies number) zs st .ran) × (st′ ≡ ranBody s (limitOf s) e (recordOf s bodies number) zs st .st)
 
       pub body-ran : (st′ lo lo′ : List ℤ) (limit : ℕ) (r : Ran) → lo ≡ localsOf s b zs → limit ≡ limitOf s → world r st′ lo′ ≡ runOf s 0 (contextAt s w) (root b) limit st lo → Ended r st′
       body-ran st′ lo lo′ limit r l m g = (ap (λ w. w .ran) whole, ap (λ w. w .st) whole)
         where
-          whole : world r st′ lo′ ≡ ranBody s e (recordOf s bodies number) zs st
+          whole : world r st′ lo′ ≡ ranBody s (limitOf s) e (recordOf s bodies number) zs st
           whole =
               g
               ∙ ap (λ x. runOf s 0 x (root b) limit st lo) context-is
               ∙ ap (λ n. runOf s 0 x (root b) n st lo) m
               ∙ ap (runOf s 0 x (root b) (limitOf s) st) l
               ∙ sym (ran-is s ok e (element .0) c (element .1) b inside zs st)
-              ∙ sym (ap (λ f. ranBody s e f zs st) read)
+              ∙ sym (ap (λ f. ranBody s (limitOf s) e f zs st) read)
 
   -- ---- how a run of the body ends
 
   abbrev ranWorld : World
-  ranWorld = ranBody s e (recordOf s bodies number) zs st
+  ranWorld = ranBody s (limitOf s) e (recordOf s bodies number) zs st
 
   abbrev thenWorld : World
-  thenWorld = ranBody s e (Present (called .body)) zs st
+  thenWorld = ranBody s (limitOf s) e (Present (called .body)) zs st
 
   abbrev y : Context
   y = record { element = e; chart = called .chart; binding = bindingAt s e; body = called .body }
 
   same-world : ranWorld ≡ thenWorld
-  same-world = ap (λ f. ranBody s e f zs st) body-there
+  same-world = ap (λ f. ranBody s (limitOf s) e f zs st) body-there
 
   ends : {r : Ran} → ranWorld .ran ≡ r → Ends s y r (thenWorld .st) (thenWorld .lo)
   ends g =
@@ -197,16 +197,16 @@ module _ {s directory table : List ℕ} {st : List ℤ} {e n : ℕ} {c : Record}
 
   -- the answer of an event
   module _ (a : Answer) (old st′ : List ℤ) (l limit : ℕ) (same : limit ≡ limitOf s) where
-    pub done-event : a ≡ answer 0 (limit - l) Nothing → ranWorld .ran ≡ Done l → st′ ≡ ranWorld .st → ended a st′ ≡ bodyEvent s old e (recordOf s bodies number) zs st
-    unfolding eventEndWithin
+    pub done-event : a ≡ answer 0 (limit - l) Nothing → ranWorld .ran ≡ Done l → st′ ≡ ranWorld .st → ended a st′ ≡ bodyEvent s (limitOf s) old e (recordOf s bodies number) zs st
+    unfolding eventEnd
     done-event is g q =
         ap (λ a. ended a st′) (is ∙ ap (λ k. answer 0 (k - l) Nothing) same)
         ∙ ap (ended (answer 0 (limitOf s - l) Nothing)) q
-        ∙ sym (ap (λ r. eventEnd s old r (ranWorld .st)) g)
+        ∙ sym (ap (λ r. eventEnd (limitOf s) old r (ranWorld .st)) g)
 
-    pub refused-event : (m : ℕ) → a ≡ answer m (limit - l) Nothing → ranWorld .ran ≡ Refused m l → st′ ≡ old → ended a st′ ≡ bodyEvent s old e (recordOf s bodies number) zs st
-    unfolding eventEndWithin
+    pub refused-event : (m : ℕ) → a ≡ answer m (limit - l) Nothing → ranWorld .ran ≡ Refused m l → st′ ≡ old → ended a st′ ≡ bodyEvent s (limitOf s) old e (recordOf s bodies number) zs st
+    unfolding eventEnd
     refused-event m is g q =
         ap (λ a. ended a st′) (is ∙ ap (λ k. answer m (k - l) Nothing) same)
         ∙ ap (ended (answer m (limitOf s - l) Nothing)) q
-        ∙ sym (ap (λ r. eventEnd s old r (ranWorld .st)) g)
+        ∙ sym (ap (λ r. eventEnd (limitOf s) old r (ranWorld .st)) g)

@@ -26,7 +26,7 @@ pub fn run_body(
     limit: u32,
 ) -> Ran
     requires { ⌜ ToRun (now sheet) (now directory) (now cells) (now st) e n c number (now d) × (limit ≡ limitOf (now sheet)) ⌝ }
-    ensures { λ r. ⌜ (r ≡ ranBody (now (sheet .entry)) e (recordOf (now (sheet .entry)) 5 number) (now (d .entry)) (now (st .entry)) .ran) × (now (st .exit) ≡ ranBody (now (sheet .entry)) e (recordOf (now (sheet .entry)) 5 number) (now (d .entry)) (now (st .entry)) .st) ⌝ }
+    ensures { λ r. ⌜ (r ≡ ranBody (now (sheet .entry)) (limitOf (now (sheet .entry))) e (recordOf (now (sheet .entry)) 5 number) (now (d .entry)) (now (st .entry)) .ran) × (now (st .exit) ≡ ranBody (now (sheet .entry)) (limitOf (now (sheet .entry))) e (recordOf (now (sheet .entry)) 5 number) (now (d .entry)) (now (st .entry)) .st) ⌝ }
 {
     let i = e - sheet_fields::field_at(sheet, directory, 0, 0, 1);
     let k = cells[34 * i + FIRST_RECORD];
@@ -55,6 +55,7 @@ pub fn answered(number: u8, steps: u32) -> Answer
     Answer {
         number,
         steps,
+        dropped: 0,
         handed: Handed::Nothing,
     }
 }
@@ -85,7 +86,7 @@ pub fn event_body(
     d: &[i32; 4],
 ) -> Answer
     requires { ⌜ ToRun (now sheet) (now directory) (now cells) (now st) e n c number (now d) × (length (now old) ≡ length (now st)) ⌝ }
-    ensures { λ a. ⌜ ended a (now (st .exit)) ≡ bodyEvent (now (sheet .entry)) (now (old .entry)) e (recordOf (now (sheet .entry)) 5 number) (now (d .entry)) (now (st .entry)) ⌝ }
+    ensures { λ a. ⌜ ended a (now (st .exit)) ≡ bodyEvent (now (sheet .entry)) (limitOf (now (sheet .entry))) (now (old .entry)) e (recordOf (now (sheet .entry)) 5 number) (now (d .entry)) (now (st .entry)) ⌝ }
 {
     let limit = engine_limit::limit(sheet, directory);
     let r = run_body(sheet, directory, cells, st, e, n, c, number, d, limit);

@@ -16,7 +16,7 @@ ghost use Rattle.sheet_rules.specs.Types.{reactsTo};
 ghost use Rattle.machine.specs.Values.{isBelow, isBound};
 ghost use Rattle.machine.specs.State.{isInternal};
 ghost use Rattle.machine.specs.Valid.{telegramFits};
-ghost use Rattle.machine.specs.Play.{ended, answer, elementBody, reacting, panicking, delivered};
+ghost use Rattle.machine.specs.Play.{ended, answer, elementBody, reacting, panicking, delivered, limitOf};
 ghost use Rattle.machine_events.specs.Playing.{Playing};
 ghost use Rattle.engine_cells.specs.Cells.{CellTable, ChartAt};
 
@@ -32,7 +32,7 @@ fn run_panic_body(
     c: Record,
 ) -> Answer
     requires { ⌜ Playing (now sheet) (now directory) (now st) × (length (now old) ≡ length (now st)) × CellTable (now sheet) (now cells) × ChartAt (now sheet) e n c ⌝ }
-    ensures { λ a. ⌜ ended a (now (st .exit)) ≡ panicking (now (sheet .entry)) (now (old .entry)) e (now (st .entry)) ⌝ }
+    ensures { λ a. ⌜ ended a (now (st .exit)) ≡ panicking (now (sheet .entry)) (limitOf (now (sheet .entry))) (now (old .entry)) e (now (st .entry)) ⌝ }
 {
     let j = engine_finders::with_role(sheet, directory, c, 1);
     let none = [0i32; 4];
@@ -60,7 +60,7 @@ pub fn panicked(
     e: usize,
 ) -> Answer
     requires { ⌜ Playing (now sheet) (now directory) (now st) × (length (now old) ≡ length (now st)) × (isBound (now sheet) e ≡ true) × CellTable (now sheet) (now cells) ⌝ }
-    ensures { λ a. ⌜ ended a (now (st .exit)) ≡ panicking (now (sheet .entry)) (now (old .entry)) e (now (st .entry)) ⌝ }
+    ensures { λ a. ⌜ ended a (now (st .exit)) ≡ panicking (now (sheet .entry)) (limitOf (now (sheet .entry))) (now (old .entry)) e (now (st .entry)) ⌝ }
 {
     let n = engine_cells::chart_number(sheet, directory, cells, e);
     let Found::Present(c) = sheet_reader::read(sheet, directory, 4, n) else {
@@ -80,7 +80,7 @@ fn deliver_to_element(
     t: Telegram,
 ) -> Answer
     requires { ⌜ Playing (now sheet) (now directory) (now st) × (length (now old) ≡ length (now st)) × (telegramFits (now sheet) t ≡ true) × (isInternal t ≡ false) × (isBelow (t .receiver) (externalsOf (now sheet)) ≡ false) × CellTable (now sheet) (now cells) ⌝ }
-    ensures { λ a. ⌜ ended a (now (st .exit)) ≡ delivered (now (sheet .entry)) (now (old .entry)) t (now (st .entry)) ⌝ }
+    ensures { λ a. ⌜ ended a (now (st .exit)) ≡ delivered (now (sheet .entry)) (limitOf (now (sheet .entry))) (now (old .entry)) t (now (st .entry)) ⌝ }
 {
     let e = engine_valid_words::number(t.receiver);
     let n = engine_cells::chart_number(sheet, directory, cells, e);
@@ -120,6 +120,7 @@ fn handed(t: Telegram) -> Answer
     Answer {
         number: 0,
         steps: 0,
+        dropped: 0,
         handed: Handed::Outside(t),
     }
 }
@@ -135,7 +136,7 @@ pub fn delivers(
     t: Telegram,
 ) -> Answer
     requires { ⌜ Playing (now sheet) (now directory) (now st) × (length (now old) ≡ length (now st)) × (telegramFits (now sheet) t ≡ true) × (isInternal t ≡ false) × CellTable (now sheet) (now cells) ⌝ }
-    ensures { λ a. ⌜ ended a (now (st .exit)) ≡ delivered (now (sheet .entry)) (now (old .entry)) t (now (st .entry)) ⌝ }
+    ensures { λ a. ⌜ ended a (now (st .exit)) ≡ delivered (now (sheet .entry)) (limitOf (now (sheet .entry))) (now (old .entry)) t (now (st .entry)) ⌝ }
 {
     if engine_valid_words::is_below(t.receiver, engine_valid_values::externals(sheet, directory)) {
         return handed(t);
@@ -153,7 +154,7 @@ pub fn reacts(
     t: Telegram,
 ) -> Answer
     requires { ⌜ Playing (now sheet) (now directory) (now st) × (length (now old) ≡ length (now st)) × (telegramFits (now sheet) t ≡ true) × (isInternal t ≡ true) × CellTable (now sheet) (now cells) ⌝ }
-    ensures { λ a. ⌜ ended a (now (st .exit)) ≡ reacting (now (sheet .entry)) (now (old .entry)) (natAbs (t .receiver)) (elementBody (now (sheet .entry)) (natAbs (t .receiver)) (reactsTo (natAbs (t .name)))) t (now (st .entry)) ⌝ }
+    ensures { λ a. ⌜ ended a (now (st .exit)) ≡ reacting (now (sheet .entry)) (limitOf (now (sheet .entry))) (now (old .entry)) (natAbs (t .receiver)) (elementBody (now (sheet .entry)) (natAbs (t .receiver)) (reactsTo (natAbs (t .name)))) t (now (st .entry)) ⌝ }
 {
     let e = engine_valid_words::number(t.receiver);
     let n = engine_cells::chart_number(sheet, directory, cells, e);

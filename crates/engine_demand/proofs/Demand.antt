@@ -81,7 +81,7 @@ module _ (s : List ℕ) (events lent room : List ℤ) (c : Claim machine s lent 
               given = c .answers;
               each = c .each y ∙ sym (length-map (callsOf lent (eventsIn events)) _) ∙ ap length (events-called lent (eventsIn events)) ∙ events-count events (length events / 9) 0;
               words = words ∙ ap (λ b. elim b as (λ b. List ℤ) [ true ↦ answersWords (c .answers) | false ↦ room ]) (eq-eqb (c .first .number) 0 y);
-              machine = ap (playOf s) (sym (events-called lent (eventsIn events))) ∙ c .machine ∙ ap (λ a. played (a ∷ c .answers) (c .last)) (sym same) ∙ ap (played (a ∷ c .answers)) (sym left);
+              machine = ap (playOf s (limitOf s)) (sym (events-called lent (eventsIn events))) ∙ c .machine ∙ ap (λ a. played (a ∷ c .answers) (c .last)) (sym same) ∙ ap (played (a ∷ c .answers)) (sym left);
               answered = c .answered;
               within = c .within;
               ofSheet = subst (OfSheet s) (sym left) (c .ofSheet y);
@@ -96,4 +96,4 @@ unfolding listOf
 every-play s events lent spare room ok l k u v a st answers e =
     let calls = callsOf lent (eventsIn events) in
     let c = claim-given machine s ok lent l (machine-start s lent) calls (all-lent lent s l (eventsIn events)) (all-played lent s (eventsIn events)) in
-    given-demand s events lent room c a st answers (e ∙ whole-list s events lent spare room ok (stateLength s) refl l k u v ∙ ap (λ evs. listOf room (playOf s evs)) (sym (events-called lent (eventsIn events))) ∙ ap (listOf room) (c .machine))
+    given-demand s events lent room c a st answers (e ∙ whole-list s events lent spare room ok (stateLength s) refl l k u v ∙ ap (λ evs. listOf room (playOf s (limitOf s) evs)) (sym (events-called lent (eventsIn events))) ∙ ap (listOf room) (c .machine))

@@ -24,7 +24,7 @@ pub record Held (s : List ℕ) (events : List ℤ) (a : Answer) (st answers : Li
   pub each : length given ≡ length events / 9
   pub words : answers ≡ answersWords given
   -- the machine, "fed with the sheet and the events alone", gives start's answer and these, whole, and has this state, word for word
-  pub machine : playOf s (eventsIn events) ≡ played (a ∷ given) st
+  pub machine : playOf s (limitOf s) (eventsIn events) ≡ played (a ∷ given) st
   -- each is 0 or 4 to 12 and has at most the limit's steps
   pub answered : AllAnswered given
   pub within : AllWithin (limitOf s) given
@@ -44,4 +44,4 @@ pub record Demand (s : List ℕ) (events room : List ℤ) (a : Answer) (st answe
 
 -- for every sheet that check passes, all events and every state and room of fitting length, and whatever meets the contract of `play`
 abbrev pub EveryPlay : Type 0
-EveryPlay = (s : List ℕ) (events lent spare room : List ℤ) → checkOf s ≡ Passed → length lent ≡ stateLength s → length spare ≡ stateLength s → length events % 9 ≡ 0 → length room ≡ 10 * (length events / 9) → (a : Answer) (st answers : List ℤ) → listed a st answers ≡ listCall s events lent spare room → Demand s events room a st answers
+EveryPlay = (s : List ℕ) (events lent spare room : List ℤ) → checkOf s ≡ Passed → length lent ≡ stateLength s → length spare ≡ stateLength s → length events % 9 ≡ 0 → length room ≡ 10 * (length events / 9) → (a : Answer) (st answers : List ℤ) → listed a st answers ≡ listCall s (limitOf s) events lent spare room → Demand s events room a st answers

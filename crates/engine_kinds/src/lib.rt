@@ -9,7 +9,7 @@ ghost use lib.IntN.{pos};
 ghost use lib.Signed.{leZ};
 ghost use lib.ListN.{length};
 ghost use Rattle.machine.specs.State.{stateLength, wordOf};
-ghost use Rattle.machine.specs.Play.{ended, outside, slice, isEvent, telegramOfEvent, happens};
+ghost use Rattle.machine.specs.Play.{ended, outside, slice, isEvent, telegramOfEvent, happens, limitOf};
 ghost use Rattle.engine_queue.specs.Laid.{Laid};
 ghost use Rattle.machine_events.specs.Playing.{Playing};
 ghost use Rattle.engine_cells.specs.Cells.{CellTable};
@@ -97,7 +97,7 @@ pub fn happened(
     j: usize,
 ) -> Answer
     requires { ⌜ Playing (now sheet) (now directory) (now st) × (isEvent (now sheet) (now ev) ≡ true) × (j ≡ soughtAt (now sheet) (now st) (now ev)) × (length (now old) ≡ length (now st)) × (mayUndo (now sheet) (now st) (now ev) ≡ true → now old ≡ now st) × CellTable (now sheet) (now cells) ⌝ }
-    ensures { λ a. ⌜ ended a (now (st .exit)) ≡ happens (now (sheet .entry)) (now (st .entry)) (now (ev .entry)) ⌝ }
+    ensures { λ a. ⌜ ended a (now (st .exit)) ≡ happens (now (sheet .entry)) (limitOf (now (sheet .entry))) (now (st .entry)) (now (ev .entry)) ⌝ }
 {
     let kind = engine_valid_words::number_at(ev, 0);
     if kind == 1 {

@@ -15,7 +15,7 @@ use Rattle.machine.specs.declared.Answer.{Answer}
 use Rattle.sheet_rules.specs.Fields.{numberOr0}
 use Rattle.machine.specs.State.{putWords}
 use Rattle.machine.specs.Play.{defaultLimit, limitBy, limitOf}
-use Rattle.machine.specs.Lists.{Played, played, nowhere, thenPlayed, afterAnswer, goesOn, eventsOf, eventsOfBy, EventGives}
+use Rattle.machine.specs.Lists.{Played, played, nowhere, thenPlayed, afterAnswer, goesOn, eventsOf, EventGives}
 use Rattle.machine_events.specs.Playing.{Playing}
 use Rattle.machine_claim.proofs.Limit.{event-within}
 use Rattle.machine_claim.proofs.Kept.{goes-on-is}
@@ -38,7 +38,7 @@ module _ (s : List ℕ) (bytes : (i : ℕ) → getD s i 0 < 256) where
       go true = omega arith
       go false = field-small (ltb 0 (countOf s head)) (offsetOf s head + 16 * 0)
 
-  pub steps-small : (old ev : List ℤ) (a : Answer) (st : List ℤ) → EventGives s old old ev a st → a .steps < 2147483648
+  pub steps-small : (old ev : List ℤ) (a : Answer) (st : List ℤ) → EventGives s (limitOf s) old old ev a st → a .steps < 2147483648
   steps-small old ev a st g = omega (arith, limit-small, event-within s old old ev .steps a st (sym g))
 
 -- ---- a run in words, after words that stand before it
@@ -65,38 +65,38 @@ behind-answer a nowhere = refl
 module _ (s d : List ℕ) (events : List ℤ) where
   -- the run from event i of count on
   abbrev pub rest : ℕ → ℕ → List ℤ → Written
-  rest count i st = inWords (eventsOf s st (eventsFrom events (count - i) i))
+  rest count i st = inWords (eventsOf s (limitOf s) st (eventsFrom events (count - i) i))
 
-  pub no-event-yet : (count : ℕ) (st answers : List ℤ) → inWords (eventsOf s st (eventsFrom events count 0)) ≡ behind (take (10 * 0) answers) (rest count 0 st)
+  pub no-event-yet : (count : ℕ) (st answers : List ℤ) → inWords (eventsOf s (limitOf s) st (eventsFrom events count 0)) ≡ behind (take (10 * 0) answers) (rest count 0 st)
   no-event-yet count st answers =
       let e : count ≡ count - 0 = omega arith in
-      sym (behind-none (inWords (eventsOf s st (eventsFrom events count 0)))) ∙ ap (λ n. behind [] (inWords (eventsOf s st (eventsFrom events n 0)))) e
+      sym (behind-none (inWords (eventsOf s (limitOf s) st (eventsFrom events count 0)))) ∙ ap (λ n. behind [] (inWords (eventsOf s (limitOf s) st (eventsFrom events n 0)))) e
 
-  one-event : (st ev : List ℤ) (evs : List (List ℤ)) (a : Answer) (new : List ℤ) → Playing s d st → EventGives s st st ev a new → inWords (eventsOf s st (ev ∷ evs)) ≡ behind (answerWords a) (inWords (eventsOf s new evs))
-  unfolding eventsOfBy thenPlayed
+  one-event : (st ev : List ℤ) (evs : List (List ℤ)) (a : Answer) (new : List ℤ) → Playing s d st → EventGives s (limitOf s) st st ev a new → inWords (eventsOf s (limitOf s) st (ev ∷ evs)) ≡ behind (answerWords a) (inWords (eventsOf s (limitOf s) new evs))
+  unfolding eventsOf thenPlayed
   one-event st ev evs a new p g =
-      ap (λ w. inWords (thenPlayed w (λ a new. afterAnswer a (eventsOf s (goesOn a st new) evs)))) (sym g)
-      ∙ ap (λ st. inWords (afterAnswer a (eventsOf s st evs))) (goes-on-is s d st ev a new p g)
-      ∙ behind-answer a (eventsOf s new evs)
+      ap (λ w. inWords (thenPlayed w (λ a new. afterAnswer a (eventsOf s (limitOf s) (goesOn a st new) evs)))) (sym g)
+      ∙ ap (λ st. inWords (afterAnswer a (eventsOf s (limitOf s) st evs))) (goes-on-is s d st ev a new p g)
+      ∙ behind-answer a (eventsOf s (limitOf s) new evs)
 
   -- one event more
-  pub event-more : (count i : ℕ) (st answers : List ℤ) (w : Written) → i < count → length answers ≡ 10 * count → Playing s d st → w ≡ behind (take (10 * i) answers) (rest count i st) → (ev : List ℤ) → ev ≡ eventAt events i → (a : Answer) (new : List ℤ) → EventGives s st st ev a new → (answers′ : List ℤ) → answers′ ≡ putWords answers (10 * i) (answerWords a) → w ≡ behind (take (10 * (i + 1)) answers′) (rest count (i + 1) new)
+  pub event-more : (count i : ℕ) (st answers : List ℤ) (w : Written) → i < count → length answers ≡ 10 * count → Playing s d st → w ≡ behind (take (10 * i) answers) (rest count i st) → (ev : List ℤ) → ev ≡ eventAt events i → (a : Answer) (new : List ℤ) → EventGives s (limitOf s) st st ev a new → (answers′ : List ℤ) → answers′ ≡ putWords answers (10 * i) (answerWords a) → w ≡ behind (take (10 * (i + 1)) answers′) (rest count (i + 1) new)
   unfolding eventsFrom
   event-more count i st answers w l m p h ev q a new g answers′ e =
       let n : count - i ≡ suc (count - (i + 1)) = omega arith in
       let k : suc i ≡ i + 1 = omega arith in
       let front : take (10 * (i + 1)) answers′ ≡ take (10 * i) answers ++ answerWords a = ap (take (10 * (i + 1))) e ∙ front-put answers (10 * i) (answerWords a) (10 * (i + 1)) (omega arith) (omega (arith, ten a)) in
       h
-      ∙ ap (λ n. behind (take (10 * i) answers) (inWords (eventsOf s st (eventsFrom events n i)))) n
-      ∙ ap (λ k. behind (take (10 * i) answers) (inWords (eventsOf s st (eventAt events i ∷ eventsFrom events (count - (i + 1)) k)))) k
-      ∙ ap (λ ev. behind (take (10 * i) answers) (inWords (eventsOf s st (ev ∷ eventsFrom events (count - (i + 1)) (i + 1))))) (sym q)
+      ∙ ap (λ n. behind (take (10 * i) answers) (inWords (eventsOf s (limitOf s) st (eventsFrom events n i)))) n
+      ∙ ap (λ k. behind (take (10 * i) answers) (inWords (eventsOf s (limitOf s) st (eventAt events i ∷ eventsFrom events (count - (i + 1)) k)))) k
+      ∙ ap (λ ev. behind (take (10 * i) answers) (inWords (eventsOf s (limitOf s) st (ev ∷ eventsFrom events (count - (i + 1)) (i + 1))))) (sym q)
       ∙ ap (behind (take (10 * i) answers)) (one-event st ev (eventsFrom events (count - (i + 1)) (i + 1)) a new p g)
       ∙ behind-behind (take (10 * i) answers) (answerWords a) (rest count (i + 1) new)
       ∙ ap (λ ws. behind ws (rest count (i + 1) new)) (sym front)
 
   pub all-events : (count i : ℕ) (st answers : List ℤ) (w : Written) → i ≤ count → count ≤ i → length answers ≡ 10 * count → w ≡ behind (take (10 * i) answers) (rest count i st) → written answers st ≡ w
-  unfolding behind eventsFrom eventsOfBy inWords answersWords
+  unfolding behind eventsFrom eventsOf inWords answersWords
   all-events count i st answers w l k m h =
       let n : count - i ≡ 0 = omega arith in
       let whole : take (10 * i) answers ≡ answers = take-all (10 * i) answers (omega arith) in
-      sym (h ∙ ap (λ n. behind (take (10 * i) answers) (inWords (eventsOf s st (eventsFrom events n i)))) n ∙ ap (λ ws. written ws st) (append-nil (take (10 * i) answers) ∙ whole))
+      sym (h ∙ ap (λ n. behind (take (10 * i) answers) (inWords (eventsOf s (limitOf s) st (eventsFrom events n i)))) n ∙ ap (λ ws. written ws st) (append-nil (take (10 * i) answers) ∙ whole))

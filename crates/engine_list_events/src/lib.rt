@@ -6,6 +6,7 @@ ghost use Rattle.machine.specs.Lists.{eventsOf};
 ghost use Rattle.machine_events.specs.Playing.{Playing};
 ghost use Rattle.engine_cells.specs.Cells.{CellTable};
 ghost use Rattle.engine_answers.specs.Words.{eventsIn, written, inWords};
+ghost use Rattle.machine.specs.Play.{limitOf};
 
 // Plays events, nine words each, on from a state of the sheet, which becomes the one that the list
 // leaves. Each answer goes into ten words: number, steps, 1 if a telegram is handed outside, then its
@@ -20,7 +21,7 @@ pub fn play_on(
     answers: &mut [i32],
 )
     requires { ⌜ Playing (now sheet) (now directory) (now st) × (length (now spare) ≡ length (now st)) × (length (now answers) ≡ 10 * (length (now events) / 9)) × CellTable (now sheet) (now cells) ⌝ }
-    ensures { λ _. ⌜ Playing (now (sheet .entry)) (now (directory .entry)) (now (st .exit)) × (written (now (answers .exit)) (now (st .exit)) ≡ inWords (eventsOf (now (sheet .entry)) (now (st .entry)) (eventsIn (now (events .entry))))) ⌝ }
+    ensures { λ _. ⌜ Playing (now (sheet .entry)) (now (directory .entry)) (now (st .exit)) × (written (now (answers .exit)) (now (st .exit)) ≡ inWords (eventsOf (now (sheet .entry)) (limitOf (now (sheet .entry))) (now (st .entry)) (eventsIn (now (events .entry))))) ⌝ }
 {
     let count = events.len() / 9;
     let mut i: usize = 0;

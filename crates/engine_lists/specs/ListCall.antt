@@ -10,9 +10,9 @@ use Rattle.sheet_rules.specs.declared.Checked.the-variants.{Passed, Shape, Stat
 use Rattle.machine.specs.declared.Handed.the-variants.{Nothing}
 use Rattle.machine.specs.declared.Answer.{Answer}
 use Rattle.machine.specs.State.{stateLength}
-use Rattle.machine.specs.Play.{answer, defaultLimit}
+use Rattle.machine.specs.Play.{answer}
 use Rattle.sheet_rules.specs.Check.{checkOf}
-use Rattle.machine.specs.Lists.{Played, played, nowhere, playOfBy}
+use Rattle.machine.specs.Lists.{Played, played, nowhere, playOf}
 use Rattle.engine_answers.specs.Words.{eventsIn, answersWords}
 
 -- start's answer, and what the state and the answers then hold; or the machine is stuck
@@ -34,17 +34,14 @@ listOf answers (played (a ∷ rest) st) = listed a st (elim (eqb (a .number) 0) 
 listOf answers (played [] st) = unlisted
 listOf answers nowhere = unlisted
 
--- 1 and 2 as check gives them, 3 for a state's length, 4 for the length of events or answers, in that order; otherwise the machine's own run. What `spare` then holds is open: it is room to work in. By a machine with that default limit
-unfoldable pub listCallBy : ℕ → List ℕ → List ℤ → List ℤ → List ℤ → List ℤ → Listed
-listCallBy default s events st spare answers =
+-- 1 and 2 as check gives them, 3 for a state's length, 4 for the length of events or answers, in that order; otherwise the machine's own run. What `spare` then holds is open: it is room to work in. Within a limit
+unfoldable pub listCall : List ℕ → ℕ → List ℤ → List ℤ → List ℤ → List ℤ → Listed
+listCall s limit events st spare answers =
     elim (checkOf s) [
       | Shape ↦ turnedDown 1 st answers
       | Static ↦ turnedDown 2 st answers
       | Passed ↦ elim (eqb (length st) (stateLength s) and eqb (length spare) (stateLength s)) [
-        | true ↦ elim (wholeEvents events answers) [ true ↦ listOf answers (playOfBy default s (eventsIn events)) | false ↦ turnedDown 4 st answers ]
+        | true ↦ elim (wholeEvents events answers) [ true ↦ listOf answers (playOf s limit (eventsIn events)) | false ↦ turnedDown 4 st answers ]
         | false ↦ turnedDown 3 st answers
       ]
     ]
-
-abbrev pub listCall : List ℕ → List ℤ → List ℤ → List ℤ → List ℤ → Listed
-listCall s events st spare answers = listCallBy defaultLimit s events st spare answers

@@ -6,6 +6,7 @@ ghost use mathlib.Core.Path.{_≡_};
 ghost use Rattle.sheet.specs.Sheet.{directoryOf};
 ghost use Rattle.sheet_rules.specs.declared.Checked.the-variants.{Passed};
 ghost use Rattle.sheet_rules.specs.Check.{checkOf};
+ghost use Rattle.machine.specs.Play.{limitOf};
 ghost use Rattle.engine_lists.specs.ListCall.{listed, listCall};
 
 // Start and a whole list on any sheet and words: `events` has nine words for each event, `answers`
@@ -18,7 +19,7 @@ pub fn play(
     spare: &mut [i32],
     answers: &mut [i32],
 ) -> Answer
-    ensures { λ a. ⌜ listed a (now (st .exit)) (now (answers .exit)) ≡ listCall (now (sheet .entry)) (now (events .entry)) (now (st .entry)) (now (spare .entry)) (now (answers .entry)) ⌝ }
+    ensures { λ a. ⌜ listed a (now (st .exit)) (now (answers .exit)) ≡ listCall (now (sheet .entry)) (limitOf (now (sheet .entry))) (now (events .entry)) (now (st .entry)) (now (spare .entry)) (now (answers .entry)) ⌝ }
 {
     let directory = sheet_reader::directory(sheet);
     match checker::check_opened(sheet, &directory) {
@@ -37,7 +38,7 @@ fn play_passed(
     answers: &mut [i32],
 ) -> Answer
     requires { ⌜ (now directory ≡ directoryOf (now sheet)) × (checkOf (now sheet) ≡ Passed) ⌝ }
-    ensures { λ a. ⌜ listed a (now (st .exit)) (now (answers .exit)) ≡ listCall (now (sheet .entry)) (now (events .entry)) (now (st .entry)) (now (spare .entry)) (now (answers .entry)) ⌝ }
+    ensures { λ a. ⌜ listed a (now (st .exit)) (now (answers .exit)) ≡ listCall (now (sheet .entry)) (limitOf (now (sheet .entry))) (now (events .entry)) (now (st .entry)) (now (spare .entry)) (now (answers .entry)) ⌝ }
 {
     let mut cells = [0usize; 2176];
     let count = engine_cells::fill(sheet, directory, &mut cells);

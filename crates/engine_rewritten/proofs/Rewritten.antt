@@ -15,17 +15,17 @@ use Rattle.sheet_limits.specs.ButLimit.{ButLimit}
 use Rattle.sheet_limits.proofs.Records.{itself}
 use Rattle.sheet_limits.proofs.Written.{with-limit, has-limit}
 use Rattle.sheet_limits.proofs.Check.{same-checkOf, same-checkCall}
-use Rattle.machine.specs.Play.{Outcome, ended, defaultLimit, writtenLimit, limitBy}
+use Rattle.machine.specs.Play.{Outcome, ended, defaultLimit, writtenLimit, limitBy, limitOf}
 use Rattle.machine.specs.Lists.{Played, played, afterAnswer, goesOn}
 use Rattle.machine_passed.proofs.Records.{head-there}
 use Rattle.machine_limits.proofs.Limit.{limit-zero, limit-given}
 use Rattle.machine_limits.proofs.State.{same-stateLength}
-use Rattle.machine_limits.proofs.Calls.{same-startCallBy, same-eventCallBy, same-playOfBy}
+use Rattle.machine_limits.proofs.Calls.{same-startCall, same-eventCall, same-playOf}
 use Rattle.machine_words.specs.Words.{Bytes, Words}
 use Rattle.machine_claim.specs.Claim.{Returned, Engine, MeetsBy, Meets, Call, AllWords, calledFrom, runOfEngine}
 use Rattle.machine_claim.proofs.Machine.{returnedOf, machine, machine-start, machine-event}
 use Rattle.engine_answers.specs.Words.{eventsIn}
-use Rattle.engine_lists.specs.ListCall.{turnedDown, wholeEvents, listOf, listCall, listCallBy}
+use Rattle.engine_lists.specs.ListCall.{turnedDown, wholeEvents, listOf, listCall}
 use Rattle.engine_rewritten.specs.Rewritten.{formerLimit, rewritten, EveryRewritten, SomeFormer}
 use Rattle.engine_rewritten.proofs.Words.{rewritten-bytes, start-words, event-words, goes-on-words}
 
@@ -50,12 +50,12 @@ module _ (before today : Engine) (m : MeetsBy formerLimit before) (n : Meets tod
   start-kept : (lent : List ℤ) → Words lent → before .start s lent ≡ today .start (rewritten s) lent
   start-kept lent v =
       left-same (before .start s lent) (today .start (rewritten s) lent) _ _ (m .start s y lent v) (n .start (rewritten s) (rewritten-bytes s y) lent v)
-      (λ q. same-startCallBy (alike s) formerLimit defaultLimit (limits s z) q lent)
+      (λ q. same-startCall (alike s) _ _ (limits s z) q lent)
 
   event-kept : (old lent ev : List ℤ) → Words old → Words lent → Words ev → before .event s old lent ev ≡ today .event (rewritten s) old lent ev
   event-kept old lent ev u v w =
       left-same (before .event s old lent ev) (today .event (rewritten s) old lent ev) _ _ (m .event s y old lent ev u v w) (n .event (rewritten s) (rewritten-bytes s y) old lent ev u v w)
-      (λ q. same-eventCallBy (alike s) formerLimit defaultLimit (limits s z) q old lent ev)
+      (λ q. same-eventCall (alike s) _ _ (limits s z) q old lent ev)
 
   -- ---- a list
 
@@ -85,14 +85,14 @@ module _ (before today : Engine) (m : MeetsBy formerLimit before) (n : Meets tod
       go true q = calls-kept calls ws (r .state) (start-words (rewritten s) lent (r .answer) (r .state) (n .start (rewritten s) (rewritten-bytes s y) lent v) (eqb-true _ _ q))
       go false q = refl
 
-  play-kept : (events lent spare room : List ℤ) → listCallBy formerLimit s events lent spare room ≡ listCall (rewritten s) events lent spare room
-  unfolding listCallBy
+  play-kept : (events lent spare room : List ℤ) → listCall s (limitBy formerLimit s) events lent spare room ≡ listCall (rewritten s) (limitOf (rewritten s)) events lent spare room
+  unfolding listCall
   play-kept events lent spare room = λ q.
       elim (same-checkOf (alike s) q) [
         | Shape ↦ turnedDown 1 lent room
         | Static ↦ turnedDown 2 lent room
         | Passed ↦ elim (eqb (length lent) (same-stateLength (alike s) q) and eqb (length spare) (same-stateLength (alike s) q)) [
-          | true ↦ elim (wholeEvents events room) [ true ↦ listOf room (same-playOfBy (alike s) formerLimit defaultLimit (limits s z) q (eventsIn events)) | false ↦ turnedDown 4 lent room ]
+          | true ↦ elim (wholeEvents events room) [ true ↦ listOf room (same-playOf (alike s) _ _ (limits s z) q (eventsIn events)) | false ↦ turnedDown 4 lent room ]
           | false ↦ turnedDown 3 lent room
         ]
       ]
@@ -132,7 +132,7 @@ pub some-former : SomeFormer
 some-former = (
   record { start = λ s lent. machine .start (reformed s) lent; event = λ s old lent ev. machine .event (reformed s) old lent ev },
   record {
-    start = λ s y lent v. machine-start (reformed s) lent ∙ sym (λ q. same-startCallBy (reformed-alike s) formerLimit defaultLimit (reformed-limits s) q lent);
-    event = λ s y old lent ev u v w. machine-event (reformed s) old lent ev ∙ sym (λ q. same-eventCallBy (reformed-alike s) formerLimit defaultLimit (reformed-limits s) q old lent ev);
+    start = λ s y lent v. machine-start (reformed s) lent ∙ sym (λ q. same-startCall (reformed-alike s) _ _ (reformed-limits s) q lent);
+    event = λ s y old lent ev u v w. machine-event (reformed s) old lent ev ∙ sym (λ q. same-eventCall (reformed-alike s) _ _ (reformed-limits s) q old lent ev);
   },
 )

@@ -18,7 +18,7 @@ use Rattle.sheet_rules.specs.declared.Checked.the-variants.{Passed}
 use Rattle.sheet_rules.specs.Check.{checkOf}
 use Rattle.sheet_limits.specs.ButLimit.{putNumber, limitPlace, withLimit}
 use Rattle.machine.specs.declared.Answer.{Answer}
-use Rattle.machine.specs.Play.{Outcome, ended, stuck, startCall, eventCall}
+use Rattle.machine.specs.Play.{Outcome, ended, stuck, startCall, eventCall, limitOf}
 use Rattle.machine.specs.Lists.{goesOn, StartGives, EventGives}
 use Rattle.machine_words.specs.Words.{Bytes, Words}
 use Rattle.machine_words.proofs.Words.{of-sheet-words}
@@ -70,11 +70,11 @@ module _ (s : List ℕ) where
   event-left ok old stuck k = tt
 
   -- whatever the sheet and the lengths: only on a passed sheet, with states that fit, the answer is 0
-  pub start-words : (lent : List ℤ) (a : Answer) (st : List ℤ) → StartGives s lent a st → a .number ≡ 0 → Words st
-  start-words lent a st g = subst Left (sym g) (start-either Left s lent (λ n z. absurd (omega arith)) (λ ok l. start-left ok (startCall s lent) (promise s ok .start lent l)))
+  pub start-words : (lent : List ℤ) (a : Answer) (st : List ℤ) → StartGives s (limitOf s) lent a st → a .number ≡ 0 → Words st
+  start-words lent a st g = subst Left (sym g) (start-either Left s lent (λ n z. absurd (omega arith)) (λ ok l. start-left ok (startCall s (limitOf s) lent) (promise s ok .start lent l)))
 
-  pub event-words : (old lent ev : List ℤ) (a : Answer) (st : List ℤ) → EventGives s old lent ev a st → a .number ≡ 0 → Words st
-  event-words old lent ev a st g = subst Left (sym g) (event-either Left s old lent ev (λ n z. absurd (omega arith)) (λ ok o. event-left ok old (eventCall s old old ev) (promise s ok .event old ev o)))
+  pub event-words : (old lent ev : List ℤ) (a : Answer) (st : List ℤ) → EventGives s (limitOf s) old lent ev a st → a .number ≡ 0 → Words st
+  event-words old lent ev a st g = subst Left (sym g) (event-either Left s old lent ev (λ n z. absurd (omega arith)) (λ ok o. event-left ok old (eventCall s (limitOf s) old old ev) (promise s ok .event old ev o)))
 
 -- after another answer the old state goes on
 pub goes-on-words : (a : Answer) (old new : List ℤ) → Words old → (a .number ≡ 0 → Words new) → Words (goesOn a old new)

@@ -5,10 +5,10 @@ use mathlib.Core.List.{List}
 use lib.IntN.{ℤ}
 use Rattle.sheet_rules.specs.Check.{checkCall}
 use Rattle.sheet_limits.specs.ButLimit.{withLimit}
-use Rattle.machine.specs.Play.{writtenLimit}
+use Rattle.machine.specs.Play.{writtenLimit, limitBy, limitOf}
 use Rattle.machine_words.specs.Words.{Bytes, Words}
 use Rattle.machine_claim.specs.Claim.{Engine, MeetsBy, Meets, Call, AllWords, runOfEngine}
-use Rattle.engine_lists.specs.ListCall.{listCall, listCallBy}
+use Rattle.engine_lists.specs.ListCall.{listCall}
 
 -- what a limit of 0 meant until it became 2,000
 abbrev pub formerLimit : ℕ
@@ -28,7 +28,7 @@ pub record Kept (before today : Engine) (s : List ℕ) : Type 0 where
   -- start and a whole list of events, each with the state lent for its result: every answer, and the state after the list
   pub list : (lent : List ℤ) → Words lent → (calls : List Call) → AllWords calls → runOfEngine before s lent calls ≡ runOfEngine today (rewritten s) lent calls
   -- and what `play` gives of a list
-  pub play : (events lent spare room : List ℤ) → listCallBy formerLimit s events lent spare room ≡ listCall (rewritten s) events lent spare room
+  pub play : (events lent spare room : List ℤ) → listCall s (limitBy formerLimit s) events lent spare room ≡ listCall (rewritten s) (limitOf (rewritten s)) events lent spare room
 
 -- for every sheet, of whatever bytes, whose f3 is 0, passed or not: where no head is there, no f3 is
 abbrev pub EveryRewritten : Type 0

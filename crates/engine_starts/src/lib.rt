@@ -28,7 +28,7 @@ fn initial(
     limit: u32,
 ) -> Ran
     requires { ⌜ Playing (now sheet) (now directory) (now st) × (isBound (now sheet) e ≡ true) × CellTable (now sheet) (now cells) × (limit ≡ limitOf (now sheet)) ⌝ }
-    ensures { λ r. ⌜ (r ≡ ranBody (now (sheet .entry)) e (alone (elementBody (now (sheet .entry)) e isInitial)) [] (now (st .entry)) .ran) × (now (st .exit) ≡ ranBody (now (sheet .entry)) e (alone (elementBody (now (sheet .entry)) e isInitial)) [] (now (st .entry)) .st) ⌝ }
+    ensures { λ r. ⌜ (r ≡ ranBody (now (sheet .entry)) (limitOf (now (sheet .entry))) e (alone (elementBody (now (sheet .entry)) e isInitial)) [] (now (st .entry)) .ran) × (now (st .exit) ≡ ranBody (now (sheet .entry)) (limitOf (now (sheet .entry))) e (alone (elementBody (now (sheet .entry)) e isInitial)) [] (now (st .entry)) .st) ⌝ }
 {
     let n = engine_cells::chart_number(sheet, directory, cells, e);
     let Found::Present(c) = sheet_reader::read(sheet, directory, 4, n) else {
@@ -67,7 +67,7 @@ pub fn from_defaults(
     st: &mut [i32],
 ) -> Answer
     requires { ⌜ (now directory ≡ directoryOf (now sheet)) × (checkOf (now sheet) ≡ Passed) × (length (now st) ≡ stateLength (now sheet)) × CellTable (now sheet) (now cells) ⌝ }
-    ensures { λ a. ⌜ ended a (now (st .exit)) ≡ started (now (sheet .entry)) ⌝ }
+    ensures { λ a. ⌜ ended a (now (st .exit)) ≡ started (now (sheet .entry)) (limitOf (now (sheet .entry))) ⌝ }
 {
     engine_defaults::default_state(sheet, directory, st);
     let first = engine_valid_values::externals(sheet, directory);

@@ -58,7 +58,7 @@ pub fn tick_timeout(st: &mut [i32], e: usize, at: usize) -> u8
     if n != 0 {
         return n;
     }
-    engine_store::set_clock(st, at, 0);
+    engine_store::set_cell(st, at, 0);
     0
 }
 

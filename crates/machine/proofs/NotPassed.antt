@@ -5,7 +5,7 @@ use mathlib.Core.Path.{_≡_, refl}
 use lib.ListN.{length, replicate}
 use lib.IntN.{ℤ, pos, negsuc}
 use Rattle.machine.specs.State.{waiting}
-use Rattle.machine.specs.Play.{Outcome, ended, stuck, isInitial, ranBody, elementBody, started}
+use Rattle.machine.specs.Play.{Outcome, ended, stuck, isInitial, ranBody, elementBody, started, limitOf}
 use Rattle.machine.specs.declared.Ran.{Ran}
 use Rattle.sheet_rules.proofs.Samples.{sheetOf, rec3, rec6, body}
 use Rattle.machine.proofs.Samples.{start, event, row, sent}
@@ -47,7 +47,7 @@ reading place n = testing (rec3 7 place n ++ rec3 10 7 7)
 
 unfoldable pub begun : List (List ℕ) → Outcome
 unfolding start
-begun ss = started (sheetOf ss)
+begun ss = started (sheetOf ss) (limitOf (sheetOf ss))
 
 -- a state: its first word, "the number of waiting telegrams"; the variables' words; a telegram in the first place
 abbrev pub state : ℤ → List ℤ → List ℤ → List ℤ
@@ -309,7 +309,7 @@ firing name = pos 1 ∷ pos 1 ∷ pos 1 ∷ name ∷ replicate 4 (pos 0)
 -- the initial body of element 2 sends: how it ends
 unfoldable pub sends : ℤ → Ran
 unfolding start sent
-sends count = let ss = sheetOf (doing 18 0 (rec6 34 3 4 0 0 0)) in ranBody ss 2 (elementBody ss 2 isInitial) [] (state count (cell 0) (sent 0 2)) .ran
+sends count = let ss = sheetOf (doing 18 0 (rec6 34 3 4 0 0 0)) in ranBody ss (limitOf ss) 2 (elementBody ss 2 isInitial) [] (state count (cell 0) (sent 0 2)) .ran
 
 -- "the number of waiting telegrams" is 1; −1; 129, for which there are no places: Outside
 outside-uncounted : happened 1 (pos 2) (both 0) (negsuc 0) [] (sent 0 2) ≡ stuck

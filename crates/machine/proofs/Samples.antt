@@ -10,18 +10,18 @@ use Rattle.sheet_rules.specs.Forms.{binaryOf}
 use Rattle.sheet_rules.proofs.Samples.{sheetOf, rec3, rec6, body, check, assigning}
 use Rattle.machine_division.specs.Division.{quotient, remainder}
 use Rattle.machine.specs.Values.{fits32, isBelow, recordBy, isZero, inDataType, inType, defaultIn, defaultOf, hasDefault, isBound, bindingAt, bindingOf, chartOf, firstCell}
-use Rattle.machine.specs.State.{cellAt, cellOf, placeAt, stateLength, wordOf, waiting, setWaiting, telegramIn, telegramOf, putWords, withTelegram, classOf, sameClass, waitingLike, appended, withoutTelegram}
+use Rattle.machine.specs.State.{cellAt, cellOf, placeAt, stateLength, wordOf, waiting, setWaiting, telegramIn, telegramOf, putWords, withTelegram, classOf, sameClass, waitingLike, appended, placesFrom, withoutTelegram}
 use Rattle.machine.specs.Valid.{dataFit, nameFits, reactionAwaits, zeroWords, runningClock, clockCell, cellFits, variableFits, elementFits, internalFits, externalFits, telegramFits, headFits, cellsFit, waitingFit, unusedZero, classesFit, contentFits}
 use Rattle.machine.specs.Eval.{val, isVariable, isPlainVariable, andThen, needs, onRecord, intOut, dividing, notVal, onInts, combined, binaryVal, written, literalValue, within, ofType, parameterVal, variableAtCell, reached, elementAs, elementVal, readAs, readVal, clockWord, clockVal, evalIn, evalStep, evalF, evalOf}
 use Rattle.machine.specs.Run.{goOn, thenOperand, withRecord, provided, before, nextValue, valuesFrom, thenValues, areOf, wordsIn, localAt, listFrom, localsOf, localsThere, append, armed, clockSet, fewer, assigned, hasVariable, assignOf, elementAssigned, assignElementOf, nameValues, externalSendOf, internalSendOf, armOf, clockActOf, entered, callOf, choiceOf, runIn, runStep, runF, runOf}
 use Rattle.machine.specs.Kinds.{kindOf}
-use Rattle.machine.specs.Play.{Outcome, ended, stuck, answer, limitBy, limitOf, bodyFrom, bodyWhere, ranBodyWithin, elementBody, alone, eventEndWithin}
+use Rattle.machine.specs.Play.{Outcome, ended, stuck, answer, limitBy, limitOf, bodyFrom, bodyWhere, ranBody, elementBody, alone, eventEnd}
 use Rattle.machine.specs.Play.{defaultCell, alike, defaultCells, elementCells, cellsFrom, defaultState, hasHead, elementThere, elementsThere}
-use Rattle.machine.specs.Play.{startNextWithin, startFromWithin, startedWithin, oldestFrom, oldest, taking, sameDeclared, brought, reactingWithin}
-use Rattle.machine.specs.Play.{panickingWithin, withNumber, outside, bodiesThere, receivedWithin, deliveredWithin, deliverWithin, corruptWithin}
-use Rattle.machine.specs.Play.{innerWithin, thenSlice, fires, ticks, slicedCell, slicedEach, slicedVariable, slicedCells, slicedElement, slicedFrom}
-use Rattle.machine.specs.Play.{changeEnd, slice, restZero, wellFormed, isEvent, happensAsWithin, happens, happensWithin, ifPassed, startCall, startCallBy}
-use Rattle.machine.specs.Play.{eventCallBy}
+use Rattle.machine.specs.Play.{startNext, startFrom, started, oldestFrom, oldest, taking, sameDeclared, brought, reacting}
+use Rattle.machine.specs.Play.{panicking, withNumber, outside, bodiesThere, received, delivered, deliver, corrupt}
+use Rattle.machine.specs.Play.{inner, thenSlice, fires, ticks, slicedCell, slicedEach, slicedVariable, slicedCells, slicedElement, slicedFrom}
+use Rattle.machine.specs.Play.{changeEnd, slice, restZero, wellFormed, isEvent, happensAs, happens, ifPassed, startCall}
+use Rattle.machine.specs.Play.{eventCall}
 use Rattle.machine.specs.declared.Out.{Out}
 use Rattle.machine.specs.declared.Out.the-variants.{Val, Refused}
 use Rattle.machine.specs.declared.Handed.the-variants.{Nothing}
@@ -60,23 +60,23 @@ mod-zero l = refl
 
 unfoldable pub start : List (List ℕ) → Outcome
 unfolding check fits32 isBelow recordBy isZero inDataType inType defaultIn defaultOf hasDefault isBound bindingAt bindingOf chartOf firstCell cellAt cellOf
-    placeAt stateLength wordOf waiting setWaiting telegramIn telegramOf putWords withTelegram classOf sameClass waitingLike appended withoutTelegram dataFit
+    placeAt stateLength wordOf waiting setWaiting telegramIn telegramOf putWords withTelegram classOf sameClass waitingLike appended placesFrom withoutTelegram dataFit
     nameFits reactionAwaits zeroWords runningClock clockCell cellFits variableFits elementFits internalFits externalFits telegramFits headFits cellsFit
     waitingFit unusedZero classesFit contentFits andThen needs onRecord intOut quotient remainder dividing notVal onInts combined binaryVal written literalValue
     within ofType parameterVal variableAtCell reached elementAs elementVal readAs readVal clockWord clockVal evalIn evalStep evalF evalOf goOn thenOperand
     withRecord provided before nextValue valuesFrom thenValues areOf wordsIn localAt listFrom localsOf localsThere append armed clockSet fewer assigned
     hasVariable assignOf elementAssigned assignElementOf nameValues externalSendOf internalSendOf isVariable isPlainVariable armOf clockActOf entered callOf
-    choiceOf runIn runStep runF runOf limitBy bodyFrom bodyWhere ranBodyWithin elementBody alone eventEndWithin defaultCell alike defaultCells elementCells
-    cellsFrom defaultState hasHead elementThere elementsThere startNextWithin startFromWithin startedWithin oldestFrom oldest taking sameDeclared brought
-    reactingWithin panickingWithin withNumber outside bodiesThere receivedWithin deliveredWithin deliverWithin corruptWithin innerWithin thenSlice fires ticks
-    slicedCell slicedEach slicedVariable slicedCells slicedElement slicedFrom changeEnd slice restZero wellFormed kindOf isEvent happensAsWithin happensWithin
-    ifPassed startCallBy eventCallBy
-start ss = startCall (sheetOf ss) (replicate (stateLength (sheetOf ss)) (pos 0))
+    choiceOf runIn runStep runF runOf limitBy bodyFrom bodyWhere ranBody elementBody alone eventEnd defaultCell alike defaultCells elementCells
+    cellsFrom defaultState hasHead elementThere elementsThere startNext startFrom started oldestFrom oldest taking sameDeclared brought
+    reacting panicking withNumber outside bodiesThere received delivered deliver corrupt inner thenSlice fires ticks
+    slicedCell slicedEach slicedVariable slicedCells slicedElement slicedFrom changeEnd slice restZero wellFormed kindOf isEvent happensAs happens
+    ifPassed startCall eventCall
+start ss = startCall (sheetOf ss) (limitOf (sheetOf ss)) (replicate (stateLength (sheetOf ss)) (pos 0))
 
 -- the machine alone, without the tests of sheet, state and event that a call makes before
 unfoldable pub event : List (List ℕ) → List ℤ → List ℤ → Outcome
 unfolding start
-event ss st ev = happens (sheetOf ss) st ev
+event ss st ev = happens (sheetOf ss) (limitOf (sheetOf ss)) st ev
 
 -- what is answered, without a telegram handed outside
 unfoldable pub answered : ℕ → ℕ → List ℤ → Outcome

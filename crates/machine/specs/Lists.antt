@@ -8,7 +8,7 @@ use lib.IntN.{ℤ, pos}
 use Prim.Native.Nat.{ℕ}
 use Rattle.machine.specs.declared.Answer.{Answer}
 use Rattle.machine.specs.State.{stateLength}
-use Rattle.machine.specs.Play.{Outcome, ended, stuck, defaultLimit, startCallBy, eventCallBy}
+use Rattle.machine.specs.Play.{Outcome, ended, stuck, startCall, eventCall}
 
 -- What a list comes to: the answers in order and the state that the last accepted event left; or the machine is stuck.
 pub data Played : Type 0 where
@@ -27,33 +27,21 @@ afterAnswer a nowhere = nowhere
 unfoldable pub goesOn : Answer → List ℤ → List ℤ → List ℤ
 goesOn a old new = elim (eqb (a .number) 0) [ true ↦ new | false ↦ old ]
 
--- "Each event gets the same sheet .. and the state that the last accepted one (or start) left": here it lends that state's words as the result too. By a machine with that default limit
-unfoldable pub eventsOfBy : ℕ → List ℕ → List ℤ → List (List ℤ) → Played
-eventsOfBy default s st [] = played [] st
-eventsOfBy default s st (ev ∷ evs) = thenPlayed (eventCallBy default s st st ev) (λ a new. afterAnswer a (eventsOfBy default s (goesOn a st new) evs))
+-- "Each event gets the same sheet .. and the state that the last accepted one (or start) left": here it lends that state's words as the result too. Within a limit
+unfoldable pub eventsOf : List ℕ → ℕ → List ℤ → List (List ℤ) → Played
+eventsOf s limit st [] = played [] st
+eventsOf s limit st (ev ∷ evs) = thenPlayed (eventCall s limit st st ev) (λ a new. afterAnswer a (eventsOf s limit (goesOn a st new) evs))
 
 -- The machine's own run, "fed with the sheet and the events alone": start on a state of the right length, and after answer 0 the events.
-unfoldable pub playOfBy : ℕ → List ℕ → List (List ℤ) → Played
-playOfBy default s evs = thenPlayed (startCallBy default s (replicate (stateLength s) (pos 0))) (λ a st. afterAnswer a (elim (eqb (a .number) 0) [ true ↦ eventsOfBy default s st evs | false ↦ played [] st ]))
-
-abbrev pub eventsOf : List ℕ → List ℤ → List (List ℤ) → Played
-eventsOf s st evs = eventsOfBy defaultLimit s st evs
-
-abbrev pub playOf : List ℕ → List (List ℤ) → Played
-playOf s evs = playOfBy defaultLimit s evs
+unfoldable pub playOf : List ℕ → ℕ → List (List ℤ) → Played
+playOf s limit evs = thenPlayed (startCall s limit (replicate (stateLength s) (pos 0))) (λ a st. afterAnswer a (elim (eqb (a .number) 0) [ true ↦ eventsOf s limit st evs | false ↦ played [] st ]))
 
 -- ---- what calls of an engine give
 
--- start: the answer and the result state are those of the machine with that default limit
-abbrev pub StartGivesBy : ℕ → List ℕ → List ℤ → Answer → List ℤ → Type 0
-StartGivesBy default s lent a result = ended a result ≡ startCallBy default s lent
+-- start: the answer and the result state are those of the machine within that limit
+abbrev pub StartGives : List ℕ → ℕ → List ℤ → Answer → List ℤ → Type 0
+StartGives s limit lent a result = ended a result ≡ startCall s limit lent
 
 -- event, on an old state
-abbrev pub EventGivesBy : ℕ → List ℕ → List ℤ → List ℤ → List ℤ → Answer → List ℤ → Type 0
-EventGivesBy default s old lent ev a result = ended a result ≡ eventCallBy default s old lent ev
-
-abbrev pub StartGives : List ℕ → List ℤ → Answer → List ℤ → Type 0
-StartGives s lent a result = StartGivesBy defaultLimit s lent a result
-
-abbrev pub EventGives : List ℕ → List ℤ → List ℤ → List ℤ → Answer → List ℤ → Type 0
-EventGives s old lent ev a result = EventGivesBy defaultLimit s old lent ev a result
+abbrev pub EventGives : List ℕ → ℕ → List ℤ → List ℤ → List ℤ → Answer → List ℤ → Type 0
+EventGives s limit old lent ev a result = ended a result ≡ eventCall s limit old lent ev

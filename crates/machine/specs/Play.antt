@@ -35,8 +35,9 @@ pub data Outcome : Type 0 where
   ended : Answer → List ℤ → Outcome
   stuck : Outcome
 
+-- an answer by which no telegram was dropped
 abbrev pub answer : ℕ → ℕ → Handed → Answer
-answer n k h = record { number = n; steps = k; handed = h }
+answer n k h = record { number = n; steps = k; dropped = 0; handed = h }
 
 -- ---- the step limit: how many steps each body of start and each event may take
 
@@ -75,8 +76,8 @@ abbrev pub reactsOn : ℕ → ℕ → Record → Bool
 reactsOn p n b = eqb (role b) externalReaction and eqb (reactionPort b) p and eqb (reactionName b) n
 
 -- a body of element e runs, with data for its parameters: what is left of the limit, and the state
-unfoldable pub ranBodyWithin : List ℕ → ℕ → ℕ → Found → List ℤ → List ℤ → World
-ranBodyWithin s limit e f zs st =
+unfoldable pub ranBody : List ℕ → ℕ → ℕ → Found → List ℤ → List ℤ → World
+ranBody s limit e f zs st =
     withRecord (chartOf s e) st [] (λ c.
     withRecord f st [] (λ d.
     provided (localsThere s d) st []
@@ -92,13 +93,13 @@ alone (Present b) = elim (eqb (bodyParameters b .count) 0) [ true ↦ Present b 
 alone Absent = Absent
 
 -- an event's body: 6 to 12 leave a copy of the old state
-unfoldable pub eventEndWithin : ℕ → List ℤ → Ran → List ℤ → Outcome
-eventEndWithin limit old (Done l) st = ended (answer 0 (limit - l) Nothing) st
-eventEndWithin limit old (Refused n l) st = ended (answer n (limit - l) Nothing) old
-eventEndWithin limit old Stuck st = stuck
+unfoldable pub eventEnd : ℕ → List ℤ → Ran → List ℤ → Outcome
+eventEnd limit old (Done l) st = ended (answer 0 (limit - l) Nothing) st
+eventEnd limit old (Refused n l) st = ended (answer n (limit - l) Nothing) old
+eventEnd limit old Stuck st = stuck
 
-abbrev pub bodyEventWithin : List ℕ → ℕ → List ℤ → ℕ → Found → List ℤ → List ℤ → Outcome
-bodyEventWithin s limit old e f zs st = let w = ranBodyWithin s limit e f zs st in eventEndWithin limit old (w .ran) (w .st)
+abbrev pub bodyEvent : List ℕ → ℕ → List ℤ → ℕ → Found → List ℤ → List ℤ → Outcome
+bodyEvent s limit old e f zs st = let w = ranBody s limit e f zs st in eventEnd limit old (w .ran) (w .st)
 
 -- ---- start: "all defaults, nothing waiting, then the initial bodies in element order"
 
@@ -139,18 +140,18 @@ unfoldable pub elementsThere : List ℕ → Bool
 elementsThere s = hasHead s and allBelow (elementsOf s) (λ i. elementThere s (externalsOf s + i))
 
 -- a body of start ended after earlier ones took k steps; after 6 to 12 "its state is all zeros"
-unfoldable pub startNextWithin : List ℕ → ℕ → ℕ → Ran → List ℤ → (ℕ → List ℤ → Outcome) → Outcome
-startNextWithin s limit k (Done l) st K = K (k + (limit - l)) st
-startNextWithin s limit k (Refused n l) st K = ended (answer n (k + (limit - l)) Nothing) (replicate (stateLength s) (pos 0))
-startNextWithin s limit k Stuck st K = stuck
+unfoldable pub startNext : List ℕ → ℕ → ℕ → Ran → List ℤ → (ℕ → List ℤ → Outcome) → Outcome
+startNext s limit k (Done l) st K = K (k + (limit - l)) st
+startNext s limit k (Refused n l) st K = ended (answer n (k + (limit - l)) Nothing) (replicate (stateLength s) (pos 0))
+startNext s limit k Stuck st K = stuck
 
 -- n elements from e on
-unfoldable pub startFromWithin : List ℕ → ℕ → ℕ → ℕ → ℕ → List ℤ → Outcome
-startFromWithin s limit zero e k st = ended (answer 0 k Nothing) st
-startFromWithin s limit (suc n) e k st = let w = ranBodyWithin s limit e (alone (elementBody s e isInitial)) [] st in startNextWithin s limit k (w .ran) (w .st) (λ k st. startFromWithin s limit n (suc e) k st)
+unfoldable pub startFrom : List ℕ → ℕ → ℕ → ℕ → ℕ → List ℤ → Outcome
+startFrom s limit zero e k st = ended (answer 0 k Nothing) st
+startFrom s limit (suc n) e k st = let w = ranBody s limit e (alone (elementBody s e isInitial)) [] st in startNext s limit k (w .ran) (w .st) (λ k st. startFrom s limit n (suc e) k st)
 
-unfoldable pub startedWithin : List ℕ → ℕ → Outcome
-startedWithin s limit = elim (elementsThere s) [ true ↦ startFromWithin s limit (elementsOf s) (externalsOf s) 0 (defaultState s) | false ↦ stuck ]
+unfoldable pub started : List ℕ → ℕ → Outcome
+started s limit = elim (elementsThere s) [ true ↦ startFrom s limit (elementsOf s) (externalsOf s) 0 (defaultState s) | false ↦ stuck ]
 
 -- ---- telegrams that wait
 
@@ -185,11 +186,11 @@ brought s t b =
     and allBelow (dataOf n .count) (λ j. sameDeclared s (dataOf n .first + j) (bodyParameters b .first + j))
     and dataFit s (dataOf n) (datumOf t))
 
-unfoldable pub reactingWithin : List ℕ → ℕ → List ℤ → ℕ → Found → Telegram → List ℤ → Outcome
-reactingWithin s limit old e f t st = elim (holds f (brought s t)) [ true ↦ bodyEventWithin s limit old e f (t .d0 ∷ t .d1 ∷ t .d2 ∷ t .d3 ∷ []) st | false ↦ stuck ]
+unfoldable pub reacting : List ℕ → ℕ → List ℤ → ℕ → Found → Telegram → List ℤ → Outcome
+reacting s limit old e f t st = elim (holds f (brought s t)) [ true ↦ bodyEvent s limit old e f (t .d0 ∷ t .d1 ∷ t .d2 ∷ t .d3 ∷ []) st | false ↦ stuck ]
 
-unfoldable pub panickingWithin : List ℕ → ℕ → List ℤ → ℕ → List ℤ → Outcome
-panickingWithin s limit old e st = bodyEventWithin s limit old e (alone (elementBody s e hasPanic)) [] st
+unfoldable pub panicking : List ℕ → ℕ → List ℤ → ℕ → List ℤ → Outcome
+panicking s limit old e st = bodyEvent s limit old e (alone (elementBody s e hasPanic)) [] st
 
 -- a word that has to be a number
 unfoldable pub withNumber : ℤ → (ℕ → Outcome) → Outcome
@@ -213,31 +214,31 @@ unfoldable pub bodiesThere : List ℕ → ℕ → Bool
 bodiesThere s e = holds (chartOf s e) (λ c. inSection s bodies (chartBodies c))
 
 -- a telegram for bound element e: "the reaction for its port and name runs, or without one the panic body"
-unfoldable pub receivedWithin : List ℕ → ℕ → List ℤ → Telegram → List ℤ → ℕ → ℕ → ℕ → Outcome
-receivedWithin s limit old t st e p n =
+unfoldable pub received : List ℕ → ℕ → List ℤ → Telegram → List ℤ → ℕ → ℕ → ℕ → Outcome
+received s limit old t st e p n =
     elim (elementBody s e (reactsOn p n)) [
-      | Present b ↦ reactingWithin s limit old e (Present b) t st
-      | Absent ↦ elim (bodiesThere s e) [ true ↦ panickingWithin s limit old e st | false ↦ stuck ]
+      | Present b ↦ reacting s limit old e (Present b) t st
+      | Absent ↦ elim (bodiesThere s e) [ true ↦ panicking s limit old e st | false ↦ stuck ]
     ]
 
 -- 2: "If r is external it is handed outside. If bound, .."
-unfoldable pub deliveredWithin : List ℕ → ℕ → List ℤ → Telegram → List ℤ → Outcome
-deliveredWithin s limit old t st =
+unfoldable pub delivered : List ℕ → ℕ → List ℤ → Telegram → List ℤ → Outcome
+delivered s limit old t st =
     elim (isBelow (t .receiver) (externalsOf s)) [
       | true ↦ ended (answer 0 0 (Outside t)) st
-      | false ↦ withNumber (t .receiver) (λ e. withNumber (t .port) (λ p. withNumber (t .name) (λ n. receivedWithin s limit old t st e p n)))
+      | false ↦ withNumber (t .receiver) (λ e. withNumber (t .port) (λ p. withNumber (t .name) (λ n. received s limit old t st e p n)))
     ]
 
-unfoldable pub deliverWithin : List ℕ → ℕ → List ℤ → ℤ → ℤ → Outcome
-deliverWithin s limit st a r = taking s st (goesFrom a r) (deliveredWithin s limit st)
+unfoldable pub deliver : List ℕ → ℕ → List ℤ → ℤ → ℤ → Outcome
+deliver s limit st a r = taking s st (goesFrom a r) (delivered s limit st)
 
 -- 3: "as 2 with bound r, but the panic body runs"
-unfoldable pub corruptWithin : List ℕ → ℕ → List ℤ → ℤ → ℤ → Outcome
-corruptWithin s limit st a r = taking s st (goesFrom a r) (λ t st′. withNumber r (λ e. panickingWithin s limit st e st′))
+unfoldable pub corrupt : List ℕ → ℕ → List ℤ → ℤ → ℤ → Outcome
+corrupt s limit st a r = taking s st (goesFrom a r) (λ t st′. withNumber r (λ e. panicking s limit st e st′))
 
 -- 4: "the oldest internal telegram of r is removed and its reaction runs"
-unfoldable pub innerWithin : List ℕ → ℕ → List ℤ → ℤ → Outcome
-innerWithin s limit st r = taking s st (innerOf r) (λ t st′. withNumber r (λ e. withNumber (t .name) (λ n. reactingWithin s limit st e (elementBody s e (reactsTo n)) t st′)))
+unfoldable pub inner : List ℕ → ℕ → List ℤ → ℤ → Outcome
+inner s limit st r = taking s st (innerOf r) (λ t st′. withNumber r (λ e. withNumber (t .name) (λ n. reacting s limit st e (elementBody s e (reactsTo n)) t st′)))
 
 -- 5: "clocks in state order, stopped ones passed over"
 
@@ -294,9 +295,12 @@ slice s st = changeEnd st (elim (hasHead s) [ true ↦ slicedFrom s (elementsOf 
 
 -- ---- events: "nine words: kind, s, r, p, n, four data"
 
+abbrev pub wordsOfEvent : ℕ
+wordsOfEvent = 9
+
 -- the words from number i on are 0
 unfoldable pub restZero : List ℤ → ℕ → Bool
-restZero ev i = allBelow (9 - i) (λ k. isZero (wordOf ev (i + k)))
+restZero ev i = allBelow (wordsOfEvent - i) (λ k. isZero (wordOf ev (i + k)))
 
 abbrev pub boundWord : List ℕ → ℤ → Bool
 boundWord s z = isBelow z (componentsOf s) and not (isBelow z (externalsOf s))
@@ -310,22 +314,22 @@ wellFormed s ev kind.slice = restZero ev 1
 wellFormed s ev kind.noKind = false
 
 unfoldable pub isEvent : List ℕ → List ℤ → Bool
-isEvent s ev = eqb (length ev) 9 and wellFormed s ev (kindOf (wordOf ev 0))
+isEvent s ev = eqb (length ev) wordsOfEvent and wellFormed s ev (kindOf (wordOf ev 0))
 
 abbrev pub telegramOfEvent : List ℤ → Telegram
 telegramOfEvent ev = record { sender = wordOf ev 1; receiver = wordOf ev 2; port = wordOf ev 3; name = wordOf ev 4; d0 = wordOf ev 5; d1 = wordOf ev 6; d2 = wordOf ev 7; d3 = wordOf ev 8 }
 
 -- a well formed event; another is turned down before
-unfoldable pub happensAsWithin : List ℕ → ℕ → List ℤ → List ℤ → Kind → Outcome
-happensAsWithin s limit st ev kind.outside = outside s st (telegramOfEvent ev)
-happensAsWithin s limit st ev kind.deliver = deliverWithin s limit st (wordOf ev 1) (wordOf ev 2)
-happensAsWithin s limit st ev kind.corrupt = corruptWithin s limit st (wordOf ev 1) (wordOf ev 2)
-happensAsWithin s limit st ev kind.inner = innerWithin s limit st (wordOf ev 2)
-happensAsWithin s limit st ev kind.slice = slice s st
-happensAsWithin s limit st ev kind.noKind = stuck
+unfoldable pub happensAs : List ℕ → ℕ → List ℤ → List ℤ → Kind → Outcome
+happensAs s limit st ev kind.outside = outside s st (telegramOfEvent ev)
+happensAs s limit st ev kind.deliver = deliver s limit st (wordOf ev 1) (wordOf ev 2)
+happensAs s limit st ev kind.corrupt = corrupt s limit st (wordOf ev 1) (wordOf ev 2)
+happensAs s limit st ev kind.inner = inner s limit st (wordOf ev 2)
+happensAs s limit st ev kind.slice = slice s st
+happensAs s limit st ev kind.noKind = stuck
 
-unfoldable pub happensWithin : List ℕ → ℕ → List ℤ → List ℤ → Outcome
-happensWithin s limit st ev = happensAsWithin s limit st ev (kindOf (wordOf ev 0))
+unfoldable pub happens : List ℕ → ℕ → List ℤ → List ℤ → Outcome
+happens s limit st ev = happensAs s limit st ev (kindOf (wordOf ev 0))
 
 -- ---- the answers of start and event, with what the result state then holds: "1 to 5 in that order"; 6 to 12, "the first met"
 
@@ -337,67 +341,14 @@ ifPassed Passed result K = K result
 ifPassed Shape result K = turnedDown 1 result
 ifPassed Static result K = turnedDown 2 result
 
--- by a machine with that default
-unfoldable pub startCallBy : ℕ → List ℕ → List ℤ → Outcome
-startCallBy default s result = ifPassed (checkOf s) result (λ result. elim (eqb (length result) (stateLength s)) [ true ↦ startedWithin s (limitBy default s) | false ↦ turnedDown 3 result ])
+-- within a limit; "the result state" is lent
+unfoldable pub startCall : List ℕ → ℕ → List ℤ → Outcome
+startCall s limit result = ifPassed (checkOf s) result (λ result. elim (eqb (length result) (stateLength s)) [ true ↦ started s limit | false ↦ turnedDown 3 result ])
 
-unfoldable pub eventCallBy : ℕ → List ℕ → List ℤ → List ℤ → List ℤ → Outcome
-eventCallBy default s old result ev =
+unfoldable pub eventCall : List ℕ → ℕ → List ℤ → List ℤ → List ℤ → Outcome
+eventCall s limit old result ev =
     ifPassed (checkOf s) result (λ result.
     elim (eqb (length old) (stateLength s) and eqb (length result) (stateLength s)) [
-      | true ↦ elim (contentFits s old) [ true ↦ elim (isEvent s ev) [ true ↦ happensWithin s (limitBy default s) old ev | false ↦ turnedDown 4 result ] | false ↦ turnedDown 3 result ]
+      | true ↦ elim (contentFits s old) [ true ↦ elim (isEvent s ev) [ true ↦ happens s limit old ev | false ↦ turnedDown 4 result ] | false ↦ turnedDown 3 result ]
       | false ↦ turnedDown 3 result
     ])
-
-abbrev pub startCall : List ℕ → List ℤ → Outcome
-startCall s result = startCallBy defaultLimit s result
-
-abbrev pub eventCall : List ℕ → List ℤ → List ℤ → List ℤ → Outcome
-eventCall s old result ev = eventCallBy defaultLimit s old result ev
-
--- ---- the parts of a call, within the sheet's own limit
-
-abbrev pub ranBody : List ℕ → ℕ → Found → List ℤ → List ℤ → World
-ranBody s e f zs st = ranBodyWithin s (limitOf s) e f zs st
-
-abbrev pub eventEnd : List ℕ → List ℤ → Ran → List ℤ → Outcome
-eventEnd s old r st = eventEndWithin (limitOf s) old r st
-
-abbrev pub bodyEvent : List ℕ → List ℤ → ℕ → Found → List ℤ → List ℤ → Outcome
-bodyEvent s old e f zs st = bodyEventWithin s (limitOf s) old e f zs st
-
-abbrev pub startNext : List ℕ → ℕ → Ran → List ℤ → (ℕ → List ℤ → Outcome) → Outcome
-startNext s k r st K = startNextWithin s (limitOf s) k r st K
-
-abbrev pub startFrom : List ℕ → ℕ → ℕ → ℕ → List ℤ → Outcome
-startFrom s n e k st = startFromWithin s (limitOf s) n e k st
-
-abbrev pub started : List ℕ → Outcome
-started s = startedWithin s (limitOf s)
-
-abbrev pub reacting : List ℕ → List ℤ → ℕ → Found → Telegram → List ℤ → Outcome
-reacting s old e f t st = reactingWithin s (limitOf s) old e f t st
-
-abbrev pub panicking : List ℕ → List ℤ → ℕ → List ℤ → Outcome
-panicking s old e st = panickingWithin s (limitOf s) old e st
-
-abbrev pub received : List ℕ → List ℤ → Telegram → List ℤ → ℕ → ℕ → ℕ → Outcome
-received s old t st e p n = receivedWithin s (limitOf s) old t st e p n
-
-abbrev pub delivered : List ℕ → List ℤ → Telegram → List ℤ → Outcome
-delivered s old t st = deliveredWithin s (limitOf s) old t st
-
-abbrev pub deliver : List ℕ → List ℤ → ℤ → ℤ → Outcome
-deliver s st a r = deliverWithin s (limitOf s) st a r
-
-abbrev pub corrupt : List ℕ → List ℤ → ℤ → ℤ → Outcome
-corrupt s st a r = corruptWithin s (limitOf s) st a r
-
-abbrev pub inner : List ℕ → List ℤ → ℤ → Outcome
-inner s st r = innerWithin s (limitOf s) st r
-
-abbrev pub happensAs : List ℕ → List ℤ → List ℤ → Kind → Outcome
-happensAs s st ev k = happensAsWithin s (limitOf s) st ev k
-
-abbrev pub happens : List ℕ → List ℤ → List ℤ → Outcome
-happens s st ev = happensWithin s (limitOf s) st ev

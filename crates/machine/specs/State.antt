@@ -103,6 +103,10 @@ appended s st t =
       | false ↦ lost
     ]
 
--- telegram j "is removed, later ones close up"; "unused ones zero"
+-- the words of the places from number i to the last
+unfoldable pub placesFrom : List ℕ → List ℤ → ℕ → List ℤ
+placesFrom s st i = take (8 * (places - i)) (drop (placeAt s i) st)
+
+-- telegram j "is removed, later ones close up"; "unused ones zero". What stands behind the places stays
 unfoldable pub withoutTelegram : List ℕ → List ℤ → ℕ → List ℤ
-withoutTelegram s st j = setWaiting (take (placeAt s j) st ++ drop (placeAt s (j + 1)) st ++ replicate 8 (pos 0)) (waiting st - 1)
+withoutTelegram s st j = setWaiting (putWords st (placeAt s j) (placesFrom s st (j + 1) ++ replicate 8 (pos 0))) (waiting st - 1)

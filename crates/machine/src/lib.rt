@@ -1,5 +1,12 @@
 // The types that the definitions in specs/ speak of. There is no code here.
 
+// "An event is nine words: kind, s, r, p, n, four data."
+pub const EVENT_WORDS: usize = 9;
+
+// An answer in words: number, steps, dropped, 1 or 0 for a telegram handed outside, and its receiver,
+// port, name and four data.
+pub const ANSWER_WORDS: usize = 11;
+
 // A telegram as it lies in a state: port -1 if it is internal, data that its name has not are 0.
 pub struct Telegram {
     pub sender: i32,
@@ -38,9 +45,11 @@ pub enum Handed {
     Outside(Telegram),
 }
 
-// What start and event answer: the paper's number, the steps used, and what is handed outside.
+// What start and event answer: the paper's number, the steps used, how many waiting telegrams were
+// dropped, and what is handed outside.
 pub struct Answer {
     pub number: u8,
     pub steps: u32,
+    pub dropped: u8,
     pub handed: Handed,
 }

@@ -14,7 +14,7 @@ use Rattle.machine.specs.State.{stateLength}
 use Rattle.machine.specs.Valid.{OfSheet}
 use Rattle.machine.specs.Play.{Outcome, ended, stuck, limitOf, isEvent, eventCall}
 use Rattle.sheet_rules.specs.Check.{checkOf}
-use Rattle.machine.specs.Lists.{Played, played, nowhere, thenPlayed, afterAnswer, goesOn, eventsOf, eventsOfBy, playOf, StartGives, EventGives}
+use Rattle.machine.specs.Lists.{Played, played, nowhere, thenPlayed, afterAnswer, goesOn, eventsOf, playOf, StartGives, EventGives}
 use Rattle.machine_states.proofs.Parts.{of-content}
 use Rattle.machine_words.specs.Words.{Bytes}
 use Rattle.machine_words.proofs.Words.{of-sheet-words}
@@ -37,22 +37,22 @@ same-answer a b st st′ e = ap (answerOf a) e
 -- ---- an engine that gives what the machine gives, at start and at each call of a list
 
 abbrev pub Starts : Engine → List ℕ → List ℤ → Type 0
-Starts e s lent = StartGives s lent (e .start s lent .answer) (e .start s lent .state)
+Starts e s lent = StartGives s (limitOf s) lent (e .start s lent .answer) (e .start s lent .state)
 
 -- on every state of the sheet
 abbrev pub Plays : Engine → List ℕ → List Call → Type 0
 Plays e s [] = Unit {0}
-Plays e s (c ∷ calls) = ((st : List ℤ) → OfSheet s st → EventGives s st (c .lent) (c .words) (e .event s st (c .lent) (c .words) .answer) (e .event s st (c .lent) (c .words) .state)) × Plays e s calls
+Plays e s (c ∷ calls) = ((st : List ℤ) → OfSheet s st → EventGives s (limitOf s) st (c .lent) (c .words) (e .event s st (c .lent) (c .words) .answer) (e .event s st (c .lent) (c .words) .state)) × Plays e s calls
 
 -- ---- whatever was lent, the answer and the state that goes on are those of the machine's own list
 
 module _ (s : List ℕ) (ok : checkOf s ≡ Passed) where
-  module _ (st lent ev : List ℤ) (o : OfSheet s st) (l : length lent ≡ stateLength s) (a : Answer) (result : List ℤ) (g : EventGives s st lent ev a result) where
-    lent-same : (new : List ℤ) × (ended a new ≡ eventCall s st st ev) × (goesOn a st result ≡ goesOn a st new)
+  module _ (st lent ev : List ℤ) (o : OfSheet s st) (l : length lent ≡ stateLength s) (a : Answer) (result : List ℤ) (g : EventGives s (limitOf s) st lent ev a result) where
+    lent-same : (new : List ℤ) × (ended a new ≡ eventCall s (limitOf s) st st ev) × (goesOn a st result ≡ goesOn a st new)
     unfolding goesOn
     lent-same = go (isEvent s ev) refl
       where
-        go : (b : Bool) → isEvent s ev ≡ b → (new : List ℤ) × (ended a new ≡ eventCall s st st ev) × (_≡_ {A = List ℤ} (elim (eqb (a .number) 0) [ true ↦ result | false ↦ st ]) (elim (eqb (a .number) 0) [ true ↦ new | false ↦ st ]))
+        go : (b : Bool) → isEvent s ev ≡ b → (new : List ℤ) × (ended a new ≡ eventCall s (limitOf s) st st ev) × (_≡_ {A = List ℤ} (elim (eqb (a .number) 0) [ true ↦ result | false ↦ st ]) (elim (eqb (a .number) 0) [ true ↦ new | false ↦ st ]))
         go true q = (result, g ∙ event-happens s st lent ev ok (o .whole) l (of-content s st o) q ∙ sym (event-happens s st st ev ok (o .whole) (o .whole) (of-content s st o) q), refl)
         go false q =
             let down = g ∙ event-malformed s st lent ev ok (o .whole) l (of-content s st o) q in
@@ -60,8 +60,8 @@ module _ (s : List ℕ) (ok : checkOf s ≡ Passed) where
             (st, ap (λ a. ended a st) four ∙ sym (event-malformed s st st ev ok (o .whole) (o .whole) (of-content s st o) q), subst (λ a. _≡_ {A = List ℤ} (elim (eqb (a .number) 0) [ true ↦ result | false ↦ st ]) (elim (eqb (a .number) 0) [ true ↦ st | false ↦ st ])) (sym four) refl)
 
   module _ (e : Engine) where
-    calls-same : (calls : List Call) (st : List ℤ) → OfSheet s st → AllLent s calls → Plays e s calls → calledFrom e s st calls ≡ eventsOf s st (eventsCalled calls)
-    unfolding calledFrom eventsOfBy thenPlayed
+    calls-same : (calls : List Call) (st : List ℤ) → OfSheet s st → AllLent s calls → Plays e s calls → calledFrom e s st calls ≡ eventsOf s (limitOf s) st (eventsCalled calls)
+    unfolding calledFrom eventsOf thenPlayed
     calls-same [] st o l m = refl
     calls-same (c ∷ calls) st o l m =
         let a = e .event s st (c .lent) (c .words) .answer in
@@ -69,7 +69,7 @@ module _ (s : List ℕ) (ok : checkOf s ≡ Passed) where
         let o′ : OfSheet s (goesOn a st (k .0)) = on-kept s ok st o a (k .0) (subst (EventKept s st) (sym (k .1)) (promise s ok .event st (c .words) o)) in
         ap (λ new. afterAnswer a (calledFrom e s new calls)) (k .2)
         ∙ ap (afterAnswer a) (calls-same calls (goesOn a st (k .0)) o′ (l .1) (m .1))
-        ∙ ap (λ w. thenPlayed w (λ a new. afterAnswer a (eventsOf s (goesOn a st new) (eventsCalled calls)))) (k .1)
+        ∙ ap (λ w. thenPlayed w (λ a new. afterAnswer a (eventsOf s (limitOf s) (goesOn a st new) (eventsCalled calls)))) (k .1)
 
     module _ (lent : List ℤ) (l : length lent ≡ stateLength s) (begun : Starts e s lent) where
       abbrev a : Answer
@@ -85,7 +85,7 @@ module _ (s : List ℕ) (ok : checkOf s ≡ Passed) where
       abbrev after : Bool → Played → Played
       after b p = elim b [ true ↦ p | false ↦ played [] st ]
 
-      machine-same : (evs : List (List ℤ)) → playOf s evs ≡ afterAnswer a (after (eqb (a .number) 0) (eventsOf s st evs))
+      machine-same : (evs : List (List ℤ)) → playOf s (limitOf s) evs ≡ afterAnswer a (after (eqb (a .number) 0) (eventsOf s (limitOf s) st evs))
       machine-same = play-is s ok lent l a st begun
 
       start-steps : a .steps ≤ elementsOf s * limitOf s
@@ -93,17 +93,17 @@ module _ (s : List ℕ) (ok : checkOf s ≡ Passed) where
 
       module _ (calls : List Call) (g : AllLent s calls) (m : Plays e s calls) where
         -- the two runs, where start's test and the machine's list are known
-        runs-same : (b : Bool) (p : Played) → eqb (a .number) 0 ≡ b → eventsOf s st (eventsCalled calls) ≡ p → (runOfEngine e s lent calls ≡ afterAnswer a (after b p)) × (playOf s (eventsCalled calls) ≡ afterAnswer a (after b p))
+        runs-same : (b : Bool) (p : Played) → eqb (a .number) 0 ≡ b → eventsOf s (limitOf s) st (eventsCalled calls) ≡ p → (runOfEngine e s lent calls ≡ afterAnswer a (after b p)) × (playOf s (limitOf s) (eventsCalled calls) ≡ afterAnswer a (after b p))
         unfolding runOfEngine
         runs-same true p q h =
             let o : OfSheet s st = kept .1 (eqb-true _ _ q) in
             let evs = eventsCalled calls in (
               ap (λ b. afterAnswer a (after b (calledFrom e s st calls))) q ∙ ap (afterAnswer a) (calls-same calls st o g m ∙ h),
-              machine-same evs ∙ ap (λ b. afterAnswer a (after b (eventsOf s st evs))) q ∙ ap (afterAnswer a) h,
+              machine-same evs ∙ ap (λ b. afterAnswer a (after b (eventsOf s (limitOf s) st evs))) q ∙ ap (afterAnswer a) h,
             )
-        runs-same false p q h = let evs = eventsCalled calls in (ap (λ b. afterAnswer a (after b (calledFrom e s st calls))) q, machine-same evs ∙ ap (λ b. afterAnswer a (after b (eventsOf s st evs))) q)
+        runs-same false p q h = let evs = eventsCalled calls in (ap (λ b. afterAnswer a (after b (calledFrom e s st calls))) q, machine-same evs ∙ ap (λ b. afterAnswer a (after b (eventsOf s (limitOf s) st evs))) q)
 
-        claim-of : (b : Bool) (p : Played) → eqb (a .number) 0 ≡ b → eventsOf s st (eventsCalled calls) ≡ p → Claim e s lent calls
+        claim-of : (b : Bool) (p : Played) → eqb (a .number) 0 ≡ b → eventsOf s (limitOf s) st (eventsCalled calls) ≡ p → Claim e s lent calls
         unfolding afterAnswer
         claim-of true nowhere q h = absurd (subst (ListKept s) h (list-kept s ok (eventsCalled calls) st (kept .1 (eqb-true _ _ q))))
         claim-of true (played answers last) q h =

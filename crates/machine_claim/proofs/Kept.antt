@@ -15,16 +15,16 @@ use Rattle.sheet_rules.specs.declared.Checked.the-variants.{Passed}
 use Rattle.machine.specs.State.{stateLength}
 use Rattle.machine.specs.Valid.{OfSheet}
 use Rattle.sheet_rules.specs.Check.{checkOf}
-use Rattle.machine.specs.Play.{ended}
+use Rattle.machine.specs.Play.{ended, limitOf}
 use Rattle.machine.specs.Lists.{goesOn, StartGives, EventGives}
 use Rattle.machine_promise.specs.Promise.{StartKept, EventKept}
 use Rattle.machine_promise.proofs.Promise.{promise}
 use Rattle.machine_events.specs.Playing.{Playing}
 
-pub begun : (s d : List ℕ) (lent : List ℤ) (a : Answer) (st : List ℤ) → d ≡ directoryOf s → checkOf s ≡ Passed → length lent ≡ stateLength s → StartGives s lent a st → a .number ≡ 0 → Playing s d st
+pub begun : (s d : List ℕ) (lent : List ℤ) (a : Answer) (st : List ℤ) → d ≡ directoryOf s → checkOf s ≡ Passed → length lent ≡ stateLength s → StartGives s (limitOf s) lent a st → a .number ≡ 0 → Playing s d st
 begun s d lent a st e ok l g z = record { directory = e; passed = ok; state = subst (StartKept s) (sym g) (promise s ok .start lent l) .1 z }
 
-module _ (s d : List ℕ) (old ev : List ℤ) (a : Answer) (st : List ℤ) (p : Playing s d old) (g : EventGives s old old ev a st) where
+module _ (s d : List ℕ) (old ev : List ℤ) (a : Answer) (st : List ℤ) (p : Playing s d old) (g : EventGives s (limitOf s) old old ev a st) where
   kept : EventKept s old (ended a st)
   kept = subst (EventKept s old) (sym g) (promise s (p .passed) .event old ev (p .state))
 

@@ -11,9 +11,9 @@ use Rattle.sheet_rules.specs.declared.Checked.the-variants.{Passed}
 use Rattle.sheet_rules.specs.Fields.{elementsOf}
 use Rattle.machine.specs.State.{stateLength}
 use Rattle.machine.specs.Valid.{OfSheet}
-use Rattle.machine.specs.Play.{defaultLimit, limitOf}
+use Rattle.machine.specs.Play.{defaultLimit, limitOf, limitBy}
 use Rattle.sheet_rules.specs.Check.{checkOf}
-use Rattle.machine.specs.Lists.{Played, played, afterAnswer, goesOn, playOf, StartGivesBy, EventGivesBy}
+use Rattle.machine.specs.Lists.{Played, played, afterAnswer, goesOn, playOf, StartGives, EventGives}
 use Rattle.machine_words.specs.Words.{Bytes, Words}
 use Rattle.machine_promise.specs.Promise.{OneOf, AllAnswered, OneReaction}
 
@@ -31,8 +31,8 @@ pub record Engine : Type 0 where
 
 -- the contracts of start and event, by a machine with that default limit: whatever the bytes, the words and their number. That is what the compiled pair gets
 pub record MeetsBy (default : ℕ) (e : Engine) : Type 0 where
-  pub start : (s : List ℕ) → Bytes s → (lent : List ℤ) → Words lent → StartGivesBy default s lent (e .start s lent .answer) (e .start s lent .state)
-  pub event : (s : List ℕ) → Bytes s → (old lent ev : List ℤ) → Words old → Words lent → Words ev → EventGivesBy default s old lent ev (e .event s old lent ev .answer) (e .event s old lent ev .state)
+  pub start : (s : List ℕ) → Bytes s → (lent : List ℤ) → Words lent → StartGives s (limitBy default s) lent (e .start s lent .answer) (e .start s lent .state)
+  pub event : (s : List ℕ) → Bytes s → (old lent ev : List ℤ) → Words old → Words lent → Words ev → EventGives s (limitBy default s) old lent ev (e .event s old lent ev .answer) (e .event s old lent ev .state)
 
 abbrev pub Meets : Engine → Type 0
 Meets e = MeetsBy defaultLimit e
@@ -80,7 +80,7 @@ pub record Claim (e : Engine) (s : List ℕ) (lent : List ℤ) (calls : List Cal
   -- they are what the engine's run comes to
   pub run : runOfEngine e s lent calls ≡ played (first ∷ answers) last
   -- "The machine is fed with the sheet and the events alone and keeps its own state. Compared are each answer, whole, and after the list the two states, word for word": it isn't stuck and comes to the very same
-  pub machine : playOf s (eventsCalled calls) ≡ played (first ∷ answers) last
+  pub machine : playOf s (limitOf s) (eventsCalled calls) ≡ played (first ∷ answers) last
   -- start gives 0 or 6 to 12
   pub start : OneOf 6 (first .number)
   -- each event gives 0 or 4 to 12, and after a start of 0 each has its answer

@@ -20,7 +20,7 @@ use Rattle.machine.specs.State.{stateLength}
 use Rattle.machine.specs.Valid.{OfSheet}
 use Rattle.machine.specs.Eval.{Context}
 use Rattle.machine.specs.Run.{World, localsOf}
-use Rattle.machine.specs.Play.{Outcome, ended, stuck, answer, limitOf, isInitial, elementBody, alone, ranBody, startNext, startNextWithin, startFrom, startFromWithin, started, startedWithin, defaultState}
+use Rattle.machine.specs.Play.{Outcome, ended, stuck, answer, limitOf, isInitial, elementBody, alone, ranBody, startNext, startFrom, started, defaultState}
 use Rattle.sheet_rules.specs.Check.{checkOf}
 use Rattle.machine_equations.proofs.Left.{RanWithin, run-left}
 use Rattle.machine_passed.proofs.Records.{elements-rest, components-limit}
@@ -29,28 +29,28 @@ use Rattle.machine_passed.proofs.Declared.{elements-there}
 use Rattle.machine_sound.specs.Gives.{Ends}
 use Rattle.machine_promise.proofs.Bodies.{body-of, ran-is, ran-ends, no-parameters, runs-alone}
 
-pub begins : (s : List ℕ) → checkOf s ≡ Passed → (n e : ℕ) (st : List ℤ) → n ≡ elementsOf s → e ≡ externalsOf s → st ≡ defaultState s → started s ≡ startFrom s n e 0 st
-unfolding startedWithin
-begins s ok n e st p q r = ap (λ b. elim b as (λ b. Outcome) [ true ↦ startFrom s (elementsOf s) (externalsOf s) 0 (defaultState s) | false ↦ stuck ]) (elements-there s ok) ∙ ap (λ n. startFrom s n (externalsOf s) 0 (defaultState s)) (sym p) ∙ ap (λ e. startFrom s n e 0 (defaultState s)) (sym q) ∙ ap (startFrom s n e 0) (sym r)
+pub begins : (s : List ℕ) → checkOf s ≡ Passed → (n e : ℕ) (st : List ℤ) → n ≡ elementsOf s → e ≡ externalsOf s → st ≡ defaultState s → started s (limitOf s) ≡ startFrom s (limitOf s) n e 0 st
+unfolding started
+begins s ok n e st p q r = ap (λ b. elim b as (λ b. Outcome) [ true ↦ startFrom s (limitOf s) (elementsOf s) (externalsOf s) 0 (defaultState s) | false ↦ stuck ]) (elements-there s ok) ∙ ap (λ n. startFrom s (limitOf s) n (externalsOf s) 0 (defaultState s)) (sym p) ∙ ap (λ e. startFrom s (limitOf s) n e 0 (defaultState s)) (sym q) ∙ ap (startFrom s (limitOf s) n e 0) (sym r)
 
-pub ends : (s : List ℕ) (n e k : ℕ) (st : List ℤ) (a : Answer) → n ≡ 0 → a ≡ answer 0 k Nothing → ended a st ≡ startFrom s n e k st
-unfolding startFromWithin
-ends s n e k st a z q = ap (λ a. ended a st) q ∙ ap (λ n. startFrom s n e k st) (sym z)
+pub ends : (s : List ℕ) (n e k : ℕ) (st : List ℤ) (a : Answer) → n ≡ 0 → a ≡ answer 0 k Nothing → ended a st ≡ startFrom s (limitOf s) n e k st
+unfolding startFrom
+ends s n e k st a z q = ap (λ a. ended a st) q ∙ ap (λ n. startFrom s (limitOf s) n e k st) (sym z)
 
 module _ (s : List ℕ) where
   abbrev first-run : ℕ → List ℤ → World
-  first-run e st = ranBody s e (alone (elementBody s e isInitial)) [] st
+  first-run e st = ranBody s (limitOf s) e (alone (elementBody s e isInitial)) [] st
 
-  one : (n e k : ℕ) (st : List ℤ) (r : Ran) → first-run e st .ran ≡ r → startFrom s (suc n) e k st ≡ startNext s k r (first-run e st .st) (λ k st. startFrom s n (suc e) k st)
-  unfolding startFromWithin
-  one n e k st r h = ap (λ r. startNext s k r (first-run e st .st) (λ k st. startFrom s n (suc e) k st)) h
+  one : (n e k : ℕ) (st : List ℤ) (r : Ran) → first-run e st .ran ≡ r → startFrom s (limitOf s) (suc n) e k st ≡ startNext s (limitOf s) k r (first-run e st .st) (λ k st. startFrom s (limitOf s) n (suc e) k st)
+  unfolding startFrom
+  one n e k st r h = ap (λ r. startNext s (limitOf s) k r (first-run e st .st) (λ k st. startFrom s (limitOf s) n (suc e) k st)) h
 
-  one-done : (n e k l : ℕ) (st : List ℤ) → first-run e st .ran ≡ Done l → startFrom s (suc n) e k st ≡ startFrom s n (suc e) (k + (limitOf s - l)) (first-run e st .st)
-  unfolding startNextWithin
+  one-done : (n e k l : ℕ) (st : List ℤ) → first-run e st .ran ≡ Done l → startFrom s (limitOf s) (suc n) e k st ≡ startFrom s (limitOf s) n (suc e) (k + (limitOf s - l)) (first-run e st .st)
+  unfolding startNext
   one-done n e k l st h = one n e k st (Done l) h
 
-  one-refused : (n e k x l : ℕ) (st : List ℤ) → first-run e st .ran ≡ Refused x l → startFrom s (suc n) e k st ≡ ended (answer x (k + (limitOf s - l)) Nothing) (replicate (stateLength s) (pos 0))
-  unfolding startNextWithin
+  one-refused : (n e k x l : ℕ) (st : List ℤ) → first-run e st .ran ≡ Refused x l → startFrom s (limitOf s) (suc n) e k st ≡ ended (answer x (k + (limitOf s - l)) Nothing) (replicate (stateLength s) (pos 0))
+  unfolding startNext
   one-refused n e k x l st h = one n e k st (Refused x l) h
 
 module _ (s : List ℕ) (ok : checkOf s ≡ Passed) where
@@ -61,7 +61,7 @@ module _ (s : List ℕ) (ok : checkOf s ≡ Passed) where
       let i = initial-there s ok _ (x .1) (x .2 .chart) in
       let f = where-found s isInitial (x .1) (i .0) (i .1) in
       let none : role (i .0) ≡ initial = eqb-true _ _ (f .1) in
-      subst (λ g. ((y : Context) × Ends s y (ranBody s e g [] st .ran) (ranBody s e g [] st .st) (ranBody s e g [] st .lo)) × RanWithin (limitOf s) (ranBody s e g [] st .ran)) (sym (ap alone (body-of s ok e (x .0) (x .1) (x .2) isInitial ∙ i .1) ∙ runs-alone s ok e (x .0) (x .1) (x .2) (i .0) (f .0) (omega arith))) (
+      subst (λ g. ((y : Context) × Ends s y (ranBody s (limitOf s) e g [] st .ran) (ranBody s (limitOf s) e g [] st .st) (ranBody s (limitOf s) e g [] st .lo)) × RanWithin (limitOf s) (ranBody s (limitOf s) e g [] st .ran)) (sym (ap alone (body-of s ok e (x .0) (x .1) (x .2) isInitial ∙ i .1) ∙ runs-alone s ok e (x .0) (x .1) (x .2) (i .0) (f .0) (omega arith))) (
         (_, ran-ends s ok e (x .0) (x .1) (x .2) (i .0) (f .0) [] st o (no-parameters s ok e (x .0) (x .1) (x .2) (i .0) (f .0) (omega arith) [])),
         subst (λ (w : World). RanWithin (limitOf s) (w .ran)) (sym (ran-is s ok e (x .0) (x .1) (x .2) (i .0) (f .0) [] st)) (run-left s 0 _ (root (i .0)) (limitOf s) st (localsOf s (i .0) [])),
       )
@@ -98,26 +98,26 @@ module _ (s : List ℕ) (ok : checkOf s ≡ Passed) where
       pub refused-left : (k x : ℕ) → r ≡ Refused k x → x ≤ most
       refused-left k x h = subst (RanWithin most) h left
 
-      module _ (steps : ℕ) (so-far : started s ≡ startFrom s (count - i) (first + i) steps st) where
+      module _ (steps : ℕ) (so-far : started s (limitOf s) ≡ startFrom s (limitOf s) (count - i) (first + i) steps st) where
         next : count - i ≡ suc (count - (i + 1))
         next = omega arith
 
         further : suc (first + i) ≡ first + (i + 1)
         further = omega arith
 
-        pub done-next : (x : ℕ) → r ≡ Done x → started s ≡ startFrom s (count - (i + 1)) (first + (i + 1)) (steps + (most - x)) st′
+        pub done-next : (x : ℕ) → r ≡ Done x → started s (limitOf s) ≡ startFrom s (limitOf s) (count - (i + 1)) (first + (i + 1)) (steps + (most - x)) st′
         done-next x h =
             so-far
-            ∙ ap (λ n. startFrom s n (first + i) steps st) next
+            ∙ ap (λ n. startFrom s (limitOf s) n (first + i) steps st) next
             ∙ one-done s (count - (i + 1)) (first + i) steps x st (sym a ∙ h)
-            ∙ ap (λ e. startFrom s (count - (i + 1)) e (steps + (limitOf s - x)) (first-run s (first + i) st .st)) further
-            ∙ ap (λ n. startFrom s (count - (i + 1)) (first + (i + 1)) (steps + (n - x)) (first-run s (first + i) st .st)) (sym m)
-            ∙ ap (startFrom s (count - (i + 1)) (first + (i + 1)) (steps + (most - x))) (sym b)
+            ∙ ap (λ e. startFrom s (limitOf s) (count - (i + 1)) e (steps + (limitOf s - x)) (first-run s (first + i) st .st)) further
+            ∙ ap (λ n. startFrom s (limitOf s) (count - (i + 1)) (first + (i + 1)) (steps + (n - x)) (first-run s (first + i) st .st)) (sym m)
+            ∙ ap (startFrom s (limitOf s) (count - (i + 1)) (first + (i + 1)) (steps + (most - x))) (sym b)
 
         -- "after 6 to 10 its state is all zeros"
-        pub refused-ends : (k x : ℕ) → r ≡ Refused k x → (n : ℕ) (zeros : List ℤ) → zeros ≡ replicate n (pos 0) → n ≡ stateLength s → (given : Answer) → given ≡ answer k (steps + (most - x)) Nothing → ended given zeros ≡ started s
+        pub refused-ends : (k x : ℕ) → r ≡ Refused k x → (n : ℕ) (zeros : List ℤ) → zeros ≡ replicate n (pos 0) → n ≡ stateLength s → (given : Answer) → given ≡ answer k (steps + (most - x)) Nothing → ended given zeros ≡ started s (limitOf s)
         refused-ends k x h n zeros z w given g =
             ap (λ g. ended g zeros) g
             ∙ ap (ended (answer k (steps + (most - x)) Nothing)) (z ∙ ap (λ n. replicate n (pos 0)) w)
             ∙ ap (λ n. ended (answer k (steps + (n - x)) Nothing) (replicate (stateLength s) (pos 0))) m
-            ∙ sym (so-far ∙ ap (λ n. startFrom s n (first + i) steps st) next ∙ one-refused s (count - (i + 1)) (first + i) steps k x st (sym a ∙ h))
+            ∙ sym (so-far ∙ ap (λ n. startFrom s (limitOf s) n (first + i) steps st) next ∙ one-refused s (count - (i + 1)) (first + i) steps k x st (sym a ∙ h))

@@ -24,7 +24,7 @@ use Rattle.sheet_rules.specs.Static.{bodyOf}
 use Rattle.machine.specs.Values.{isBelow, inType, isBound, chartOf}
 use Rattle.machine.specs.Valid.{dataFit, datumOf, externalFits, telegramFits}
 use Rattle.machine.specs.Run.{datum}
-use Rattle.machine.specs.Play.{bodyWhere, hasPanic, isInitial, reactsOn, elementBody, alone, bodyEvent, reacting, panicking, bodiesThere, delivered, ranBody}
+use Rattle.machine.specs.Play.{bodyWhere, hasPanic, isInitial, reactsOn, elementBody, alone, bodyEvent, reacting, panicking, bodiesThere, delivered, ranBody, limitOf}
 use Rattle.sheet_rules.specs.Check.{checkOf}
 use Rattle.machine_passed.specs.Places.{InChart, Element, StandsAt}
 use Rattle.machine_passed.proofs.Charts.{bound-element, element-chart, where-found, body-there, panic-there, initial-there, reaction-there}
@@ -95,8 +95,8 @@ module _ (s : List ℕ) (ok : checkOf s ≡ Passed) (e : ℕ) (b c : Record) (x 
     pub panic-called : Called s e (chartBodies c .first + j) fourZeros
     panic-called = called hasPanic j h panic-stands fourZeros (no-parameters s ok e b c x _ (inside hasPanic j h panic-stands) panic-role fourZeros)
 
-    pub panic-runs : (old st : List ℤ) → panicking s old e st ≡ bodyEvent s old e (recordOf s bodies (chartBodies c .first + j)) fourZeros st
-    panic-runs old st = panicking-is s old e st _ (ap alone (element-found hasPanic j h panic-stands ∙ found hasPanic j h panic-stands .1) ∙ runs-alone s ok e b c x _ (inside hasPanic j h panic-stands) panic-role) ∙ ap (λ f. bodyEvent s old e f fourZeros st) (sym (found hasPanic j h panic-stands .1))
+    pub panic-runs : (old st : List ℤ) → panicking s (limitOf s) old e st ≡ bodyEvent s (limitOf s) old e (recordOf s bodies (chartBodies c .first + j)) fourZeros st
+    panic-runs old st = panicking-is s old e st _ (ap alone (element-found hasPanic j h panic-stands ∙ found hasPanic j h panic-stands .1) ∙ runs-alone s ok e b c x _ (inside hasPanic j h panic-stands) panic-role) ∙ ap (λ f. bodyEvent s (limitOf s) old e f fourZeros st) (sym (found hasPanic j h panic-stands .1))
 
   -- ---- the initial body
 
@@ -110,8 +110,8 @@ module _ (s : List ℕ) (ok : checkOf s ≡ Passed) (e : ℕ) (b c : Record) (x 
     pub initial-called : Called s e (chartBodies c .first + j) fourZeros
     initial-called = called isInitial j h initial-stands fourZeros (no-parameters s ok e b c x _ (inside isInitial j h initial-stands) initial-role fourZeros)
 
-    pub initial-runs : (st : List ℤ) → ranBody s e (alone (elementBody s e isInitial)) [] st ≡ ranBody s e (recordOf s bodies (chartBodies c .first + j)) fourZeros st
-    initial-runs st = initial-ran s e st _ (ap alone (element-found isInitial j h initial-stands ∙ found isInitial j h initial-stands .1) ∙ runs-alone s ok e b c x _ (inside isInitial j h initial-stands) initial-role) ∙ ap (λ f. ranBody s e f fourZeros st) (sym (found isInitial j h initial-stands .1))
+    pub initial-runs : (st : List ℤ) → ranBody s (limitOf s) e (alone (elementBody s e isInitial)) [] st ≡ ranBody s (limitOf s) e (recordOf s bodies (chartBodies c .first + j)) fourZeros st
+    initial-runs st = initial-ran s e st _ (ap alone (element-found isInitial j h initial-stands ∙ found isInitial j h initial-stands .1) ∙ runs-alone s ok e b c x _ (inside isInitial j h initial-stands) initial-role) ∙ ap (λ f. ranBody s (limitOf s) e f fourZeros st) (sym (found isInitial j h initial-stands .1))
 
   -- ---- reactions, where the telegram's data fit its name
 
@@ -130,18 +130,18 @@ module _ (s : List ℕ) (ok : checkOf s ≡ Passed) (e : ℕ) (b c : Record) (x 
       pub on-called : Called s e (chartBodies c .first + j) (dataIn t)
       on-called = called on j h l (dataIn t) (brought-data s ok e b c x _ (inside on j h l) t named-on below fits reaction-on)
 
-      pub on-delivered : (old st : List ℤ) → e ≡ natAbs (t .receiver) → telegramFits s t ≡ true → externalFits s t ≡ true → isBelow (t .receiver) (externalsOf s) ≡ false → delivered s old t st ≡ bodyEvent s old e (recordOf s bodies (chartBodies c .first + j)) (dataIn t) st
+      pub on-delivered : (old st : List ℤ) → e ≡ natAbs (t .receiver) → telegramFits s t ≡ true → externalFits s t ≡ true → isBelow (t .receiver) (externalsOf s) ≡ false → delivered s (limitOf s) old t st ≡ bodyEvent s (limitOf s) old e (recordOf s bodies (chartBodies c .first + j)) (dataIn t) st
       on-delivered old st q whole outer n =
           delivered-reaction s old t st whole outer n (body on j h l) (subst (λ e. elementBody s e on ≡ Present (body on j h l)) q (element-found on j h l ∙ found on j h l .1))
-          ∙ ap (λ e. reacting s old e (Present (body on j h l)) t st) (sym q)
+          ∙ ap (λ e. reacting s (limitOf s) old e (Present (body on j h l)) t st) (sym q)
           ∙ reacting-is s old e _ t st (brought-so s ok e b c x _ (inside on j h l) t named-on below fits reaction-on)
-          ∙ ap (λ f. bodyEvent s old e f (dataIn t) st) (sym (found on j h l .1))
+          ∙ ap (λ f. bodyEvent s (limitOf s) old e f (dataIn t) st) (sym (found on j h l .1))
 
     -- without a reaction the panic body
-    pub panic-delivered : (j : ℕ) → StandsAt s c (reactsOn (natAbs (t .port)) (natAbs (t .name))) j → chartBodies c .count ≤ j → (old st : List ℤ) → e ≡ natAbs (t .receiver) → telegramFits s t ≡ true → externalFits s t ≡ true → isBelow (t .receiver) (externalsOf s) ≡ false → delivered s old t st ≡ panicking s old e st
+    pub panic-delivered : (j : ℕ) → StandsAt s c (reactsOn (natAbs (t .port)) (natAbs (t .name))) j → chartBodies c .count ≤ j → (old st : List ℤ) → e ≡ natAbs (t .receiver) → telegramFits s t ≡ true → externalFits s t ≡ true → isBelow (t .receiver) (externalsOf s) ≡ false → delivered s (limitOf s) old t st ≡ panicking s (limitOf s) old e st
     panic-delivered j h l old st q whole outer n =
         delivered-panic s old t st whole outer n (subst (λ e. bodiesThere s e ≡ true) q (bodies-there s ok e (x .bound))) (subst (λ e. elementBody s e (reactsOn (natAbs (t .port)) (natAbs (t .name))) ≡ Absent) q (element-none (reactsOn (natAbs (t .port)) (natAbs (t .name))) j h l))
-        ∙ ap (λ e. panicking s old e st) (sym q)
+        ∙ ap (λ e. panicking s (limitOf s) old e st) (sym q)
 
     -- ---- an internal name that has a reaction
 
@@ -162,8 +162,8 @@ module _ (s : List ℕ) (ok : checkOf s ≡ Passed) (e : ℕ) (b c : Record) (x 
       pub inner-called : Called s e (chartBodies c .first + j) (dataIn t)
       inner-called = called to j h inner-stands (dataIn t) (brought-data s ok e b c x _ (inside to j h inner-stands) t named-to below fits reaction-to)
 
-      pub inner-runs : (old st : List ℤ) → reacting s old e (elementBody s e to) t st ≡ bodyEvent s old e (recordOf s bodies (chartBodies c .first + j)) (dataIn t) st
+      pub inner-runs : (old st : List ℤ) → reacting s (limitOf s) old e (elementBody s e to) t st ≡ bodyEvent s (limitOf s) old e (recordOf s bodies (chartBodies c .first + j)) (dataIn t) st
       inner-runs old st =
-          ap (λ f. reacting s old e f t st) (element-found to j h inner-stands ∙ found to j h inner-stands .1)
+          ap (λ f. reacting s (limitOf s) old e f t st) (element-found to j h inner-stands ∙ found to j h inner-stands .1)
           ∙ reacting-is s old e _ t st (brought-so s ok e b c x _ (inside to j h inner-stands) t named-to below fits reaction-to)
-          ∙ ap (λ f. bodyEvent s old e f (dataIn t) st) (sym (found to j h inner-stands .1))
+          ∙ ap (λ f. bodyEvent s (limitOf s) old e f (dataIn t) st) (sym (found to j h inner-stands .1))

@@ -22,11 +22,11 @@ use Rattle.machine.specs.State.{stateLength, wordOf, waiting, Changed, lost, co
 use Rattle.machine.specs.Valid.{nameFits, externalFits, telegramFits, contentFits}
 use Rattle.machine.specs.Kinds.{kindOf}
 use Rattle.machine.specs.Run.{withRecord, provided, runOf, datum, localAt, listFrom, localsOf, localsThere}
-use Rattle.machine.specs.Play.{Outcome, ended, answer, limitOf, bodyWhere, hasPanic, isInitial, reactsOn, ranBody, ranBodyWithin, elementBody, alone, eventEnd}
-use Rattle.machine.specs.Play.{bodyEvent, oldest, taking, brought, reacting, reactingWithin, panicking, panickingWithin, outside, bodiesThere, received}
-use Rattle.machine.specs.Play.{receivedWithin, delivered, deliveredWithin, deliver, corrupt, inner, changeEnd, isEvent, telegramOfEvent, slicedFrom, slice}
-use Rattle.machine.specs.Play.{happensAs, happensAsWithin, happens, happensWithin, turnedDown, ifPassed, started, startCall, startCallBy, eventCall}
-use Rattle.machine.specs.Play.{eventCallBy}
+use Rattle.machine.specs.Play.{Outcome, ended, answer, limitOf, bodyWhere, hasPanic, isInitial, reactsOn, ranBody, elementBody, alone, eventEnd}
+use Rattle.machine.specs.Play.{bodyEvent, oldest, taking, brought, reacting, panicking, outside, bodiesThere, received}
+use Rattle.machine.specs.Play.{received, delivered, deliver, corrupt, inner, changeEnd, isEvent, telegramOfEvent, slicedFrom, slice}
+use Rattle.machine.specs.Play.{happensAs, happens, turnedDown, ifPassed, started, startCall, eventCall}
+use Rattle.machine.specs.Play.{eventCall}
 use Rattle.sheet_rules.specs.Check.{checkOf}
 use Rattle.machine_passed.proofs.Declared.{has-head}
 use Rattle.machine_promise.proofs.Events.{number-is}
@@ -45,31 +45,31 @@ module _ (s : List ℕ) (st : List ℤ) (p : Telegram → Bool) (K : Telegram �
 -- ---- 2 Deliver
 
 module _ (s : List ℕ) (old : List ℤ) (t : Telegram) (st : List ℤ) where
-  pub handed-outside : isBelow (t .receiver) (externalsOf s) ≡ true → delivered s old t st ≡ ended (answer 0 0 (Outside t)) st
-  unfolding deliveredWithin
-  handed-outside h = rw (deliveredWithin, h) refl
+  pub handed-outside : isBelow (t .receiver) (externalsOf s) ≡ true → delivered s (limitOf s) old t st ≡ ended (answer 0 0 (Outside t)) st
+  unfolding delivered
+  handed-outside h = rw (delivered, h) refl
 
   -- a telegram that fits, with both ends not external
   module _ (fits : telegramFits s t ≡ true) (outer : externalFits s t ≡ true) (bound : isBelow (t .receiver) (externalsOf s) ≡ false) where
-    delivered-bound : delivered s old t st ≡ received s old t st (natAbs (t .receiver)) (natAbs (t .port)) (natAbs (t .name))
-    unfolding deliveredWithin telegramFits externalFits nameFits
+    delivered-bound : delivered s (limitOf s) old t st ≡ received s (limitOf s) old t st (natAbs (t .receiver)) (natAbs (t .port)) (natAbs (t .name))
+    unfolding delivered telegramFits externalFits nameFits
     delivered-bound =
-        rw (deliveredWithin, bound)
+        rw (delivered, bound)
         (number-is (t .receiver) _ _ (and-first _ _ (and-second _ _ fits)) ∙ number-is (t .port) _ _ (and-first _ _ (and-second _ _ outer)) ∙ number-is (t .name) _ _ (and-first _ _ (and-second _ _ (and-second _ _ outer))))
 
-    pub delivered-reaction : (b : Record) → elementBody s (natAbs (t .receiver)) (reactsOn (natAbs (t .port)) (natAbs (t .name))) ≡ Present b → delivered s old t st ≡ reacting s old (natAbs (t .receiver)) (Present b) t st
-    unfolding receivedWithin
-    delivered-reaction b h = delivered-bound ∙ rw (receivedWithin, h) refl
+    pub delivered-reaction : (b : Record) → elementBody s (natAbs (t .receiver)) (reactsOn (natAbs (t .port)) (natAbs (t .name))) ≡ Present b → delivered s (limitOf s) old t st ≡ reacting s (limitOf s) old (natAbs (t .receiver)) (Present b) t st
+    unfolding received
+    delivered-reaction b h = delivered-bound ∙ rw (received, h) refl
 
-    pub delivered-panic : bodiesThere s (natAbs (t .receiver)) ≡ true → elementBody s (natAbs (t .receiver)) (reactsOn (natAbs (t .port)) (natAbs (t .name))) ≡ Absent → delivered s old t st ≡ panicking s old (natAbs (t .receiver)) st
-    unfolding receivedWithin
-    delivered-panic k h = delivered-bound ∙ rw (receivedWithin, h, k) refl
+    pub delivered-panic : bodiesThere s (natAbs (t .receiver)) ≡ true → elementBody s (natAbs (t .receiver)) (reactsOn (natAbs (t .port)) (natAbs (t .name))) ≡ Absent → delivered s (limitOf s) old t st ≡ panicking s (limitOf s) old (natAbs (t .receiver)) st
+    unfolding received
+    delivered-panic k h = delivered-bound ∙ rw (received, h, k) refl
 
 -- ---- bodies
 
-pub reacting-is : (s : List ℕ) (old : List ℤ) (e : ℕ) (b : Record) (t : Telegram) (st : List ℤ) → brought s t b ≡ true → reacting s old e (Present b) t st ≡ bodyEvent s old e (Present b) (t .d0 ∷ t .d1 ∷ t .d2 ∷ t .d3 ∷ []) st
-unfolding reactingWithin holds
-reacting-is s old e b t st h = rw (reactingWithin, h) refl
+pub reacting-is : (s : List ℕ) (old : List ℤ) (e : ℕ) (b : Record) (t : Telegram) (st : List ℤ) → brought s t b ≡ true → reacting s (limitOf s) old e (Present b) t st ≡ bodyEvent s (limitOf s) old e (Present b) (t .d0 ∷ t .d1 ∷ t .d2 ∷ t .d3 ∷ []) st
+unfolding reacting holds
+reacting-is s old e b t st h = rw (reacting, h) refl
 
 -- a body of the element's chart
 pub element-body : (s : List ℕ) (e : ℕ) (c : Record) (p : Record → Bool) → chartOf s e ≡ Present c → elementBody s e p ≡ bodyWhere s c p
@@ -92,79 +92,79 @@ no-data s b = ap (listFrom 16 0) (fun-ext (λ i. each i (ltb i (bodyParameters b
     each i true z = none-datum i
     each i false z = refl
 
-ran-without : (s : List ℕ) (e : ℕ) (b : Record) (st : List ℤ) → ranBody s e (Present b) [] st ≡ ranBody s e (Present b) (pos 0 ∷ pos 0 ∷ pos 0 ∷ pos 0 ∷ []) st
-unfolding ranBodyWithin withRecord
+ran-without : (s : List ℕ) (e : ℕ) (b : Record) (st : List ℤ) → ranBody s (limitOf s) e (Present b) [] st ≡ ranBody s (limitOf s) e (Present b) (pos 0 ∷ pos 0 ∷ pos 0 ∷ pos 0 ∷ []) st
+unfolding ranBody withRecord
 ran-without s e b st = ap (λ lo. withRecord (chartOf s e) st [] (λ c. provided (localsThere s b) st [] (runOf s 0 (record { element = e; chart = c; binding = bindingAt s e; body = b }) (root b) (limitOf s) st lo))) (no-data s b)
 
 -- the panic body runs without data
-pub panicking-is : (s : List ℕ) (old : List ℤ) (e : ℕ) (st : List ℤ) (b : Record) → alone (elementBody s e hasPanic) ≡ Present b → panicking s old e st ≡ bodyEvent s old e (Present b) (pos 0 ∷ pos 0 ∷ pos 0 ∷ pos 0 ∷ []) st
-unfolding panickingWithin
-panicking-is s old e st b h = ap (λ f. bodyEvent s old e f [] st) h ∙ ap (λ w. eventEnd s old (w .ran) (w .st)) (ran-without s e b st)
+pub panicking-is : (s : List ℕ) (old : List ℤ) (e : ℕ) (st : List ℤ) (b : Record) → alone (elementBody s e hasPanic) ≡ Present b → panicking s (limitOf s) old e st ≡ bodyEvent s (limitOf s) old e (Present b) (pos 0 ∷ pos 0 ∷ pos 0 ∷ pos 0 ∷ []) st
+unfolding panicking
+panicking-is s old e st b h = ap (λ f. bodyEvent s (limitOf s) old e f [] st) h ∙ ap (λ w. eventEnd (limitOf s) old (w .ran) (w .st)) (ran-without s e b st)
 
 -- so does an initial body
-pub initial-ran : (s : List ℕ) (e : ℕ) (st : List ℤ) (b : Record) → alone (elementBody s e isInitial) ≡ Present b → ranBody s e (alone (elementBody s e isInitial)) [] st ≡ ranBody s e (Present b) (pos 0 ∷ pos 0 ∷ pos 0 ∷ pos 0 ∷ []) st
-initial-ran s e st b h = ap (λ f. ranBody s e f [] st) h ∙ ran-without s e b st
+pub initial-ran : (s : List ℕ) (e : ℕ) (st : List ℤ) (b : Record) → alone (elementBody s e isInitial) ≡ Present b → ranBody s (limitOf s) e (alone (elementBody s e isInitial)) [] st ≡ ranBody s (limitOf s) e (Present b) (pos 0 ∷ pos 0 ∷ pos 0 ∷ pos 0 ∷ []) st
+initial-ran s e st b h = ap (λ f. ranBody s (limitOf s) e f [] st) h ∙ ran-without s e b st
 
 -- ---- the calls
 
 module _ (s : List ℕ) (result : List ℤ) where
-  pub start-shape : checkOf s ≡ Shape → startCall s result ≡ turnedDown 1 result
-  unfolding startCallBy ifPassed
-  start-shape h = ap (λ c. ifPassed c result (λ result. elim (eqb (length result) (stateLength s)) [ true ↦ started s | false ↦ turnedDown 3 result ])) h
+  pub start-shape : checkOf s ≡ Shape → startCall s (limitOf s) result ≡ turnedDown 1 result
+  unfolding startCall ifPassed
+  start-shape h = ap (λ c. ifPassed c result (λ result. elim (eqb (length result) (stateLength s)) [ true ↦ started s (limitOf s) | false ↦ turnedDown 3 result ])) h
 
-  pub start-static : checkOf s ≡ Static → startCall s result ≡ turnedDown 2 result
-  unfolding startCallBy ifPassed
-  start-static h = ap (λ c. ifPassed c result (λ result. elim (eqb (length result) (stateLength s)) [ true ↦ started s | false ↦ turnedDown 3 result ])) h
+  pub start-static : checkOf s ≡ Static → startCall s (limitOf s) result ≡ turnedDown 2 result
+  unfolding startCall ifPassed
+  start-static h = ap (λ c. ifPassed c result (λ result. elim (eqb (length result) (stateLength s)) [ true ↦ started s (limitOf s) | false ↦ turnedDown 3 result ])) h
 
   module _ (ok : checkOf s ≡ Passed) where
-    start-passed : startCall s result ≡ elim (eqb (length result) (stateLength s)) [ true ↦ started s | false ↦ turnedDown 3 result ]
-    unfolding startCallBy ifPassed
-    start-passed = ap (λ c. ifPassed c result (λ result. elim (eqb (length result) (stateLength s)) [ true ↦ started s | false ↦ turnedDown 3 result ])) ok
+    start-passed : startCall s (limitOf s) result ≡ elim (eqb (length result) (stateLength s)) [ true ↦ started s (limitOf s) | false ↦ turnedDown 3 result ]
+    unfolding startCall ifPassed
+    start-passed = ap (λ c. ifPassed c result (λ result. elim (eqb (length result) (stateLength s)) [ true ↦ started s (limitOf s) | false ↦ turnedDown 3 result ])) ok
 
-    pub start-length : (length result ≡ stateLength s → ⊥) → startCall s result ≡ turnedDown 3 result
+    pub start-length : (length result ≡ stateLength s → ⊥) → startCall s (limitOf s) result ≡ turnedDown 3 result
     start-length h = start-passed ∙ rw (ne-eqb (length result) (stateLength s) h) refl
 
-    pub start-is : length result ≡ stateLength s → startCall s result ≡ started s
+    pub start-is : length result ≡ stateLength s → startCall s (limitOf s) result ≡ started s (limitOf s)
     start-is h = start-passed ∙ rw (eq-eqb (length result) (stateLength s) h) refl
 
 module _ (s : List ℕ) (old result ev : List ℤ) where
   abbrev onPassed : List ℤ → Outcome
   onPassed result =
       elim (eqb (length old) (stateLength s) and eqb (length result) (stateLength s)) [
-        | true ↦ elim (contentFits s old) [ true ↦ elim (isEvent s ev) [ true ↦ happens s old ev | false ↦ turnedDown 4 result ] | false ↦ turnedDown 3 result ]
+        | true ↦ elim (contentFits s old) [ true ↦ elim (isEvent s ev) [ true ↦ happens s (limitOf s) old ev | false ↦ turnedDown 4 result ] | false ↦ turnedDown 3 result ]
         | false ↦ turnedDown 3 result
       ]
 
-  pub event-shape : checkOf s ≡ Shape → eventCall s old result ev ≡ turnedDown 1 result
-  unfolding eventCallBy ifPassed
+  pub event-shape : checkOf s ≡ Shape → eventCall s (limitOf s) old result ev ≡ turnedDown 1 result
+  unfolding eventCall ifPassed
   event-shape h = ap (λ c. ifPassed c result onPassed) h
 
-  pub event-static : checkOf s ≡ Static → eventCall s old result ev ≡ turnedDown 2 result
-  unfolding eventCallBy ifPassed
+  pub event-static : checkOf s ≡ Static → eventCall s (limitOf s) old result ev ≡ turnedDown 2 result
+  unfolding eventCall ifPassed
   event-static h = ap (λ c. ifPassed c result onPassed) h
 
   module _ (ok : checkOf s ≡ Passed) where
-    passed : eventCall s old result ev ≡ onPassed result
-    unfolding eventCallBy ifPassed
+    passed : eventCall s (limitOf s) old result ev ≡ onPassed result
+    unfolding eventCall ifPassed
     passed = ap (λ c. ifPassed c result onPassed) ok
 
-    pub event-old-length : (length old ≡ stateLength s → ⊥) → eventCall s old result ev ≡ turnedDown 3 result
+    pub event-old-length : (length old ≡ stateLength s → ⊥) → eventCall s (limitOf s) old result ev ≡ turnedDown 3 result
     event-old-length h = passed ∙ rw (onPassed, false-and _ (eqb (length result) (stateLength s)) (ne-eqb (length old) (stateLength s) h)) refl
 
-    pub event-result-length : (length result ≡ stateLength s → ⊥) → eventCall s old result ev ≡ turnedDown 3 result
+    pub event-result-length : (length result ≡ stateLength s → ⊥) → eventCall s (limitOf s) old result ev ≡ turnedDown 3 result
     event-result-length h = passed ∙ rw (onPassed, and-false (eqb (length old) (stateLength s)) _ (ne-eqb (length result) (stateLength s) h)) refl
 
     module _ (h : length old ≡ stateLength s) (k : length result ≡ stateLength s) where
-      whole : eventCall s old result ev ≡ elim (contentFits s old) [ true ↦ elim (isEvent s ev) [ true ↦ happens s old ev | false ↦ turnedDown 4 result ] | false ↦ turnedDown 3 result ]
+      whole : eventCall s (limitOf s) old result ev ≡ elim (contentFits s old) [ true ↦ elim (isEvent s ev) [ true ↦ happens s (limitOf s) old ev | false ↦ turnedDown 4 result ] | false ↦ turnedDown 3 result ]
       whole = passed ∙ rw (onPassed, and-true _ _ (eq-eqb (length old) (stateLength s) h) (eq-eqb (length result) (stateLength s) k)) refl
 
-      pub event-content : contentFits s old ≡ false → eventCall s old result ev ≡ turnedDown 3 result
+      pub event-content : contentFits s old ≡ false → eventCall s (limitOf s) old result ev ≡ turnedDown 3 result
       event-content c = whole ∙ rw c refl
 
-      pub event-malformed : contentFits s old ≡ true → isEvent s ev ≡ false → eventCall s old result ev ≡ turnedDown 4 result
+      pub event-malformed : contentFits s old ≡ true → isEvent s ev ≡ false → eventCall s (limitOf s) old result ev ≡ turnedDown 4 result
       event-malformed c e = whole ∙ rw (c, e) refl
 
-      pub event-happens : contentFits s old ≡ true → isEvent s ev ≡ true → eventCall s old result ev ≡ happens s old ev
+      pub event-happens : contentFits s old ≡ true → isEvent s ev ≡ true → eventCall s (limitOf s) old result ev ≡ happens s (limitOf s) old ev
       event-happens c e = whole ∙ rw (c, e) refl
 
 -- ---- the five kinds
@@ -176,26 +176,26 @@ slice-is s ok st = ap (λ b. changeEnd st (elim b as (λ b. Changed) [ true ↦ 
 
 module _ (s : List ℕ) (st ev : List ℤ) where
   -- an event whose first word is so much
-  happens-by : (z : ℤ) → wordOf ev 0 ≡ z → happens s st ev ≡ happensAs s st ev (kindOf z)
-  unfolding happensWithin
-  happens-by z h = ap (λ z. happensAs s st ev (kindOf z)) h
+  happens-by : (z : ℤ) → wordOf ev 0 ≡ z → happens s (limitOf s) st ev ≡ happensAs s (limitOf s) st ev (kindOf z)
+  unfolding happens
+  happens-by z h = ap (λ z. happensAs s (limitOf s) st ev (kindOf z)) h
 
-  pub happens-outside : wordOf ev 0 ≡ pos 1 → happens s st ev ≡ outside s st (telegramOfEvent ev)
-  unfolding happensAsWithin kindOf lookUp
+  pub happens-outside : wordOf ev 0 ≡ pos 1 → happens s (limitOf s) st ev ≡ outside s st (telegramOfEvent ev)
+  unfolding happensAs kindOf lookUp
   happens-outside h = happens-by (pos 1) h
 
-  pub happens-deliver : wordOf ev 0 ≡ pos 2 → happens s st ev ≡ deliver s st (wordOf ev 1) (wordOf ev 2)
-  unfolding happensAsWithin kindOf lookUp
+  pub happens-deliver : wordOf ev 0 ≡ pos 2 → happens s (limitOf s) st ev ≡ deliver s (limitOf s) st (wordOf ev 1) (wordOf ev 2)
+  unfolding happensAs kindOf lookUp
   happens-deliver h = happens-by (pos 2) h
 
-  pub happens-corrupt : wordOf ev 0 ≡ pos 3 → happens s st ev ≡ corrupt s st (wordOf ev 1) (wordOf ev 2)
-  unfolding happensAsWithin kindOf lookUp
+  pub happens-corrupt : wordOf ev 0 ≡ pos 3 → happens s (limitOf s) st ev ≡ corrupt s (limitOf s) st (wordOf ev 1) (wordOf ev 2)
+  unfolding happensAs kindOf lookUp
   happens-corrupt h = happens-by (pos 3) h
 
-  pub happens-inner : wordOf ev 0 ≡ pos 4 → happens s st ev ≡ inner s st (wordOf ev 2)
-  unfolding happensAsWithin kindOf lookUp
+  pub happens-inner : wordOf ev 0 ≡ pos 4 → happens s (limitOf s) st ev ≡ inner s (limitOf s) st (wordOf ev 2)
+  unfolding happensAs kindOf lookUp
   happens-inner h = happens-by (pos 4) h
 
-  pub happens-slice : wordOf ev 0 ≡ pos 5 → happens s st ev ≡ slice s st
-  unfolding happensAsWithin kindOf lookUp
+  pub happens-slice : wordOf ev 0 ≡ pos 5 → happens s (limitOf s) st ev ≡ slice s st
+  unfolding happensAs kindOf lookUp
   happens-slice h = happens-by (pos 5) h

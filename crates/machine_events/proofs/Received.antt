@@ -19,7 +19,7 @@ use Rattle.sheet_rules.specs.Types.{nameRange, reactsTo, hasReaction}
 use Rattle.machine.specs.Values.{isBelow, isBound, chartOf}
 use Rattle.machine.specs.State.{isInternal}
 use Rattle.machine.specs.Valid.{dataFit, nameFits, reactionAwaits, datumOf, internalFits, externalFits, telegramFits}
-use Rattle.machine.specs.Play.{Outcome, hasPanic, reactsOn, elementBody, bodyEvent, reacting, panicking, delivered}
+use Rattle.machine.specs.Play.{Outcome, hasPanic, reactsOn, elementBody, bodyEvent, reacting, panicking, delivered, limitOf}
 use Rattle.sheet_rules.specs.Check.{checkOf}
 use Rattle.sheet_rules.proofs.Fields.{holds-present}
 use Rattle.machine_passed.specs.Places.{StandsAt}
@@ -38,7 +38,7 @@ module _ (s : List ℕ) (ok : checkOf s ≡ Passed) where
     pub panic-asked : Called s e (chartBodies c .first + j) fourZeros
     panic-asked = let x = chart-element s e c chart in panic-called s ok e (x .0) c (x .1) j h
 
-    pub as-panicking : (old st : List ℤ) (x : Outcome) → x ≡ bodyEvent s old e (recordOf s bodies (chartBodies c .first + j)) fourZeros st → x ≡ panicking s old e st
+    pub as-panicking : (old st : List ℤ) (x : Outcome) → x ≡ bodyEvent s (limitOf s) old e (recordOf s bodies (chartBodies c .first + j)) fourZeros st → x ≡ panicking s (limitOf s) old e st
     as-panicking old st x g = let y = chart-element s e c chart in g ∙ sym (panic-runs s ok e (y .0) c (y .1) j h old st)
 
   module _ (t : Telegram) (fits : telegramFits s t ≡ true) where
@@ -78,14 +78,14 @@ module _ (s : List ℕ) (ok : checkOf s ≡ Passed) where
             pub reaction-called : Called s e (chartBodies c .first + j) zs
             reaction-called = let x = chart-element s e c chart in subst (Called s e (chartBodies c .first + j)) (sym read) (on-called s ok e (x .0) c (x .1) t name-below data-fit j stands l)
 
-            pub as-delivered : (old st : List ℤ) (x : Outcome) → x ≡ bodyEvent s old e (recordOf s bodies (chartBodies c .first + j)) zs st → x ≡ delivered s old t st
+            pub as-delivered : (old st : List ℤ) (x : Outcome) → x ≡ bodyEvent s (limitOf s) old e (recordOf s bodies (chartBodies c .first + j)) zs st → x ≡ delivered s (limitOf s) old t st
             as-delivered old st x g =
                 let y = chart-element s e c chart in
                 g
-                ∙ ap (λ zs. bodyEvent s old e (recordOf s bodies (chartBodies c .first + j)) zs st) read
+                ∙ ap (λ zs. bodyEvent s (limitOf s) old e (recordOf s bodies (chartBodies c .first + j)) zs st) read
                 ∙ sym (on-delivered s ok e (y .0) c (y .1) t name-below data-fit j stands l old st same fits part far)
 
-          pub none-delivered : chartBodies c .count ≤ j → (old st : List ℤ) (x : Outcome) → x ≡ panicking s old e st → x ≡ delivered s old t st
+          pub none-delivered : chartBodies c .count ≤ j → (old st : List ℤ) (x : Outcome) → x ≡ panicking s (limitOf s) old e st → x ≡ delivered s (limitOf s) old t st
           none-delivered l old st x g = let y = chart-element s e c chart in g ∙ sym (panic-delivered s ok e (y .0) c (y .1) t name-below data-fit j stands l old st same fits part far)
 
     -- ---- an internal telegram
@@ -125,10 +125,10 @@ module _ (s : List ℕ) (ok : checkOf s ≡ Passed) where
           pub inner-asked : Called s e (chartBodies c .first + j) zs
           inner-asked = let x = chart-element s e c chart in subst (Called s e (chartBodies c .first + j)) (sym read) (inner-called s ok e (x .0) c (x .1) t inner-below inner-fit j reacts awaited)
 
-          pub as-reacting : (old st : List ℤ) (x : Outcome) → x ≡ bodyEvent s old e (recordOf s bodies (chartBodies c .first + j)) zs st → x ≡ reacting s old (natAbs (t .receiver)) (elementBody s (natAbs (t .receiver)) (reactsTo (natAbs (t .name)))) t st
+          pub as-reacting : (old st : List ℤ) (x : Outcome) → x ≡ bodyEvent s (limitOf s) old e (recordOf s bodies (chartBodies c .first + j)) zs st → x ≡ reacting s (limitOf s) old (natAbs (t .receiver)) (elementBody s (natAbs (t .receiver)) (reactsTo (natAbs (t .name)))) t st
           as-reacting old st x g =
               let y = chart-element s e c chart in
               g
-              ∙ ap (λ zs. bodyEvent s old e (recordOf s bodies (chartBodies c .first + j)) zs st) read
+              ∙ ap (λ zs. bodyEvent s (limitOf s) old e (recordOf s bodies (chartBodies c .first + j)) zs st) read
               ∙ sym (inner-runs s ok e (y .0) c (y .1) t inner-below inner-fit j reacts awaited old st)
-              ∙ ap (λ e. reacting s old e (elementBody s e (reactsTo (natAbs (t .name)))) t st) same
+              ∙ ap (λ e. reacting s (limitOf s) old e (elementBody s e (reactsTo (natAbs (t .name)))) t st) same

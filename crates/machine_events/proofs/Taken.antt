@@ -24,7 +24,7 @@ use Rattle.machine.specs.Values.{isBelow, isBound}
 use Rattle.machine.specs.State.{wordOf, waiting, counted, telegramOf, withoutTelegram, isInternal}
 use Rattle.machine.specs.Valid.{nameFits, internalFits, telegramFits, OfSheet}
 use Rattle.machine.specs.Kinds.{kindOf}
-use Rattle.machine.specs.Play.{Outcome, ended, answer, elementBody, goesFrom, innerOf, oldest, taking, reacting, panicking, withNumber, outside, delivered, deliverWithin, corruptWithin, innerWithin, slice, restZero, boundWord, wellFormed, isEvent, telegramOfEvent, happens}
+use Rattle.machine.specs.Play.{Outcome, ended, answer, elementBody, goesFrom, innerOf, oldest, taking, reacting, panicking, withNumber, outside, delivered, deliver, corrupt, inner, slice, restZero, boundWord, wellFormed, isEvent, telegramOfEvent, happens, limitOf}
 use Rattle.machine_equations.proofs.EventKinds.{kind-word}
 use Rattle.machine_states.proofs.Parts.{same-word, is-counted, telegram-of}
 use Rattle.machine_states.proofs.Telegrams.{internal-part}
@@ -128,14 +128,14 @@ module _ (s : List ℕ) (st ev : List ℤ) (h : isEvent s ev ≡ true) (n : ℕ)
 -- ---- an event that takes none
 
 module _ (s : List ℕ) (st ev : List ℤ) (h : isEvent s ev ≡ true) (n : ℕ) (e : n ≡ natAbs (wordOf ev 0)) where
-  pub as-outside : n ≡ 1 → (x : Outcome) → x ≡ outside s st (telegramOfEvent ev) → x ≡ happens s st ev
+  pub as-outside : n ≡ 1 → (x : Outcome) → x ≡ outside s st (telegramOfEvent ev) → x ≡ happens s (limitOf s) st ev
   as-outside q x g = g ∙ sym (happens-outside s st ev (kind-is s ev h n e ∙ ap pos q))
 
   module _ (old : List ℤ) (undo : mayUndo s st ev ≡ true → old ≡ st) (q : n ≡ 5) where
     pub slice-copied : old ≡ st
     slice-copied = undo (sym (undoes-slice s st ev h n e q))
 
-    pub as-slice : (x : Outcome) → x ≡ slice s old → x ≡ happens s st ev
+    pub as-slice : (x : Outcome) → x ≡ slice s old → x ≡ happens s (limitOf s) st ev
     as-slice x g = g ∙ ap (slice s) slice-copied ∙ sym (happens-slice s st ev (kind-is s ev h n e ∙ ap pos q))
 
 -- ---- an event that takes a telegram
@@ -145,10 +145,10 @@ module _ (s : List ℕ) (st ev : List ℤ) (h : isEvent s ev ≡ true) (n : ℕ)
   k = kind-is s ev h n e
 
   -- "no such telegram waits"
-  pub none-happens : counted st ≡ true → (w : ℕ) → w ≡ waiting st → w ≤ j → happens s st ev ≡ ended (answer 5 0 Nothing) st
-  unfolding deliverWithin corruptWithin innerWithin
+  pub none-happens : counted st ≡ true → (w : ℕ) → w ≡ waiting st → w ≤ j → happens s (limitOf s) st ev ≡ ended (answer 5 0 Nothing) st
+  unfolding deliver corrupt inner
   none-happens c w v l = elim (ℕ-discrete n 2) [
-    | yes q ↦ let o = at ∙ oldest-outer s st ev h n e n₁ n₅ (λ z. omega arith) in happens-deliver s st ev (k ∙ ap pos q) ∙ taking-none s st (goesFrom (wordOf ev 1) (wordOf ev 2)) (delivered s st) c (omega arith)
+    | yes q ↦ let o = at ∙ oldest-outer s st ev h n e n₁ n₅ (λ z. omega arith) in happens-deliver s st ev (k ∙ ap pos q) ∙ taking-none s st (goesFrom (wordOf ev 1) (wordOf ev 2)) (delivered s (limitOf s) st) c (omega arith)
     | no n₂ ↦ elim (ℕ-discrete n 3) [
       | yes q ↦ let o = at ∙ oldest-outer s st ev h n e n₁ n₅ (λ z. omega arith) in happens-corrupt s st ev (k ∙ ap pos q) ∙ taking-none s st (goesFrom (wordOf ev 1) (wordOf ev 2)) _ c (omega arith)
       | no n₃ ↦ let q = inner-kind s st ev h n e n₁ n₅ n₂ n₃ in let o = at ∙ oldest-inner s st ev h n e n₁ n₅ q in happens-inner s st ev (k ∙ ap pos q) ∙ taking-none s st (innerOf (wordOf ev 2)) _ c (omega arith)
@@ -238,27 +238,27 @@ module _ {s d : List ℕ} {st ev : List ℤ} {n j : ℕ} {t : Telegram} {st′ :
     copied : (n ≡ 2 → isBelow (wordOf ev 2) (externalsOf s) ≡ false) → old ≡ st
     copied d = undo (sym (undoes-waiting s st ev (k .event) n (k .kind) (k .no-outside) (k .no-slice) j (k .at) d (waiting st) refl) ∙ lt-ltb j (waiting st) (k .waits))
 
-    pub as-deliver : n ≡ 2 → x ≡ delivered s old t st′ → x ≡ happens s st ev
-    unfolding deliverWithin
-    as-deliver q g = g ∙ go (isBelow (t .receiver) (externalsOf s)) refl ∙ sym (happens-deliver s st ev (word 2 q) ∙ took (goesFrom (wordOf ev 1) (wordOf ev 2)) (delivered s st) (outer-at (λ z. omega arith)))
+    pub as-deliver : n ≡ 2 → x ≡ delivered s (limitOf s) old t st′ → x ≡ happens s (limitOf s) st ev
+    unfolding deliver
+    as-deliver q g = g ∙ go (isBelow (t .receiver) (externalsOf s)) refl ∙ sym (happens-deliver s st ev (word 2 q) ∙ took (goesFrom (wordOf ev 1) (wordOf ev 2)) (delivered s (limitOf s) st) (outer-at (λ z. omega arith)))
       where
-        go : (b : Bool) → isBelow (t .receiver) (externalsOf s) ≡ b → delivered s old t st′ ≡ delivered s st t st′
+        go : (b : Bool) → isBelow (t .receiver) (externalsOf s) ≡ b → delivered s (limitOf s) old t st′ ≡ delivered s (limitOf s) st t st′
         go true b = handed-outside s old t st′ b ∙ sym (handed-outside s st t st′ b)
-        go false b = ap (λ o. delivered s o t st′) (copied (λ q. ap (λ z. isBelow z (externalsOf s)) (sym receiver-is) ∙ b))
+        go false b = ap (λ o. delivered s (limitOf s) o t st′) (copied (λ q. ap (λ z. isBelow z (externalsOf s)) (sym receiver-is) ∙ b))
 
-    pub as-corrupt : n ≡ 3 → (r : ℕ) → r ≡ natAbs (t .receiver) → x ≡ panicking s old r st′ → x ≡ happens s st ev
-    unfolding corruptWithin
+    pub as-corrupt : n ≡ 3 → (r : ℕ) → r ≡ natAbs (t .receiver) → x ≡ panicking s (limitOf s) old r st′ → x ≡ happens s (limitOf s) st ev
+    unfolding corrupt
     as-corrupt q r i g =
         g
-        ∙ ap (λ o. panicking s o r st′) (copied (λ z. absurd (omega arith)))
-        ∙ ap (λ r. panicking s st r st′) (i ∙ ap natAbs receiver-is)
-        ∙ sym (happens-corrupt s st ev (word 3 q) ∙ took (goesFrom (wordOf ev 1) (wordOf ev 2)) (λ t st′. withNumber (wordOf ev 2) (λ e. panicking s st e st′)) (outer-at (λ z. omega arith)) ∙ number-is (wordOf ev 2) _ _ receiver-word)
+        ∙ ap (λ o. panicking s (limitOf s) o r st′) (copied (λ z. absurd (omega arith)))
+        ∙ ap (λ r. panicking s (limitOf s) st r st′) (i ∙ ap natAbs receiver-is)
+        ∙ sym (happens-corrupt s st ev (word 3 q) ∙ took (goesFrom (wordOf ev 1) (wordOf ev 2)) (λ t st′. withNumber (wordOf ev 2) (λ e. panicking s (limitOf s) st e st′)) (outer-at (λ z. omega arith)) ∙ number-is (wordOf ev 2) _ _ receiver-word)
 
-    pub as-inner : (n ≡ 2 → ⊥) → (n ≡ 3 → ⊥) → x ≡ reacting s old (natAbs (t .receiver)) (elementBody s (natAbs (t .receiver)) (reactsTo (natAbs (t .name)))) t st′ → x ≡ happens s st ev
-    unfolding innerWithin
+    pub as-inner : (n ≡ 2 → ⊥) → (n ≡ 3 → ⊥) → x ≡ reacting s (limitOf s) old (natAbs (t .receiver)) (elementBody s (natAbs (t .receiver)) (reactsTo (natAbs (t .name)))) t st′ → x ≡ happens s (limitOf s) st ev
+    unfolding inner
     as-inner n₂ n₃ g =
         let q = inner-is n₂ n₃ in
         g
-        ∙ ap (λ o. reacting s o (natAbs (t .receiver)) (elementBody s (natAbs (t .receiver)) (reactsTo (natAbs (t .name)))) t st′) (copied (λ q. absurd (n₂ q)))
-        ∙ ap (λ r. reacting s st (natAbs r) (elementBody s (natAbs r) (reactsTo (natAbs (t .name)))) t st′) receiver-is
-        ∙ sym (happens-inner s st ev (word 4 q) ∙ took (innerOf (wordOf ev 2)) (λ t st′. withNumber (wordOf ev 2) (λ e. withNumber (t .name) (λ n. reacting s st e (elementBody s e (reactsTo n)) t st′))) (inner-at q) ∙ number-is (wordOf ev 2) _ _ receiver-word ∙ number-is (t .name) _ _ (name-word (taken-inner n₂ n₃)))
+        ∙ ap (λ o. reacting s (limitOf s) o (natAbs (t .receiver)) (elementBody s (natAbs (t .receiver)) (reactsTo (natAbs (t .name)))) t st′) (copied (λ q. absurd (n₂ q)))
+        ∙ ap (λ r. reacting s (limitOf s) st (natAbs r) (elementBody s (natAbs r) (reactsTo (natAbs (t .name)))) t st′) receiver-is
+        ∙ sym (happens-inner s st ev (word 4 q) ∙ took (innerOf (wordOf ev 2)) (λ t st′. withNumber (wordOf ev 2) (λ e. withNumber (t .name) (λ n. reacting s (limitOf s) st e (elementBody s e (reactsTo n)) t st′))) (inner-at q) ∙ number-is (wordOf ev 2) _ _ receiver-word ∙ number-is (t .name) _ _ (name-word (taken-inner n₂ n₃)))

@@ -21,12 +21,12 @@ use Rattle.machine.specs.State.{places, cellAt, wordOf, waiting, putWords, on, 
 use Rattle.machine.specs.Valid.{datumOf}
 use Rattle.machine.specs.Run.{withRecord, provided}
 use Rattle.machine.specs.Kinds.{Kind, kindOf}
-use Rattle.machine.specs.Play.{answer, bodyFrom, bodyWhere, hasPanic, isInitial, reactsOn, ranBodyWithin, elementBody, alone, eventEndWithin, bodyEventWithin}
-use Rattle.machine.specs.Play.{defaultCell, alike, defaultCells, elementCells, cellsFrom, defaultState, hasHead, elementThere, elementsThere, startNextWithin}
-use Rattle.machine.specs.Play.{startFromWithin, startedWithin, oldestFrom, oldest, goesFrom, innerOf, taking, sameDeclared, brought, reactingWithin}
-use Rattle.machine.specs.Play.{panickingWithin, withNumber, changeEnd, outside, bodiesThere, receivedWithin, deliveredWithin, deliverWithin, corruptWithin}
-use Rattle.machine.specs.Play.{innerWithin, thenSlice, clockTelegram, fires, ticks, slicedCell, slicedEach, slicedVariable, slicedCells, slicedElement}
-use Rattle.machine.specs.Play.{slicedFrom, slice, restZero, boundWord, wellFormed, isEvent, telegramOfEvent, happensAsWithin, happensWithin, ended, stuck}
+use Rattle.machine.specs.Play.{answer, bodyFrom, bodyWhere, hasPanic, isInitial, reactsOn, ranBody, elementBody, alone, eventEnd, bodyEvent}
+use Rattle.machine.specs.Play.{defaultCell, alike, defaultCells, elementCells, cellsFrom, defaultState, hasHead, elementThere, elementsThere, startNext}
+use Rattle.machine.specs.Play.{startFrom, started, oldestFrom, oldest, goesFrom, innerOf, taking, sameDeclared, brought, reacting}
+use Rattle.machine.specs.Play.{panicking, withNumber, changeEnd, outside, bodiesThere, received, delivered, deliver, corrupt}
+use Rattle.machine.specs.Play.{inner, thenSlice, clockTelegram, fires, ticks, slicedCell, slicedEach, slicedVariable, slicedCells, slicedElement}
+use Rattle.machine.specs.Play.{slicedFrom, slice, restZero, boundWord, wellFormed, isEvent, telegramOfEvent, happensAs, happens, ended, stuck}
 use Rattle.machine.specs.Kinds as kind
 use Rattle.sheet_limits.specs.ButLimit.{ButLimit}
 use Rattle.sheet_limits.proofs.Fields.{same-componentsOf, same-declaredSo, same-elementsOf, same-externalsOf, same-inSection, same-portsOf, same-typeAt}
@@ -54,9 +54,9 @@ module _ {s s′ : List ℕ} (h : ButLimit s s′) where
   unfolding bodyWhere
   same-bodyWhere = λ q c p. same-bodyFrom q p (chartBodies c .count) (chartBodies c .first)
 
-  pub same-ranBodyWithin : ranBodyWithin s ≡ ranBodyWithin s′
-  unfolding ranBodyWithin
-  same-ranBodyWithin = λ q limit e f zs st.
+  pub same-ranBody : ranBody s ≡ ranBody s′
+  unfolding ranBody
+  same-ranBody = λ q limit e f zs st.
       withRecord (same-chartOf h q e) st [] (λ c.
       withRecord f st [] (λ d.
       provided (same-localsThere h q d) st []
@@ -66,8 +66,8 @@ module _ {s s′ : List ℕ} (h : ButLimit s s′) where
   unfolding elementBody
   same-elementBody = λ q e p. elim (same-chartOf h q e) [ Present c ↦ same-bodyWhere q c p | Absent ↦ Absent ]
 
-  pub same-bodyEventWithin : bodyEventWithin s ≡ bodyEventWithin s′
-  same-bodyEventWithin = λ q limit old e f zs st. let w = same-ranBodyWithin q limit e f zs st in eventEndWithin limit old (w .ran) (w .st)
+  pub same-bodyEvent : bodyEvent s ≡ bodyEvent s′
+  same-bodyEvent = λ q limit old e f zs st. let w = same-ranBody q limit e f zs st in eventEnd limit old (w .ran) (w .st)
 
   pub same-defaultCell : defaultCell s ≡ defaultCell s′
   unfolding defaultCell
@@ -105,26 +105,26 @@ module _ {s s′ : List ℕ} (h : ButLimit s s′) where
   unfolding elementsThere
   same-elementsThere = λ q. same-hasHead q and allBelow (same-elementsOf h q) (λ i. same-elementThere q (same-externalsOf h q + i))
 
-  startNextWithin-at : (limit k : ℕ) (a : Ran) → startNextWithin s limit k a ≡ startNextWithin s′ limit k a
-  unfolding startNextWithin
+  startNextWithin-at : (limit k : ℕ) (a : Ran) → startNext s limit k a ≡ startNext s′ limit k a
+  unfolding startNext
   startNextWithin-at limit k (Done l) = λ q st K. K (k + (limit - l)) st
   startNextWithin-at limit k (Refused n l) = λ q st K. ended (answer n (k + (limit - l)) Nothing) (replicate (same-stateLength h q) (pos 0))
   startNextWithin-at limit k Stuck = λ q st K. stuck
 
-  pub same-startNextWithin : startNextWithin s ≡ startNextWithin s′
-  same-startNextWithin = λ q limit k a. startNextWithin-at limit k a q
+  pub same-startNext : startNext s ≡ startNext s′
+  same-startNext = λ q limit k a. startNextWithin-at limit k a q
 
-  startFromWithin-at : (limit a : ℕ) → startFromWithin s limit a ≡ startFromWithin s′ limit a
-  unfolding startFromWithin
+  startFromWithin-at : (limit a : ℕ) → startFrom s limit a ≡ startFrom s′ limit a
+  unfolding startFrom
   startFromWithin-at limit zero = λ q e k st. ended (answer 0 k Nothing) st
-  startFromWithin-at limit (suc n) = λ q e k st. let w = same-ranBodyWithin q limit e (alone (same-elementBody q e isInitial)) [] st in same-startNextWithin q limit k (w .ran) (w .st) (λ k st. startFromWithin-at limit n q (suc e) k st)
+  startFromWithin-at limit (suc n) = λ q e k st. let w = same-ranBody q limit e (alone (same-elementBody q e isInitial)) [] st in same-startNext q limit k (w .ran) (w .st) (λ k st. startFromWithin-at limit n q (suc e) k st)
 
-  pub same-startFromWithin : startFromWithin s ≡ startFromWithin s′
-  same-startFromWithin = λ q limit a. startFromWithin-at limit a q
+  pub same-startFrom : startFrom s ≡ startFrom s′
+  same-startFrom = λ q limit a. startFromWithin-at limit a q
 
-  pub same-startedWithin : startedWithin s ≡ startedWithin s′
-  unfolding startedWithin
-  same-startedWithin = λ q limit. elim (same-elementsThere q) [ true ↦ same-startFromWithin q limit (same-elementsOf h q) (same-externalsOf h q) 0 (same-defaultState q) | false ↦ stuck ]
+  pub same-started : started s ≡ started s′
+  unfolding started
+  same-started = λ q limit. elim (same-elementsThere q) [ true ↦ same-startFrom q limit (same-elementsOf h q) (same-externalsOf h q) 0 (same-defaultState q) | false ↦ stuck ]
 
   oldestFrom-at : (st : List ℤ) (p : (Telegram → Bool)) (a : ℕ) → oldestFrom s st p a ≡ oldestFrom s′ st p a
   unfolding oldestFrom
@@ -155,13 +155,13 @@ module _ {s s′ : List ℕ} (h : ButLimit s s′) where
       and allBelow (dataOf n .count) (λ j. same-sameDeclared q (dataOf n .first + j) (bodyParameters b .first + j))
       and same-dataFit h q (dataOf n) (datumOf t))
 
-  pub same-reactingWithin : reactingWithin s ≡ reactingWithin s′
-  unfolding reactingWithin
-  same-reactingWithin = λ q limit old e f t st. elim (holds f (same-brought q t)) [ true ↦ same-bodyEventWithin q limit old e f (t .d0 ∷ t .d1 ∷ t .d2 ∷ t .d3 ∷ []) st | false ↦ stuck ]
+  pub same-reacting : reacting s ≡ reacting s′
+  unfolding reacting
+  same-reacting = λ q limit old e f t st. elim (holds f (same-brought q t)) [ true ↦ same-bodyEvent q limit old e f (t .d0 ∷ t .d1 ∷ t .d2 ∷ t .d3 ∷ []) st | false ↦ stuck ]
 
-  pub same-panickingWithin : panickingWithin s ≡ panickingWithin s′
-  unfolding panickingWithin
-  same-panickingWithin = λ q limit old e st. same-bodyEventWithin q limit old e (alone (same-elementBody q e hasPanic)) [] st
+  pub same-panicking : panicking s ≡ panicking s′
+  unfolding panicking
+  same-panicking = λ q limit old e st. same-bodyEvent q limit old e (alone (same-elementBody q e hasPanic)) [] st
 
   pub same-outside : outside s ≡ outside s′
   unfolding outside
@@ -171,33 +171,33 @@ module _ {s s′ : List ℕ} (h : ButLimit s s′) where
   unfolding bodiesThere
   same-bodiesThere = λ q e. holds (same-chartOf h q e) (λ c. same-inSection h q bodies (chartBodies c))
 
-  pub same-receivedWithin : receivedWithin s ≡ receivedWithin s′
-  unfolding receivedWithin
-  same-receivedWithin = λ q limit old t st e p n.
+  pub same-received : received s ≡ received s′
+  unfolding received
+  same-received = λ q limit old t st e p n.
       elim (same-elementBody q e (reactsOn p n)) [
-        | Present b ↦ same-reactingWithin q limit old e (Present b) t st
-        | Absent ↦ elim (same-bodiesThere q e) [ true ↦ same-panickingWithin q limit old e st | false ↦ stuck ]
+        | Present b ↦ same-reacting q limit old e (Present b) t st
+        | Absent ↦ elim (same-bodiesThere q e) [ true ↦ same-panicking q limit old e st | false ↦ stuck ]
       ]
 
-  pub same-deliveredWithin : deliveredWithin s ≡ deliveredWithin s′
-  unfolding deliveredWithin
-  same-deliveredWithin = λ q limit old t st.
+  pub same-delivered : delivered s ≡ delivered s′
+  unfolding delivered
+  same-delivered = λ q limit old t st.
       elim (isBelow (t .receiver) (same-externalsOf h q)) [
         | true ↦ ended (answer 0 0 (Outside t)) st
-        | false ↦ withNumber (t .receiver) (λ e. withNumber (t .port) (λ p. withNumber (t .name) (λ n. same-receivedWithin q limit old t st e p n)))
+        | false ↦ withNumber (t .receiver) (λ e. withNumber (t .port) (λ p. withNumber (t .name) (λ n. same-received q limit old t st e p n)))
       ]
 
-  pub same-deliverWithin : deliverWithin s ≡ deliverWithin s′
-  unfolding deliverWithin
-  same-deliverWithin = λ q limit st a r. same-taking q st (goesFrom a r) (same-deliveredWithin q limit st)
+  pub same-deliver : deliver s ≡ deliver s′
+  unfolding deliver
+  same-deliver = λ q limit st a r. same-taking q st (goesFrom a r) (same-delivered q limit st)
 
-  pub same-corruptWithin : corruptWithin s ≡ corruptWithin s′
-  unfolding corruptWithin
-  same-corruptWithin = λ q limit st a r. same-taking q st (goesFrom a r) (λ t st′. withNumber r (λ e. same-panickingWithin q limit st e st′))
+  pub same-corrupt : corrupt s ≡ corrupt s′
+  unfolding corrupt
+  same-corrupt = λ q limit st a r. same-taking q st (goesFrom a r) (λ t st′. withNumber r (λ e. same-panicking q limit st e st′))
 
-  pub same-innerWithin : innerWithin s ≡ innerWithin s′
-  unfolding innerWithin
-  same-innerWithin = λ q limit st r. same-taking q st (innerOf r) (λ t st′. withNumber r (λ e. withNumber (t .name) (λ n. same-reactingWithin q limit st e (same-elementBody q e (reactsTo n)) t st′)))
+  pub same-inner : inner s ≡ inner s′
+  unfolding inner
+  same-inner = λ q limit st r. same-taking q st (innerOf r) (λ t st′. withNumber r (λ e. withNumber (t .name) (λ n. same-reacting q limit st e (same-elementBody q e (reactsTo n)) t st′)))
 
   pub same-fires : fires s ≡ fires s′
   unfolding fires
@@ -273,18 +273,18 @@ module _ {s s′ : List ℕ} (h : ButLimit s s′) where
   unfolding isEvent
   same-isEvent = λ q ev. eqb (length ev) 9 and same-wellFormed q ev (kindOf (wordOf ev 0))
 
-  happensAsWithin-at : (limit : ℕ) (st ev : List ℤ) (a : Kind) → happensAsWithin s limit st ev a ≡ happensAsWithin s′ limit st ev a
-  unfolding happensAsWithin
+  happensAsWithin-at : (limit : ℕ) (st ev : List ℤ) (a : Kind) → happensAs s limit st ev a ≡ happensAs s′ limit st ev a
+  unfolding happensAs
   happensAsWithin-at limit st ev kind.outside = λ q. same-outside q st (telegramOfEvent ev)
-  happensAsWithin-at limit st ev kind.deliver = λ q. same-deliverWithin q limit st (wordOf ev 1) (wordOf ev 2)
-  happensAsWithin-at limit st ev kind.corrupt = λ q. same-corruptWithin q limit st (wordOf ev 1) (wordOf ev 2)
-  happensAsWithin-at limit st ev kind.inner = λ q. same-innerWithin q limit st (wordOf ev 2)
+  happensAsWithin-at limit st ev kind.deliver = λ q. same-deliver q limit st (wordOf ev 1) (wordOf ev 2)
+  happensAsWithin-at limit st ev kind.corrupt = λ q. same-corrupt q limit st (wordOf ev 1) (wordOf ev 2)
+  happensAsWithin-at limit st ev kind.inner = λ q. same-inner q limit st (wordOf ev 2)
   happensAsWithin-at limit st ev kind.slice = λ q. same-slice q st
   happensAsWithin-at limit st ev kind.noKind = refl
 
-  pub same-happensAsWithin : happensAsWithin s ≡ happensAsWithin s′
-  same-happensAsWithin = λ q limit st ev a. happensAsWithin-at limit st ev a q
+  pub same-happensAs : happensAs s ≡ happensAs s′
+  same-happensAs = λ q limit st ev a. happensAsWithin-at limit st ev a q
 
-  pub same-happensWithin : happensWithin s ≡ happensWithin s′
-  unfolding happensWithin
-  same-happensWithin = λ q limit st ev. same-happensAsWithin q limit st ev (kindOf (wordOf ev 0))
+  pub same-happens : happens s ≡ happens s′
+  unfolding happens
+  same-happens = λ q limit st ev. same-happensAs q limit st ev (kindOf (wordOf ev 0))

@@ -7,7 +7,7 @@ use lib.ListN.{take, drop, replicate}
 use lib.Dec.{ltb}
 use lib.IntN.{pos}
 use Rattle.sheet_rules.specs.Fields.{countBelow}
-use Rattle.machine.specs.State.{places, cellAt, cellOf, placeAt, stateLength, waiting, setWaiting, telegramIn, telegramOf, wordsOf, putWords, withTelegram, counted, sameClass, waitingLike, classLimit, appended, withoutTelegram, on, off, lost}
+use Rattle.machine.specs.State.{places, cellAt, cellOf, placeAt, stateLength, waiting, setWaiting, telegramIn, telegramOf, wordsOf, putWords, placesFrom, withTelegram, counted, sameClass, waitingLike, classLimit, appended, withoutTelegram, on, off, lost}
 use Rattle.sheet_limits.specs.ButLimit.{ButLimit}
 use Rattle.sheet_limits.proofs.Indices.{same-cellsBefore}
 use Rattle.sheet_limits.proofs.Shape.{same-cellsOf}
@@ -46,6 +46,10 @@ module _ {s s′ : List ℕ} (h : ButLimit s s′) where
         | false ↦ lost
       ]
 
+  same-placesFrom : placesFrom s ≡ placesFrom s′
+  unfolding placesFrom
+  same-placesFrom = λ q st i. take (8 * (places - i)) (drop (same-placeAt q i) st)
+
   pub same-withoutTelegram : withoutTelegram s ≡ withoutTelegram s′
   unfolding withoutTelegram
-  same-withoutTelegram = λ q st j. setWaiting (take (same-placeAt q j) st ++ drop (same-placeAt q (j + 1)) st ++ replicate 8 (pos 0)) (waiting st - 1)
+  same-withoutTelegram = λ q st j. setWaiting (putWords st (same-placeAt q j) (same-placesFrom q st (j + 1) ++ replicate 8 (pos 0))) (waiting st - 1)

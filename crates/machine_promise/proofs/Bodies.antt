@@ -27,7 +27,7 @@ use Rattle.machine.specs.Values.{isBelow, recordBy, inType, bindingAt}
 use Rattle.machine.specs.Valid.{dataFit, datumOf, OfSheet}
 use Rattle.machine.specs.Eval.{Context}
 use Rattle.machine.specs.Run.{withRecord, provided, localsOf, datum, runOf}
-use Rattle.machine.specs.Play.{limitOf, bodyWhere, hasPanic, ranBody, ranBodyWithin, elementBody, alone, eventEnd, eventEndWithin, bodyEvent, sameDeclared, brought, reacting, reactingWithin, panicking, panickingWithin}
+use Rattle.machine.specs.Play.{limitOf, bodyWhere, hasPanic, ranBody, elementBody, alone, eventEnd, bodyEvent, sameDeclared, brought, reacting, panicking}
 use Rattle.sheet_rules.specs.Check.{checkOf}
 use Rattle.sheet_rules.proofs.Fields.{holds-present}
 use Rattle.machine_passed.specs.Places.{InChart, Element, Placed}
@@ -57,20 +57,20 @@ module _ (s : List ℕ) (ok : checkOf s ≡ Passed) (e : ℕ) (b c : Record) (x 
     abbrev Parameters : List ℤ → Type 0
     Parameters zs = (j : ℕ) → j < bodyParameters d .count → inType s (typeAt s (bodyParameters d .first + j)) (datum zs j) ≡ true
 
-    pub ran-is : (zs st : List ℤ) → ranBody s e (Present d) zs st ≡ runOf s 0 context (root d) (limitOf s) st (localsOf s d zs)
-    unfolding ranBodyWithin withRecord provided
-    ran-is zs st = rw (ranBodyWithin, element-chart s e b c x, locals-there s ok _ c (x .chart) d i) refl
+    pub ran-is : (zs st : List ℤ) → ranBody s (limitOf s) e (Present d) zs st ≡ runOf s 0 context (root d) (limitOf s) st (localsOf s d zs)
+    unfolding ranBody withRecord provided
+    ran-is zs st = rw (ranBody, element-chart s e b c x, locals-there s ok _ c (x .chart) d i) refl
 
-    pub ran-ends : (zs st : List ℤ) → OfSheet s st → Parameters zs → Ends s context (ranBody s e (Present d) zs st .ran) (ranBody s e (Present d) zs st .st) (ranBody s e (Present d) zs st .lo)
+    pub ran-ends : (zs st : List ℤ) → OfSheet s st → Parameters zs → Ends s context (ranBody s (limitOf s) e (Present d) zs st .ran) (ranBody s (limitOf s) e (Present d) zs st .st) (ranBody s (limitOf s) e (Present d) zs st .lo)
     ran-ends zs st o p = subst (λ w. Ends s context (w .ran) (w .st) (w .lo)) (sym (ran-is zs st)) (body-ends s ok 0 context (limitOf s) st (localsOf s d zs) placed o (fresh-locals s ok context placed zs p))
 
-    end-kept : (old : List ℤ) (r : Ran) (st lo : List ℤ) → Ends s context r st lo → EventKept s old (eventEnd s old r st)
-    unfolding eventEndWithin
+    end-kept : (old : List ℤ) (r : Ran) (st lo : List ℤ) → Ends s context r st lo → EventKept s old (eventEnd (limitOf s) old r st)
+    unfolding eventEnd
     end-kept old (Done l) st lo h = (inl refl, λ q. h .0, λ n. absurd (n refl))
     end-kept old (Refused k l) st lo h = (inr (omega arith, omega arith), λ q. absurd (let m = h .0 in omega arith), λ n. refl)
     end-kept old Stuck st lo h = h
 
-    pub body-kept : (old zs st : List ℤ) → OfSheet s st → Parameters zs → EventKept s old (bodyEvent s old e (Present d) zs st)
+    pub body-kept : (old zs st : List ℤ) → OfSheet s st → Parameters zs → EventKept s old (bodyEvent s (limitOf s) old e (Present d) zs st)
     body-kept old zs st o p = end-kept old _ _ _ (ran-ends zs st o p)
 
     static-role : roleStatic s d ≡ true
@@ -137,19 +137,19 @@ module _ (s : List ℕ) (ok : checkOf s ≡ Passed) (e : ℕ) (b c : Record) (x 
             let k : j < dataOf n .count = omega (arith, same-count) in
             rw (same-type j l) (declared-true s _ (λ t. inType s t _) (rw (lt-ltb j (dataOf n .count) k) at (all-at 4 _ fits j (omega (arith, few-data s ok _ n (named .2))))))
 
-        pub reacting-kept : (old st : List ℤ) → OfSheet s st → EventKept s old (reacting s old e (Present d) t st)
-        unfolding reactingWithin holds
-        reacting-kept old st o = rw (reactingWithin, brought-so) (body-kept old _ st o brought-data)
+        pub reacting-kept : (old st : List ℤ) → OfSheet s st → EventKept s old (reacting s (limitOf s) old e (Present d) t st)
+        unfolding reacting holds
+        reacting-kept old st o = rw (reacting, brought-so) (body-kept old _ st o brought-data)
 
   -- the body that is looked for in the element's chart
   pub body-of : (p : Record → Bool) → elementBody s e p ≡ bodyWhere s c p
   unfolding elementBody
   body-of p = rw (elementBody, element-chart s e b c x) refl
 
-  pub panicking-kept : (old st : List ℤ) → OfSheet s st → EventKept s old (panicking s old e st)
-  unfolding panickingWithin
+  pub panicking-kept : (old st : List ℤ) → OfSheet s st → EventKept s old (panicking s (limitOf s) old e st)
+  unfolding panicking
   panicking-kept old st o =
       let p = panic-there s ok _ c (x .chart) in
       let f = where-found s hasPanic c (p .0) (p .1) in
       let one : role (p .0) ≡ panic = eqb-true _ _ (f .1) in
-      subst (λ g. EventKept s old (bodyEvent s old e g [] st)) (sym (ap alone (body-of hasPanic ∙ p .1) ∙ runs-alone (p .0) (f .0) (omega arith))) (body-kept (p .0) (f .0) old [] st o (no-parameters (p .0) (f .0) (omega arith) []))
+      subst (λ g. EventKept s old (bodyEvent s (limitOf s) old e g [] st)) (sym (ap alone (body-of hasPanic ∙ p .1) ∙ runs-alone (p .0) (f .0) (omega arith))) (body-kept (p .0) (f .0) old [] st o (no-parameters (p .0) (f .0) (omega arith) []))

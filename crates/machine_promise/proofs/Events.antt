@@ -26,7 +26,7 @@ use Rattle.machine.specs.State.{stateLength, wordOf, waiting, telegramOf, witho
 use Rattle.machine.specs.Valid.{dataFit, nameFits, reactionAwaits, datumOf, internalFits, externalFits, telegramFits, contentFits, OfSheet}
 use Rattle.machine.specs.Kinds as kind
 use Rattle.machine.specs.Kinds.{Kind, kindOf}
-use Rattle.machine.specs.Play.{Outcome, ended, stuck, withNumber, bodiesThere, received, receivedWithin, answer, reactsOn, elementBody, oldestFrom, oldest, goesFrom, innerOf, taking, reacting, panicking, outside, delivered, deliveredWithin, deliver, deliverWithin, corrupt, corruptWithin, inner, innerWithin, slicedFrom, slice, boundWord, wellFormed, isEvent, telegramOfEvent, happensAs, happensAsWithin, happens, happensWithin, turnedDown, ifPassed, eventCall, eventCallBy, changeEnd}
+use Rattle.machine.specs.Play.{Outcome, ended, stuck, withNumber, bodiesThere, received, answer, reactsOn, elementBody, oldestFrom, oldest, goesFrom, innerOf, taking, reacting, panicking, outside, delivered, deliver, corrupt, inner, slicedFrom, slice, boundWord, wellFormed, isEvent, telegramOfEvent, happensAs, happens, turnedDown, ifPassed, eventCall, changeEnd, limitOf}
 use Rattle.sheet_rules.specs.Check.{checkOf}
 use Rattle.sheet_rules.proofs.Fields.{holds-present}
 use Rattle.machine_passed.proofs.Records.{externals-components}
@@ -110,26 +110,26 @@ module _ (s : List ℕ) (ok : checkOf s ≡ Passed) where
   -- ---- 2 Deliver
 
   -- the reaction for its port and name, or without one the panic body
-  received-kept : (old st : List ℤ) → OfSheet s st → (t : Telegram) → isBelow (t .name) (countOf s names) ≡ true → dataFit s (nameRange s (natAbs (t .name))) (datumOf t) ≡ true → (e p : ℕ) → isBound s e ≡ true → EventKept s old (received s old t st e p (natAbs (t .name)))
-  unfolding receivedWithin isReaction
+  received-kept : (old st : List ℤ) → OfSheet s st → (t : Telegram) → isBelow (t .name) (countOf s names) ≡ true → dataFit s (nameRange s (natAbs (t .name))) (datumOf t) ≡ true → (e p : ℕ) → isBound s e ≡ true → EventKept s old (received s (limitOf s) old t st e p (natAbs (t .name)))
+  unfolding received isReaction
   received-kept old st o t below h e p bound = go (elementBody s e (reactsOn p (natAbs (t .name)))) refl
     where
-      go : (f : Found) → elementBody s e (reactsOn p (natAbs (t .name))) ≡ f → EventKept s old (elim f [ Present b ↦ reacting s old e (Present b) t st | Absent ↦ elim (bodiesThere s e) [ true ↦ panicking s old e st | false ↦ stuck ] ])
+      go : (f : Found) → elementBody s e (reactsOn p (natAbs (t .name))) ≡ f → EventKept s old (elim f [ Present b ↦ reacting s (limitOf s) old e (Present b) t st | Absent ↦ elim (bodiesThere s e) [ true ↦ panicking s (limitOf s) old e st | false ↦ stuck ] ])
       go (Present d) q =
           let x = bound-element s ok e bound in
           let f = where-found s _ (x .1) d (sym (body-of s ok e (x .0) (x .1) (x .2) _) ∙ q) in
           let two : role d ≡ externalReaction = eqb-true _ _ (and-first _ _ (f .1)) in
           reacting-kept s ok e (x .0) (x .1) (x .2) d (f .0) t (eqb-true _ _ (and-second _ _ (and-second _ _ (f .1)))) below h (rw two (and-true _ _ refl refl)) old st o
-      go Absent q = let x = bound-element s ok e bound in subst (λ b. EventKept s old (elim b [ true ↦ panicking s old e st | false ↦ stuck ])) (sym (bodies-there s ok e bound)) (panicking-kept s ok e (x .0) (x .1) (x .2) old st o)
+      go Absent q = let x = bound-element s ok e bound in subst (λ b. EventKept s old (elim b [ true ↦ panicking s (limitOf s) old e st | false ↦ stuck ])) (sym (bodies-there s ok e bound)) (panicking-kept s ok e (x .0) (x .1) (x .2) old st o)
 
-  delivered-kept : (old : List ℤ) (t : Telegram) (st : List ℤ) → telegramFits s t ≡ true → isInternal t ≡ false → OfSheet s st → EventKept s old (delivered s old t st)
-  unfolding deliveredWithin externalFits nameFits
+  delivered-kept : (old : List ℤ) (t : Telegram) (st : List ℤ) → telegramFits s t ≡ true → isInternal t ≡ false → OfSheet s st → EventKept s old (delivered s (limitOf s) old t st)
+  unfolding delivered externalFits nameFits
   delivered-kept old t st h n o = go (isBelow (t .receiver) (externalsOf s)) refl
     where
       named : isBelow (t .name) (countOf s names) and hasClass s (natAbs (t .name)) external and dataFit s (nameRange s (natAbs (t .name))) (datumOf t) ≡ true
       named = and-second _ _ (and-second _ _ (external-part t h n))
 
-      go : (b : Bool) → isBelow (t .receiver) (externalsOf s) ≡ b → EventKept s old (elim b [ true ↦ ended (answer 0 0 (Outside t)) st | false ↦ withNumber (t .receiver) (λ e. withNumber (t .port) (λ p. withNumber (t .name) (λ n. received s old t st e p n))) ])
+      go : (b : Bool) → isBelow (t .receiver) (externalsOf s) ≡ b → EventKept s old (elim b [ true ↦ ended (answer 0 0 (Outside t)) st | false ↦ withNumber (t .receiver) (λ e. withNumber (t .port) (λ p. withNumber (t .name) (λ n. received s (limitOf s) old t st e p n))) ])
       go true q = (inl refl, λ z. o, λ k. absurd (k refl))
       go false q =
           subst (EventKept s old)
@@ -139,20 +139,20 @@ module _ (s : List ℕ) (ok : checkOf s ≡ Passed) where
   pub outer : (a r : ℤ) (t : Telegram) → goesFrom a r t ≡ true → isInternal t ≡ false
   outer a r t h = not-true _ (and-first _ _ h)
 
-  deliver-kept : (st : List ℤ) → OfSheet s st → (a r : ℤ) → EventKept s st (deliver s st a r)
-  unfolding deliverWithin
-  deliver-kept st o a r = taking-kept s st o (goesFrom a r) (delivered s st) (λ t st′ h p o′. delivered-kept st t st′ h (outer a r t p) o′)
+  deliver-kept : (st : List ℤ) → OfSheet s st → (a r : ℤ) → EventKept s st (deliver s (limitOf s) st a r)
+  unfolding deliver
+  deliver-kept st o a r = taking-kept s st o (goesFrom a r) (delivered s (limitOf s) st) (λ t st′ h p o′. delivered-kept st t st′ h (outer a r t p) o′)
 
   -- ---- 3 Corrupt
 
-  corrupt-kept : (st : List ℤ) → OfSheet s st → (a r : ℤ) → isBelow r (componentsOf s) ≡ true → isBound s (natAbs r) ≡ true → EventKept s st (corrupt s st a r)
-  unfolding corruptWithin
+  corrupt-kept : (st : List ℤ) → OfSheet s st → (a r : ℤ) → isBelow r (componentsOf s) ≡ true → isBound s (natAbs r) ≡ true → EventKept s st (corrupt s (limitOf s) st a r)
+  unfolding corrupt
   corrupt-kept st o a r below bound = let x = bound-element s ok (natAbs r) bound in taking-kept s st o (goesFrom a r) _ (λ t st′ h p o′. subst (EventKept s st) (sym (number-is r _ _ below)) (panicking-kept s ok (natAbs r) (x .0) (x .1) (x .2) st st′ o′))
 
   -- ---- 4 Inner
 
-  inner-kept : (st : List ℤ) → OfSheet s st → (r : ℤ) → EventKept s st (inner s st r)
-  unfolding innerWithin internalFits nameFits reactionAwaits isReaction
+  inner-kept : (st : List ℤ) → OfSheet s st → (r : ℤ) → EventKept s st (inner s (limitOf s) st r)
+  unfolding inner internalFits nameFits reactionAwaits isReaction
   inner-kept st o r = taking-kept s st o (innerOf r) _ (λ t st′ h p o′.
       let same : t .receiver ≡ r = same-word _ _ (and-second _ _ p) in
       let i = internal-part s t h (and-first _ _ p) in
@@ -166,7 +166,7 @@ module _ (s : List ℕ) (ok : checkOf s ≡ Passed) where
       let f = where-found s _ (x .1) (d .0) (d .1) in
       let three : role (d .0) ≡ internalReaction = eqb-true _ _ (and-first _ _ (f .1)) in
       let below = and-first _ _ (and-first _ _ named) in
-      subst (EventKept s st) (sym (number-is r _ _ (subst (λ z. isBelow z (componentsOf s) ≡ true) same (receiver-below t h)) ∙ number-is (t .name) _ _ below ∙ ap (λ g. reacting s st (natAbs r) g t st′) (body-of s ok (natAbs r) (x .0) (x .1) (x .2) _ ∙ d .1)))
+      subst (EventKept s st) (sym (number-is r _ _ (subst (λ z. isBelow z (componentsOf s) ≡ true) same (receiver-below t h)) ∙ number-is (t .name) _ _ below ∙ ap (λ g. reacting s (limitOf s) st (natAbs r) g t st′) (body-of s ok (natAbs r) (x .0) (x .1) (x .2) _ ∙ d .1)))
       (reacting-kept s ok (natAbs r) (x .0) (x .1) (x .2) (d .0) (f .0) t (eqb-true _ _ (and-second _ _ (f .1))) below fits (rw three (and-true _ _ refl refl)) st st′ o′))
 
   -- ---- 5 Slice
@@ -193,8 +193,8 @@ module _ (s : List ℕ) (ok : checkOf s ≡ Passed) where
         same (suc (suc (suc zero))) l = refl
         same (suc (suc (suc (suc j)))) l = absurd (omega arith)
 
-    kind-kept : (k : Kind) → wellFormed s ev k ≡ true → EventKept s st (happensAs s st ev k)
-    unfolding wellFormed happensAsWithin
+    kind-kept : (k : Kind) → wellFormed s ev k ≡ true → EventKept s st (happensAs s (limitOf s) st ev k)
+    unfolding wellFormed happensAs
     kind-kept kind.outside h = outside-kept st o (telegramOfEvent ev) (sent-outside h)
     kind-kept kind.deliver h = deliver-kept st o (wordOf ev 1) (wordOf ev 2)
     kind-kept kind.corrupt h = let r = and-first _ _ (and-second _ _ h) in corrupt-kept st o (wordOf ev 1) (wordOf ev 2) (and-first _ _ r) (bound-word s (wordOf ev 2) (and-first _ _ r) (not-true _ (and-second _ _ r)))
@@ -202,24 +202,24 @@ module _ (s : List ℕ) (ok : checkOf s ≡ Passed) where
     kind-kept kind.slice h = slice-ends st o
     kind-kept kind.noKind h = absurd (true-false h refl)
 
-    pub happens-kept : wellFormed s ev (kindOf (wordOf ev 0)) ≡ true → EventKept s st (happens s st ev)
-    unfolding happensWithin
+    pub happens-kept : wellFormed s ev (kindOf (wordOf ev 0)) ≡ true → EventKept s st (happens s (limitOf s) st ev)
+    unfolding happens
     happens-kept h = kind-kept (kindOf (wordOf ev 0)) h
 
     -- what is left of an event's call on a passed sheet and a state of it
-    called : eventCall s st st ev ≡ elim (isEvent s ev) [ true ↦ happens s st ev | false ↦ turnedDown 4 st ]
-    unfolding eventCallBy ifPassed
+    called : eventCall s (limitOf s) st st ev ≡ elim (isEvent s ev) [ true ↦ happens s (limitOf s) st ev | false ↦ turnedDown 4 st ]
+    unfolding eventCall ifPassed
     called =
         let whole : eqb (length st) (stateLength s) ≡ true = eq-eqb _ _ (o .whole) in
-        ap (λ c. ifPassed c st (λ result. elim (eqb (length st) (stateLength s) and eqb (length result) (stateLength s)) [ true ↦ elim (contentFits s st) [ true ↦ elim (isEvent s ev) [ true ↦ happens s st ev | false ↦ turnedDown 4 result ] | false ↦ turnedDown 3 result ] | false ↦ turnedDown 3 result ])) ok
-        ∙ ap (λ b. elim b as (λ b. Outcome) [ true ↦ elim (contentFits s st) as (λ b. Outcome) [ true ↦ elim (isEvent s ev) [ true ↦ happens s st ev | false ↦ turnedDown 4 st ] | false ↦ turnedDown 3 st ] | false ↦ turnedDown 3 st ]) (and-true _ _ whole whole)
-        ∙ ap (λ b. elim b as (λ b. Outcome) [ true ↦ elim (isEvent s ev) [ true ↦ happens s st ev | false ↦ turnedDown 4 st ] | false ↦ turnedDown 3 st ]) (of-content s st o)
+        ap (λ c. ifPassed c st (λ result. elim (eqb (length st) (stateLength s) and eqb (length result) (stateLength s)) [ true ↦ elim (contentFits s st) [ true ↦ elim (isEvent s ev) [ true ↦ happens s (limitOf s) st ev | false ↦ turnedDown 4 result ] | false ↦ turnedDown 3 result ] | false ↦ turnedDown 3 result ])) ok
+        ∙ ap (λ b. elim b as (λ b. Outcome) [ true ↦ elim (contentFits s st) as (λ b. Outcome) [ true ↦ elim (isEvent s ev) [ true ↦ happens s (limitOf s) st ev | false ↦ turnedDown 4 st ] | false ↦ turnedDown 3 st ] | false ↦ turnedDown 3 st ]) (and-true _ _ whole whole)
+        ∙ ap (λ b. elim b as (λ b. Outcome) [ true ↦ elim (isEvent s ev) [ true ↦ happens s (limitOf s) st ev | false ↦ turnedDown 4 st ] | false ↦ turnedDown 3 st ]) (of-content s st o)
 
     -- malformed ones are 4, and the result state is untouched
-    pub event-kept : EventKept s st (eventCall s st st ev)
+    pub event-kept : EventKept s st (eventCall s (limitOf s) st st ev)
     unfolding isEvent
     event-kept = subst (EventKept s st) (sym called) (go (isEvent s ev) refl)
       where
-        go : (b : Bool) → isEvent s ev ≡ b → EventKept s st (elim b [ true ↦ happens s st ev | false ↦ turnedDown 4 st ])
+        go : (b : Bool) → isEvent s ev ≡ b → EventKept s st (elim b [ true ↦ happens s (limitOf s) st ev | false ↦ turnedDown 4 st ])
         go true q = happens-kept (and-second _ _ q)
         go false q = (inr (omega arith, omega arith), λ z. absurd (omega arith), λ n. refl)

@@ -9,9 +9,9 @@ use borrow.Author.Tests.{eqb-true}
 use Rattle.machine.specs.declared.Answer.{Answer}
 use Rattle.sheet_rules.specs.declared.Checked.the-variants.{Passed}
 use Rattle.machine.specs.Valid.{OfSheet}
-use Rattle.machine.specs.Play.{Outcome, ended, stuck, eventCall}
+use Rattle.machine.specs.Play.{Outcome, ended, stuck, eventCall, limitOf}
 use Rattle.sheet_rules.specs.Check.{checkOf}
-use Rattle.machine.specs.Lists.{Played, played, nowhere, thenPlayed, afterAnswer, goesOn, eventsOf, eventsOfBy}
+use Rattle.machine.specs.Lists.{Played, played, nowhere, thenPlayed, afterAnswer, goesOn, eventsOf}
 use Rattle.machine_promise.specs.Promise.{OneOf, EventKept, StartKept, ListKept, PassedKept}
 use Rattle.machine_promise.proofs.Events.{event-kept}
 use Rattle.machine_promise.proofs.Start.{start-kept}
@@ -37,10 +37,10 @@ module _ (s : List ℕ) (ok : checkOf s ≡ Passed) where
   then-kept old o (ended a st) K h k = also-kept a (K a st) (h .0) (k a st (on-kept old o a st h))
   then-kept old o stuck K h k = h
 
-  pub list-kept : (evs : List (List ℤ)) (st : List ℤ) → OfSheet s st → ListKept s (eventsOf s st evs)
-  unfolding eventsOfBy
+  pub list-kept : (evs : List (List ℤ)) (st : List ℤ) → OfSheet s st → ListKept s (eventsOf s (limitOf s) st evs)
+  unfolding eventsOf
   list-kept [] st o = (tt, o, one-reaction s ok st o)
-  list-kept (ev ∷ evs) st o = then-kept st o (eventCall s st st ev) _ (event-kept s ok st ev o) (λ a new o′. list-kept evs (goesOn a st new) o′)
+  list-kept (ev ∷ evs) st o = then-kept st o (eventCall s (limitOf s) st st ev) _ (event-kept s ok st ev o) (λ a new o′. list-kept evs (goesOn a st new) o′)
 
 pub promise : PassedKept
 promise s ok = record {

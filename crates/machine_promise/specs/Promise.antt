@@ -18,7 +18,7 @@ use Rattle.sheet_rules.specs.Types.{reactsTo}
 use Rattle.machine.specs.Values.{isZero, chartOf}
 use Rattle.machine.specs.State.{cellOf, lastRefusal, stateLength, wordOf, waiting, telegramOf, isInternal}
 use Rattle.machine.specs.Valid.{OfSheet}
-use Rattle.machine.specs.Play.{Outcome, ended, stuck, startCall, eventCall}
+use Rattle.machine.specs.Play.{Outcome, ended, stuck, startCall, eventCall, limitOf}
 use Rattle.sheet_rules.specs.Check.{checkOf}
 use Rattle.machine.specs.Lists.{Played, played, nowhere, eventsOf}
 
@@ -77,10 +77,10 @@ ListKept s (played answers st) = AllAnswered answers × OfSheet s st × OneReact
 ListKept s nowhere = ⊥
 
 pub record Promise (s : List ℕ) : Type 0 where
-  pub start : (lent : List ℤ) → length lent ≡ stateLength s → StartKept s (startCall s lent)
-  pub event : (old ev : List ℤ) → OfSheet s old → EventKept s old (eventCall s old old ev)
+  pub start : (lent : List ℤ) → length lent ≡ stateLength s → StartKept s (startCall s (limitOf s) lent)
+  pub event : (old ev : List ℤ) → OfSheet s old → EventKept s old (eventCall s (limitOf s) old old ev)
   -- from an accepted start, the empty list too
-  pub list : (lent : List ℤ) (a : Answer) (st : List ℤ) → startCall s lent ≡ ended a st → length lent ≡ stateLength s → a .number ≡ 0 → (evs : List (List ℤ)) → ListKept s (eventsOf s st evs)
+  pub list : (lent : List ℤ) (a : Answer) (st : List ℤ) → startCall s (limitOf s) lent ≡ ended a st → length lent ≡ stateLength s → a .number ≡ 0 → (evs : List (List ℤ)) → ListKept s (eventsOf s (limitOf s) st evs)
 
 -- for every sheet that the rules pass
 abbrev pub PassedKept : Type 0

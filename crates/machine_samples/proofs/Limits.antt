@@ -5,7 +5,7 @@ use mathlib.Core.Path.{_≡_, refl}
 use lib.ListN.{replicate}
 use lib.IntN.{pos}
 use Rattle.sheet_rules.proofs.Samples.{sheetOf, rec3, rec6}
-use Rattle.machine.specs.Play.{Outcome, eventCall}
+use Rattle.machine.specs.Play.{Outcome, eventCall, limitOf}
 use Rattle.machine.proofs.Samples.{start, answered, words, waits, sent}
 
 -- a body with one local
@@ -44,7 +44,7 @@ start-2001 = refl
 -- a Corrupt of what waits for element 2, as a whole call
 corrupted : List (List ℕ) → Outcome
 unfolding start words waits sent
-corrupted ss = eventCall (sheetOf ss) (waits 1 [] (sent 0 2)) (replicate 1032 (pos 0)) (words 3 0 2)
+corrupted ss = eventCall (sheetOf ss) (limitOf (sheetOf ss)) (waits 1 [] (sent 0 2)) (replicate 1032 (pos 0)) (words 3 0 2)
 
 event-2000 : corrupted (unlimited exactly 12 11) ≡ answered 0 2000 (replicate 1032 (pos 0))
 unfolding corrupted answered unlimited counting exactly

@@ -7,7 +7,7 @@ use lib.IntN.{ℤ, pos, negsuc}
 use Rattle.sheet_rules.proofs.Samples as rules
 use Rattle.sheet_rules.proofs.Samples.{sheetOf, check, assigning, sending}
 use Rattle.machine.specs.declared.Out.the-variants.{Refused}
-use Rattle.machine.specs.Play.{Outcome, eventCall}
+use Rattle.machine.specs.Play.{Outcome, eventCall, limitOf}
 use Rattle.machine.proofs.Samples as machine
 use Rattle.machine.proofs.Samples.{int, on-ints, start, event, answered, words, row, play, timeout, cycler, slices, waits, sent, copies, reacts, sends, once, twice, sixteens, atEight, full}
 
@@ -50,7 +50,7 @@ limit-one = machine.limit-one
 -- a whole call; the state lent for the result is all zeros
 call : List (List ℕ) → List ℤ → List ℤ → Outcome
 unfolding start
-call ss st ev = eventCall (sheetOf ss) st (replicate (length st) (pos 0)) ev
+call ss st ev = eventCall (sheetOf ss) (limitOf (sheetOf ss)) st (replicate (length st) (pos 0)) ev
 
 -- "127 waiting, Outside: 0; 128: 8."
 outside-127 : call (once 8) (waits 127 [] (atEight 15 [])) (words 1 0 8) ≡ answered 0 0 (waits 128 [] (atEight 16 []))

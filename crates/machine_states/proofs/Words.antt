@@ -1,5 +1,5 @@
 -- The words of a state after a change: one word, some words in a row, a telegram appended, a telegram removed.
-use Prim.Native.Nat.{ℕ, _+_, _-_, _<_, _≤_}
+use Prim.Native.Nat.{ℕ, _+_, _*_, _-_, _<_, _≤_}
 use mathlib.Core.Path.{_≡_, sym, ap, _∙_}
 use mathlib.Core.Logic.{_≢_}
 use mathlib.Core.List.{List, _++_}
@@ -8,7 +8,7 @@ use lib.ListN.{length, take, drop, set, replicate, length-append, length-drop, l
 use lib.Seq.{length-take-le, getD-take, getD-drop, getD-append-add, getD-set-same, getD-set-other}
 use lib.IntN.{ℤ, pos, natAbs}
 use Rattle.machine.specs.declared.Telegram.{Telegram}
-use Rattle.machine.specs.State.{places, placeAt, stateLength, wordOf, waiting, setWaiting, telegramIn, telegramOf, wordsOf, putWords, withTelegram, withoutTelegram}
+use Rattle.machine.specs.State.{places, placeAt, stateLength, wordOf, waiting, setWaiting, telegramIn, telegramOf, wordsOf, putWords, placesFrom, withTelegram, withoutTelegram}
 use Rattle.machine_states.proofs.Frame.{Same, telegram-same}
 
 -- ---- lists one after another
@@ -127,23 +127,26 @@ module _ (s : List ℕ) (st : List ℤ) (t : Telegram) (whole : length st ≡ st
 -- ---- a telegram removed
 
 module _ (s : List ℕ) (st : List ℤ) (j : ℕ) (whole : length st ≡ stateLength s) (here : j < waiting st) (limit : waiting st ≤ places) where
+  -- what stands in the places from j on once later ones closed up
   abbrev closed : List ℤ
-  closed = take (placeAt s j) st ++ drop (placeAt s (j + 1)) st
+  closed = placesFrom s st (j + 1) ++ replicate 8 (pos 0)
 
   abbrev removed : List ℤ
-  removed = closed ++ replicate 8 (pos 0)
+  removed = putWords st (placeAt s j) closed
 
-  kept-length : length (take (placeAt s j) st) ≡ placeAt s j
-  unfolding placeAt stateLength
-  kept-length = length-take-le (placeAt s j) st (omega arith)
+  later-length : length (placesFrom s st (j + 1)) ≡ 8 * (places - (j + 1))
+  unfolding placesFrom placeAt stateLength
+  later-length = length-take-le (8 * (places - (j + 1))) (drop (placeAt s (j + 1)) st) (omega (arith, length-drop (placeAt s (j + 1)) st))
 
-  closed-length : length closed ≡ placeAt s 127
+  closed-length : length closed ≡ 8 * (places - j)
+  closed-length = omega (arith, length-append (placesFrom s st (j + 1)) (replicate 8 (pos 0)), later-length)
+
+  closed-fits : placeAt s j + length closed ≤ length st
   unfolding placeAt stateLength
-  closed-length = omega (arith, length-append (take (placeAt s j) st) (drop (placeAt s (j + 1)) st), kept-length, length-drop (placeAt s (j + 1)) st)
+  closed-fits = omega (arith, closed-length)
 
   removed-length : length removed ≡ length st
-  unfolding placeAt stateLength
-  removed-length = omega (arith, length-append closed (replicate 8 (pos 0)), closed-length)
+  removed-length = length-put st (placeAt s j) closed closed-fits
 
   pub without-length : length (withoutTelegram s st j) ≡ length st
   unfolding withoutTelegram
@@ -158,25 +161,35 @@ module _ (s : List ℕ) (st : List ℤ) (j : ℕ) (whole : length st ≡ stateLe
   without-waiting = ap natAbs without-head
 
   pub without-before : (i : ℕ) → 0 < i → i < placeAt s j → wordOf (withoutTelegram s st j) i ≡ wordOf st i
-  unfolding withoutTelegram wordOf placeAt
-  without-before i p l =
-      word-not-waiting removed (waiting st - 1) i p
-      ∙ word-front closed (replicate 8 (pos 0)) i (omega (arith, closed-length))
-      ∙ word-front (take (placeAt s j) st) (drop (placeAt s (j + 1)) st) i (omega (arith, kept-length))
-      ∙ getD-take (placeAt s j) st i (pos 0) l
+  unfolding withoutTelegram
+  without-before i p l = word-not-waiting removed (waiting st - 1) i p ∙ word-put-before st (placeAt s j) closed closed-fits i l
 
-  pub without-behind : (i : ℕ) → placeAt s j ≤ i → i + 8 < stateLength s → wordOf (withoutTelegram s st j) i ≡ wordOf st (i + 8)
-  unfolding withoutTelegram wordOf placeAt stateLength
+  pub without-behind : (i : ℕ) → placeAt s j ≤ i → i + 8 < placeAt s places → wordOf (withoutTelegram s st j) i ≡ wordOf st (i + 8)
+  unfolding withoutTelegram wordOf placeAt placesFrom
   without-behind i p l =
-      let e : placeAt s j + (i - placeAt s j) ≡ i = omega arith in
-      let f : placeAt s (j + 1) + (i - placeAt s j) ≡ i + 8 = omega arith in
+      let k = i - placeAt s j in
+      let e : placeAt s j + k ≡ i = omega arith in
+      let f : placeAt s (j + 1) + k ≡ i + 8 = omega arith in
       word-not-waiting removed (waiting st - 1) i (omega arith)
-      ∙ word-front closed (replicate 8 (pos 0)) i (omega (arith, closed-length))
-      ∙ (rw (e, f) at (word-rest (take (placeAt s j) st) (drop (placeAt s (j + 1)) st) (placeAt s j) (i - placeAt s j) kept-length ∙ getD-drop (placeAt s (j + 1)) st (i - placeAt s j) (pos 0)))
+      ∙ (rw e at (word-put-in st (placeAt s j) closed closed-fits k (omega (arith, closed-length))))
+      ∙ word-front (placesFrom s st (j + 1)) (replicate 8 (pos 0)) k (omega (arith, later-length))
+      ∙ getD-take (8 * (places - (j + 1))) (drop (placeAt s (j + 1)) st) k (pos 0) (omega arith)
+      ∙ (rw f at (getD-drop (placeAt s (j + 1)) st k (pos 0)))
 
   pub without-last : (k : ℕ) → k < 8 → wordOf (withoutTelegram s st j) (placeAt s 127 + k) ≡ pos 0
   unfolding withoutTelegram wordOf placeAt
-  without-last k l = word-not-waiting removed (waiting st - 1) (placeAt s 127 + k) (omega arith) ∙ word-rest closed (replicate 8 (pos 0)) (placeAt s 127) k closed-length ∙ getD-replicate 8 k (pos 0) (pos 0) l
+  without-last k l =
+      let n = 8 * (places - (j + 1)) in
+      let e : placeAt s j + (n + k) ≡ placeAt s 127 + k = omega arith in
+      word-not-waiting removed (waiting st - 1) (placeAt s 127 + k) (omega arith)
+      ∙ (rw e at (word-put-in st (placeAt s j) closed closed-fits (n + k) (omega (arith, closed-length))))
+      ∙ word-rest (placesFrom s st (j + 1)) (replicate 8 (pos 0)) n k later-length
+      ∙ getD-replicate 8 k (pos 0) (pos 0) l
+
+  -- what stands behind the places
+  pub without-kept : (i : ℕ) → placeAt s places ≤ i → wordOf (withoutTelegram s st j) i ≡ wordOf st i
+  unfolding withoutTelegram placeAt
+  without-kept i l = word-not-waiting removed (waiting st - 1) i (omega arith) ∙ word-put-behind st (placeAt s j) closed closed-fits i (omega (arith, closed-length))
 
   pub without-earlier : (k : ℕ) → k < j → telegramOf s (withoutTelegram s st j) k ≡ telegramOf s st k
   unfolding telegramOf placeAt

@@ -10,7 +10,7 @@ use Rattle.sheet_rules.specs.declared.Checked.the-variants.{Passed, Shape, Stat
 use Rattle.machine.specs.declared.Handed.the-variants.{Nothing}
 use Rattle.machine.specs.State.{placeAt, stateLength}
 use Rattle.sheet_rules.specs.Check.{checkOf}
-use Rattle.machine.specs.Play.{answer}
+use Rattle.machine.specs.Play.{answer, limitOf}
 use Rattle.machine.specs.Lists.{StartGives}
 use Rattle.machine_passed.proofs.Records.{cells-limit}
 use Rattle.machine_events.proofs.Laws.{start-shape, start-static, start-is}
@@ -27,7 +27,7 @@ module _ (s : List ℕ) where
   static-answers h = (answer 2 0 Nothing, fresh, sym (start-static s fresh h), refl)
 
   -- what start answers doesn't depend on the words of the state that is lent
-  pub start-answers : (lent : List ℤ) (a : Answer) (st : List ℤ) → checkOf s ≡ Passed → length lent ≡ stateLength s → StartGives s lent a st → StartAnswers s (a .number)
+  pub start-answers : (lent : List ℤ) (a : Answer) (st : List ℤ) → checkOf s ≡ Passed → length lent ≡ stateLength s → StartGives s (limitOf s) lent a st → StartAnswers s (a .number)
   start-answers lent a st ok l g = (a, st, g ∙ start-is s lent ok l ∙ sym (start-is s fresh ok (length-replicate (stateLength s) (pos 0))), refl)
 
 pub room : (s : List ℕ) → checkOf s ≡ Passed → stateLength s ≤ 5128

@@ -18,14 +18,14 @@ cast-first-word c = search needs
 first-word-requires : tie.Need-first-word-requires
 first-word-requires c κs = let l = c .before .before .before .before .pre in (l .whole, l .number, let h = l .inside in let k = l .short in omega arith)
 
-set-clock-requires : tie.Need-set-clock-requires
-set-clock-requires c κs = let l = c .before .before .before .before .before .pre in let h = l .inside in let e = c .first-word .ensures in omega arith
+set-cell-requires : tie.Need-set-cell-requires
+set-cell-requires c κs = let l = c .before .before .before .before .before .pre in let h = l .inside in let e = c .first-word .ensures in omega arith
 
 same-length : tie.Need-same-length
 same-length c = search needs
 
 returns : tie.Need-returns
-returns c = λ s lo n depth v. ap (λ st. world (Done (c .before .before .before .before .before .before .before .args .left)) st lo) (rw (word-back _ (eqb (c .before .before .before .before .before .before .before .args .r .f0) 38) (c .before .before .before .before .before .bool-word .ensures)) at (rw (c .before .before .first-word .ensures) at (c .before .set-clock .ensures))) ∙ clock-runs s _ _ lo n _ v depth _
+returns c = λ s lo n depth v. ap (λ st. world (Done (c .before .before .before .before .before .before .before .args .left)) st lo) (rw (word-back _ (eqb (c .before .before .before .before .before .before .before .args .r .f0) 38) (c .before .before .before .before .before .bool-word .ensures)) at (rw (c .before .before .first-word .ensures) at (c .before .set-cell .ensures))) ∙ clock-runs s _ _ lo n _ v depth _
 
 pub clock-spec : {M : Type 1} → statement M
 clock-spec =
@@ -34,6 +34,6 @@ clock-spec =
     bool-word-requires
     cast-first-word
     first-word-requires
-    set-clock-requires
+    set-cell-requires
     same-length
     returns)

@@ -10,9 +10,10 @@ use Rattle.engine_answers.specs.Words.{eventAt, eventsFrom, inWords}
 use Rattle.engine_list_events.proofs.Laws.{steps-small, behind, rest, no-event-yet, event-more, all-events}
 use Rattle.engine_list_events.proofs.play_on.Statement.{statement}
 use Rattle.engine_list_events.proofs.play_on.Tie as tie
+use Rattle.machine.specs.Play.{limitOf}
 
 abbrev Inv-loop : tie.InvT-loop
-Inv-loop sheet directory cells events st₀ spare₀ answers₀ count i₀ st spare answers i = Playing sheet directory st × (length st ≡ length st₀) × (length spare ≡ length spare₀) × (length answers ≡ length answers₀) × (i ≤ count) × (count ≡ length events / 9) × (inWords (eventsOf sheet st₀ (eventsFrom events count 0)) ≡ behind (take (10 * i) answers) (rest sheet directory events count i st))
+Inv-loop sheet directory cells events st₀ spare₀ answers₀ count i₀ st spare answers i = Playing sheet directory st × (length st ≡ length st₀) × (length spare ≡ length spare₀) × (length answers ≡ length answers₀) × (i ≤ count) × (count ≡ length events / 9) × (inWords (eventsOf sheet (limitOf sheet) st₀ (eventsFrom events count 0)) ≡ behind (take (10 * i) answers) (rest sheet directory events count i st))
 
 abbrev μ-loop : tie.MeasureT-loop
 μ-loop sheet directory cells events st₀ spare₀ answers₀ count i₀ st spare answers i = count - i

@@ -3,7 +3,7 @@ use mathlib.Core.Path.{_≡_, sym, subst, _∙_}
 use native.Mathlib.Omega.{arith}
 use borrow.Author.Needs.{needs}
 use Rattle.machine.specs.Valid.{OfSheet}
-use Rattle.machine.specs.Play.{started, startFrom}
+use Rattle.machine.specs.Play.{started, startFrom, limitOf}
 use Rattle.machine_states.proofs.Default.{default-of-sheet}
 use Rattle.machine_events.proofs.Begins.{begins, ends, few, here-bound, not-stuck, done-left, done-kept, done-next, refused-left, refused-ends}
 use Rattle.engine_starts.proofs.from_defaults.Statement.{statement}
@@ -11,7 +11,7 @@ use Rattle.engine_starts.proofs.from_defaults.Tie as tie
 
 abbrev Inv-loop : tie.InvT-loop
 Inv-loop sheet directory cells st₀ first count most steps₀ i₀ st steps i =
-    (i ≤ count) × OfSheet sheet st × (steps ≤ i * 65535) × (started sheet ≡ startFrom sheet (count - i) (first + i) steps st)
+    (i ≤ count) × OfSheet sheet st × (steps ≤ i * 65535) × (started sheet (limitOf sheet) ≡ startFrom sheet (limitOf sheet) (count - i) (first + i) steps st)
 
 abbrev μ-loop : tie.MeasureT-loop
 μ-loop sheet directory cells st₀ first count most steps₀ i₀ st steps i = count - i

@@ -51,8 +51,8 @@ returns-2 : tie.Need-returns-2
 unfolding wordOf
 returns-2 c = λ s e n. timeout-fires s _ _ _ n (bits-same {z = getD (c .before .before .before .before .before .before .args .st .now) (c .before .before .before .before .before .before .args .at + 1) (pos 0)} {w = pos 1} (record { sfits = c .before .before .before .before .before .value .given }) (record { sfits = omega arith }) (c .before .before .before .before .if1 .left)) ∙ then-refused _ _ _ _ _ (c .before .before .fire .ensures s e) (c .if2 .taken)
 
-set-clock-requires : tie.Need-set-clock-requires
-set-clock-requires c κs = search needs
+set-cell-requires : tie.Need-set-cell-requires
+set-cell-requires c κs = search needs
 
 same-length-3 : tie.Need-same-length-3
 same-length-3 c = search needs
@@ -67,7 +67,7 @@ returns-3 c =
     let args = c .before .before .before .before .before .before .before .before .before .args in
     let bits-same-here = bits-same {z = getD (args .st .now) (args .at + 1) (pos 0)} {w = pos 1} (record { sfits = value .given })
     (record { sfits = omega arith }) (if1 .left) in
-    λ s e n. timeout-fires s _ _ _ n bits-same-here ∙ then-done _ _ _ _ (fire .ensures s e) (if2 .left) ∙ ap on (sym (c .before .set-clock .ensures))
+    λ s e n. timeout-fires s _ _ _ n bits-same-here ∙ then-done _ _ _ _ (fire .ensures s e) (if2 .left) ∙ ap on (sym (c .before .set-cell .ensures))
 
 pub tick-timeout-spec : {M : Type 1} → statement M
 tick-timeout-spec =
@@ -85,6 +85,6 @@ tick-timeout-spec =
     fire-requires
     same-length-2
     returns-2
-    set-clock-requires
+    set-cell-requires
     same-length-3
     returns-3)
