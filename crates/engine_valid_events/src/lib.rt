@@ -10,7 +10,7 @@ ghost use Rattle.machine.specs.State.{wordOf};
 ghost use Rattle.machine.specs.Kinds as kind;
 ghost use Rattle.machine.specs.Play.{wordsOfEvent, restZero, boundWord, wellFormed};
 ghost use Rattle.machine_events.specs.Event.{eventOf, isMalformed};
-ghost use Rattle.engine_valid_events.specs.Read.{Read};
+ghost use Rattle.engine_valid_events.specs.Read.{readAs};
 
 // Whether the words from number i on are 0.
 fn rest_zero(ev: &[i32], i: usize) -> bool
@@ -105,7 +105,7 @@ fn inner_formed(sheet: &[u8], directory: &[usize; 16], ev: &[i32]) -> bool
 // Each kind's words, or Malformed.
 fn outside(sheet: &[u8], directory: &[usize; 16], ev: &[i32]) -> Event
     requires { ⌜ (now directory ≡ directoryOf (now sheet)) × (length (now ev) ≡ wordsOfEvent) ⌝ }
-    ensures { λ e. ⌜ Read (now (sheet .entry)) (now (ev .entry)) kind.outside e ⌝ }
+    ensures { λ e. ⌜ e ≡ readAs (now (sheet .entry)) (now (ev .entry)) kind.outside ⌝ }
 {
     if outside_formed(sheet, directory, ev) {
         return Event::Outside(engine_store::telegram_in(ev, 1));
@@ -115,7 +115,7 @@ fn outside(sheet: &[u8], directory: &[usize; 16], ev: &[i32]) -> Event
 
 fn deliver(sheet: &[u8], directory: &[usize; 16], ev: &[i32]) -> Event
     requires { ⌜ (now directory ≡ directoryOf (now sheet)) × (length (now ev) ≡ wordsOfEvent) ⌝ }
-    ensures { λ e. ⌜ Read (now (sheet .entry)) (now (ev .entry)) kind.deliver e ⌝ }
+    ensures { λ e. ⌜ e ≡ readAs (now (sheet .entry)) (now (ev .entry)) kind.deliver ⌝ }
 {
     if deliver_formed(sheet, directory, ev) {
         return Event::Deliver {
@@ -128,7 +128,7 @@ fn deliver(sheet: &[u8], directory: &[usize; 16], ev: &[i32]) -> Event
 
 fn corrupt(sheet: &[u8], directory: &[usize; 16], ev: &[i32]) -> Event
     requires { ⌜ (now directory ≡ directoryOf (now sheet)) × (length (now ev) ≡ wordsOfEvent) ⌝ }
-    ensures { λ e. ⌜ Read (now (sheet .entry)) (now (ev .entry)) kind.corrupt e ⌝ }
+    ensures { λ e. ⌜ e ≡ readAs (now (sheet .entry)) (now (ev .entry)) kind.corrupt ⌝ }
 {
     if corrupt_formed(sheet, directory, ev) {
         return Event::Corrupt {
@@ -141,7 +141,7 @@ fn corrupt(sheet: &[u8], directory: &[usize; 16], ev: &[i32]) -> Event
 
 fn inner(sheet: &[u8], directory: &[usize; 16], ev: &[i32]) -> Event
     requires { ⌜ (now directory ≡ directoryOf (now sheet)) × (length (now ev) ≡ wordsOfEvent) ⌝ }
-    ensures { λ e. ⌜ Read (now (sheet .entry)) (now (ev .entry)) kind.inner e ⌝ }
+    ensures { λ e. ⌜ e ≡ readAs (now (sheet .entry)) (now (ev .entry)) kind.inner ⌝ }
 {
     if inner_formed(sheet, directory, ev) {
         return Event::Inner {
@@ -153,7 +153,7 @@ fn inner(sheet: &[u8], directory: &[usize; 16], ev: &[i32]) -> Event
 
 fn slice(ev: &[i32]) -> Event
     requires { ⌜ length (now ev) ≡ wordsOfEvent ⌝ }
-    ensures { λ e. ⌜ ((s : List ℕ) → Read s (now (ev .entry)) kind.slice e) ⌝ }
+    ensures { λ e. ⌜ ((s : List ℕ) → e ≡ readAs s (now (ev .entry)) kind.slice) ⌝ }
 {
     if rest_zero(ev, 1) {
         return Event::Slice;
