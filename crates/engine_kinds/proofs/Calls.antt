@@ -9,8 +9,8 @@ use Rattle.machine.specs.declared.Answer.{Answer}
 use Rattle.machine.specs.declared.Handed.the-variants.{Nothing}
 use Rattle.machine.specs.declared.Telegram.{Telegram}
 use Rattle.sheet_rules.specs.Fields.{externalsOf, elementsOf}
-use Rattle.machine.specs.State.{telegramIn, Changed, appended}
-use Rattle.machine.specs.Play.{Outcome, ended, answer, outside, slice, slicedFrom, telegramOfEvent, changeEnd}
+use Rattle.machine.specs.State.{Changed, appended}
+use Rattle.machine.specs.Play.{Outcome, ended, answer, outside, slice, slicedFrom, changeEnd}
 use Rattle.sheet_rules.specs.Check.{checkOf}
 use Rattle.machine_events.proofs.Laws.{slice-is}
 use Rattle.engine_queue.specs.Changed.{changedTo}
@@ -47,6 +47,6 @@ module _ (s : List ℕ) (ok : checkOf s ≡ Passed) (old st new : List ℤ) (sam
 
 -- ---- Outside
 
-pub sent : (s : List ℕ) (st ev new : List ℤ) (n : ℕ) (t : Telegram) → t ≡ telegramIn ev 1 → appended s st t ≡ changedTo n new → ((n ≡ 0 → ⊥) → new ≡ st) → (a : Answer) → a ≡ answer n 0 Nothing → ended a new ≡ outside s st (telegramOfEvent ev)
-unfolding outside telegramIn
-sent s st ev new n t q h same a e = change-ends st new _ n (ap (appended s st) (sym q) ∙ h) same a e
+pub sent : (s : List ℕ) (st new : List ℤ) (n : ℕ) (t : Telegram) → appended s st t ≡ changedTo n new → ((n ≡ 0 → ⊥) → new ≡ st) → (a : Answer) → a ≡ answer n 0 Nothing → ended a new ≡ outside s st t
+unfolding outside
+sent s st new n t h same a e = change-ends st new _ n h same a e
