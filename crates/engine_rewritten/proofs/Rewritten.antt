@@ -18,7 +18,7 @@ use Rattle.sheet_limits.proofs.Check.{same-checkOf, same-checkCall}
 use Rattle.machine.specs.Play.{Outcome, ended, defaultLimit, writtenLimit, limitBy, limitOf}
 use Rattle.machine.specs.Lists.{Played, played, afterAnswer, goesOn}
 use Rattle.machine_passed.proofs.Records.{head-there}
-use Rattle.machine_limits.proofs.Limit.{limit-zero, limit-given}
+use Rattle.machine.proofs.Limit.{limit-zero, limit-given}
 use Rattle.machine_limits.proofs.State.{same-stateLength}
 use Rattle.machine_limits.proofs.Calls.{same-startCall, same-eventCall, same-playOf}
 use Rattle.machine_words.specs.Words.{Bytes, Words}

@@ -1,4 +1,3 @@
-pub mod Limit
 pub mod Values
 pub mod State
 pub mod Valid

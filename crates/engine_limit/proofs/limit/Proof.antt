@@ -5,7 +5,7 @@ use mathlib.Core.List.{List}
 use borrow.Author.Needs.{needs}
 use Rattle.sheet_rules.specs.Fields.{fieldOf, fieldAt}
 use Rattle.machine.specs.Play.{defaultLimit, limitOf}
-use Rattle.machine_limits.proofs.Limit.{limit-zero, limit-given}
+use Rattle.machine.proofs.Limit.{limit-zero, limit-given}
 use Rattle.engine_limit.proofs.limit.Statement.{statement}
 use Rattle.engine_limit.proofs.limit.Tie as tie
 
