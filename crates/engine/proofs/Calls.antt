@@ -2,7 +2,7 @@
 use Prim.Native.Nat.{ℕ}
 use mathlib.Core.Path.{_≡_, sym, ap, subst, _∙_}
 use mathlib.Core.List.{List}
-use mathlib.Core.Bool.{true, false}
+use mathlib.Core.Bool.{Bool, true, false, not}
 use lib.ListN.{length}
 use lib.IntN.{ℤ}
 use Rattle.sheet.specs.Sheet.{directoryOf}
@@ -11,24 +11,28 @@ use Rattle.sheet_rules.specs.declared.Checked.the-variants.{Passed, Shape, Stat
 use Rattle.machine.specs.declared.Handed.the-variants.{Nothing}
 use Rattle.machine.specs.State.{stateLength}
 use Rattle.machine.specs.Valid.{contentFits, OfSheet}
-use Rattle.machine.specs.Play.{ended, answer, isEvent, happens, limitOf}
+use Rattle.machine.specs.Play.{ended, answer, isEvent, limitOf}
 use Rattle.sheet_rules.specs.Check.{checkOf}
 use Rattle.machine.specs.Lists.{EventGives}
 use Rattle.machine_states.proofs.Parts.{of-content, content-of}
 use Rattle.machine_events.proofs.Laws.{event-shape, event-static, event-old-length, event-result-length, event-content, event-malformed, event-happens}
-use Rattle.machine_events.specs.Playing.{Playing}
+use Rattle.machine_events.specs.declared.Event.{Event}
+use Rattle.machine_events.specs.Event.{eventOf, isMalformed, happensBy}
+use Rattle.machine_events.proofs.Apart.{malformed-is, happens-by, event-by}
+use Rattle.engine_cells.specs.Cells.{CellTable}
+use Rattle.engine_cells.specs.Playing.{Playing}
 use Rattle.engine_kinds.proofs.Calls.{down}
 
 -- ---- the next event of a list
 
-module _ (s d : List ℕ) (st ev : List ℤ) (p : Playing s d st) where
-  pub malformed-next : (a : Answer) → a ≡ answer 4 0 Nothing → isEvent s ev ≡ false → EventGives s (limitOf s) st st ev a st
-  malformed-next a e q = down a 4 0 st _ e (event-malformed s st st ev (p .passed) (p .state .whole) (p .state .whole) (of-content s st (p .state)) q)
-
-  pub happened-next : (a : Answer) (new : List ℤ) → isEvent s ev ≡ true → ended a new ≡ happens s (limitOf s) st ev → EventGives s (limitOf s) st st ev a new
-  happened-next a new q e = e ∙ sym (event-happens s st st ev (p .passed) (p .state .whole) (p .state .whole) (of-content s st (p .state)) q)
+pub next-gives : (s d t : List ℕ) (st ev : List ℤ) → Playing s d t st → (e : Event) → e ≡ eventOf s ev → (a : Answer) (new : List ℤ) → ended a new ≡ happensBy s (limitOf s) st e → EventGives s (limitOf s) st st ev a new
+next-gives s d t st ev p e q a new h = h ∙ ap (happensBy s (limitOf s) st) q ∙ event-by s ev (p .passed) st (p .state .whole) (of-content s st (p .state))
 
 -- ---- any state and words, on a passed sheet
+
+not-of : (a b : Bool) → not a ≡ b → a ≡ not b
+not-of true b e = ap not e
+not-of false b e = ap not e
 
 module _ (s : List ℕ) (old result ev : List ℤ) (ok : checkOf s ≡ Passed) (n : ℕ) (l : n ≡ stateLength s) where
   pub old-long : (a : Answer) → a ≡ answer 3 0 Nothing → (length old ≡ n → ⊥) → EventGives s (limitOf s) old result ev a result
@@ -41,14 +45,23 @@ module _ (s : List ℕ) (old result ev : List ℤ) (ok : checkOf s ≡ Passed) (
     pub other-content : (a : Answer) → a ≡ answer 3 0 Nothing → contentFits s old ≡ false → EventGives s (limitOf s) old result ev a result
     other-content a e c = down a 3 0 result _ e (event-content s old result ev ok (h ∙ l) (k ∙ l) c)
 
-    pub malformed-event : (a : Answer) → a ≡ answer 4 0 Nothing → contentFits s old ≡ true → isEvent s ev ≡ false → EventGives s (limitOf s) old result ev a result
-    malformed-event a e c q = down a 4 0 result _ e (event-malformed s old result ev ok (h ∙ l) (k ∙ l) c q)
+    -- the event taken apart
+    module _ (c : contentFits s old ≡ true) (e : Event) (q : e ≡ eventOf s ev) where
+      formed : (b : Bool) → isMalformed e ≡ b → isEvent s ev ≡ not b
+      formed b m = not-of (isEvent s ev) b (sym (malformed-is s ev) ∙ ap isMalformed (sym q) ∙ m)
 
-    pub happened-event : (a : Answer) (new st : List ℤ) → st ≡ old → contentFits s old ≡ true → isEvent s ev ≡ true → ended a new ≡ happens s (limitOf s) st ev → EventGives s (limitOf s) old result ev a new
-    happened-event a new st o c q e = e ∙ ap (λ o. happens s (limitOf s) o ev) o ∙ sym (event-happens s old result ev ok (h ∙ l) (k ∙ l) c q)
+      pub malformed-event : isMalformed e ≡ true → (a : Answer) → a ≡ answer 4 0 Nothing → EventGives s (limitOf s) old result ev a result
+      malformed-event m a g = down a 4 0 result _ g (event-malformed s old result ev ok (h ∙ l) (k ∙ l) c (formed true m))
 
-    pub copy-plays : (d : List ℕ) → d ≡ directoryOf s → contentFits s old ≡ true → (st : List ℤ) → st ≡ old → Playing s d st
-    copy-plays d q c st o = record { directory = q; passed = ok; state = subst (OfSheet s) (sym o) (content-of s old (h ∙ l) c) }
+      pub happened-event : isMalformed e ≡ false → (st : List ℤ) → st ≡ old → (a : Answer) (new : List ℤ) → ended a new ≡ happensBy s (limitOf s) st e → EventGives s (limitOf s) old result ev a new
+      happened-event m st o a new g =
+          g
+          ∙ ap (λ o. happensBy s (limitOf s) o e) o
+          ∙ ap (happensBy s (limitOf s) old) q
+          ∙ sym (event-happens s old result ev ok (h ∙ l) (k ∙ l) c (formed false m) ∙ happens-by s ev (limitOf s) old (formed false m))
+
+    pub copy-plays : (d t : List ℕ) → d ≡ directoryOf s → CellTable s t → contentFits s old ≡ true → (st : List ℤ) → st ≡ old → Playing s d t st
+    copy-plays d t q w c st o = record { directory = q; passed = ok; cells = w; state = subst (OfSheet s) (sym o) (content-of s old (h ∙ l) c) }
 
 -- ---- any sheet
 

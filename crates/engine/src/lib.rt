@@ -9,8 +9,7 @@ ghost use Rattle.sheet_rules.specs.declared.Checked.the-variants.{Passed};
 ghost use Rattle.machine.specs.State.{stateLength};
 ghost use Rattle.sheet_rules.specs.Check.{checkOf};
 ghost use Rattle.machine.specs.Lists.{StartGives, EventGives};
-ghost use Rattle.machine_events.specs.Playing.{Playing};
-ghost use Rattle.engine_cells.specs.Cells.{CellTable};
+ghost use Rattle.engine_cells.specs.Playing.{Opened, Playing};
 ghost use Rattle.machine.specs.Play.{limitOf};
 
 // The next event of a list: the sheet is passed, the state is of it and becomes the state that goes
@@ -23,17 +22,15 @@ pub fn next(
     spare: &mut [i32],
     ev: &[i32],
 ) -> Answer
-    requires { ⌜ Playing (now sheet) (now directory) (now st) × (length (now spare) ≡ length (now st)) × CellTable (now sheet) (now cells) ⌝ }
+    requires { ⌜ Playing (now sheet) (now directory) (now cells) (now st) × (length (now spare) ≡ length (now st)) ⌝ }
     ensures { λ a. ⌜ EventGives (now (sheet .entry)) (limitOf (now (sheet .entry))) (now (st .entry)) (now (st .entry)) (now (ev .entry)) a (now (st .exit)) ⌝ }
 {
-    if !engine_valid_events::is_event(sheet, directory, ev) {
-        return answered(4, 0);
-    }
-    let j = engine_kinds::sought(st, ev);
-    if engine_kinds::may_undo(sheet, directory, st, ev, j) {
+    let e = engine_valid_events::event_of(sheet, directory, ev);
+    let j = engine_sought::sought(st, e);
+    if engine_sought::may_undo(sheet, directory, cells, st, e, j) {
         engine_store::copy(st, spare);
     }
-    engine_kinds::happened(sheet, directory, cells, spare, st, ev, j)
+    engine_kinds::happened(sheet, directory, cells, spare, st, e, j)
 }
 
 // An event on any sheet, state and words.
@@ -60,27 +57,27 @@ fn on_passed(
 {
     let mut cells = [0usize; 2176];
     let count = engine_cells::fill(sheet, directory, &mut cells);
-    let length = engine_valid_state::state_length(count);
-    if old.len() != length {
+    if !engine_lengths::is_state(count, old.len()) {
         return answered(3, 0);
     }
-    if result.len() != length {
+    if !engine_lengths::is_state(count, result.len()) {
         return answered(3, 0);
     }
     if !engine_valid_state::content_fits(sheet, directory, &cells, old) {
         return answered(3, 0);
     }
-    if engine_valid_events::is_event(sheet, directory, ev) {
-        engine_store::copy(old, result);
-        let j = engine_kinds::sought(result, ev);
-        return engine_kinds::happened(sheet, directory, &cells, old, result, ev, j);
+    let e = engine_valid_events::event_of(sheet, directory, ev);
+    if engine_valid_events::is_malformed(e) {
+        return answered(4, 0);
     }
-    answered(4, 0)
+    engine_store::copy(old, result);
+    let j = engine_sought::sought(result, e);
+    engine_kinds::happened(sheet, directory, &cells, old, result, e, j)
 }
 
 // Start on a passed sheet.
 pub fn begin(sheet: &[u8], directory: &[usize; 16], cells: &[usize; 2176], st: &mut [i32]) -> Answer
-    requires { ⌜ (now directory ≡ directoryOf (now sheet)) × (checkOf (now sheet) ≡ Passed) × (length (now st) ≡ stateLength (now sheet)) × CellTable (now sheet) (now cells) ⌝ }
+    requires { ⌜ Opened (now sheet) (now directory) (now cells) × (length (now st) ≡ stateLength (now sheet)) ⌝ }
     ensures { λ a. ⌜ StartGives (now (sheet .entry)) (limitOf (now (sheet .entry))) (now (st .entry)) a (now (st .exit)) ⌝ }
 {
     engine_starts::from_defaults(sheet, directory, cells, st)
@@ -104,7 +101,7 @@ fn start_passed(sheet: &[u8], directory: &[usize; 16], result: &mut [i32]) -> An
 {
     let mut cells = [0usize; 2176];
     let count = engine_cells::fill(sheet, directory, &mut cells);
-    if result.len() != engine_valid_state::state_length(count) {
+    if !engine_lengths::is_state(count, result.len()) {
         return answered(3, 0);
     }
     begin(sheet, directory, &cells, result)

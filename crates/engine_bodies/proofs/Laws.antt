@@ -108,14 +108,14 @@ module _ {s directory table : List ℕ} {st : List ℤ} {e n : ℕ} {c : Record}
       context-is : contextAt s w ≡ x
       unfolding contextAt recordOr0
       context-is =
-          let k : getD w 1 0 ≡ bindingAt s e = is .2 ∙ ap (λ i. getD table (34 * i + 33) 0) row ∙ h .table .binding e c (h .chart .bound) in
+          let k : getD w 1 0 ≡ bindingAt s e = is .2 ∙ ap (λ i. getD table (34 * i + 33) 0) row ∙ h .playing .cells .binding e c (h .chart .bound) in
           rw (contextAt, is .1, k, is .3, is .5, h .chart .there, read) refl
 
       abbrev chart-is : contextAt s w .chart ≡ c
       chart-is = ap (λ x. x .chart) context-is
 
       cells : (m : ℕ) → m ≤ chartVariables c .count → getD w (5 + m) 0 ≡ firstCell s e + cellsBefore s c m
-      cells m l = is .6 m l ∙ ap (λ i. getD table (34 * i + m) 0) row ∙ h .table .right e c (h .chart .bound) m l
+      cells m l = is .6 m l ∙ ap (λ i. getD table (34 * i + m) 0) row ∙ h .playing .cells .right e c (h .chart .bound) m l
 
       same-cells : (m : ℕ) → firstCell s (getD w 0 0) + cellsBefore s (contextAt s w .chart) m ≡ firstCell s e + cellsBefore s c m
       same-cells m = ap (λ e. firstCell s e + cellsBefore s (contextAt s w .chart) m) (is .1) ∙ ap (λ c. firstCell s e + cellsBefore s c m) chart-is

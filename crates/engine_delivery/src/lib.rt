@@ -17,8 +17,8 @@ ghost use Rattle.machine.specs.Values.{isBelow, isBound};
 ghost use Rattle.machine.specs.State.{isInternal};
 ghost use Rattle.machine.specs.Valid.{telegramFits};
 ghost use Rattle.machine.specs.Play.{ended, answer, elementBody, reacting, panicking, delivered, limitOf};
-ghost use Rattle.machine_events.specs.Playing.{Playing};
-ghost use Rattle.engine_cells.specs.Cells.{CellTable, ChartAt};
+ghost use Rattle.engine_cells.specs.Cells.{ChartAt};
+ghost use Rattle.engine_cells.specs.Playing.{Playing};
 
 // Runs the panic body of element e, whose chart c is number n.
 fn run_panic_body(
@@ -31,7 +31,7 @@ fn run_panic_body(
     n: usize,
     c: Record,
 ) -> Answer
-    requires { ⌜ Playing (now sheet) (now directory) (now st) × (length (now old) ≡ length (now st)) × CellTable (now sheet) (now cells) × ChartAt (now sheet) e n c ⌝ }
+    requires { ⌜ Playing (now sheet) (now directory) (now cells) (now st) × (length (now old) ≡ length (now st)) × ChartAt (now sheet) e n c ⌝ }
     ensures { λ a. ⌜ ended a (now (st .exit)) ≡ panicking (now (sheet .entry)) (limitOf (now (sheet .entry))) (now (old .entry)) e (now (st .entry)) ⌝ }
 {
     let j = engine_finders::with_role(sheet, directory, c, 1);
@@ -59,7 +59,7 @@ pub fn panicked(
     st: &mut [i32],
     e: usize,
 ) -> Answer
-    requires { ⌜ Playing (now sheet) (now directory) (now st) × (length (now old) ≡ length (now st)) × (isBound (now sheet) e ≡ true) × CellTable (now sheet) (now cells) ⌝ }
+    requires { ⌜ Playing (now sheet) (now directory) (now cells) (now st) × (length (now old) ≡ length (now st)) × (isBound (now sheet) e ≡ true) ⌝ }
     ensures { λ a. ⌜ ended a (now (st .exit)) ≡ panicking (now (sheet .entry)) (limitOf (now (sheet .entry))) (now (old .entry)) e (now (st .entry)) ⌝ }
 {
     let n = engine_cells::chart_number(sheet, directory, cells, e);
@@ -79,7 +79,7 @@ fn deliver_to_element(
     st: &mut [i32],
     t: Telegram,
 ) -> Answer
-    requires { ⌜ Playing (now sheet) (now directory) (now st) × (length (now old) ≡ length (now st)) × (telegramFits (now sheet) t ≡ true) × (isInternal t ≡ false) × (isBelow (t .receiver) (externalsOf (now sheet)) ≡ false) × CellTable (now sheet) (now cells) ⌝ }
+    requires { ⌜ Playing (now sheet) (now directory) (now cells) (now st) × (length (now old) ≡ length (now st)) × (telegramFits (now sheet) t ≡ true) × (isInternal t ≡ false) × (isBelow (t .receiver) (externalsOf (now sheet)) ≡ false) ⌝ }
     ensures { λ a. ⌜ ended a (now (st .exit)) ≡ delivered (now (sheet .entry)) (limitOf (now (sheet .entry))) (now (old .entry)) t (now (st .entry)) ⌝ }
 {
     let e = engine_valid_words::number(t.receiver);
@@ -135,7 +135,7 @@ pub fn delivers(
     st: &mut [i32],
     t: Telegram,
 ) -> Answer
-    requires { ⌜ Playing (now sheet) (now directory) (now st) × (length (now old) ≡ length (now st)) × (telegramFits (now sheet) t ≡ true) × (isInternal t ≡ false) × CellTable (now sheet) (now cells) ⌝ }
+    requires { ⌜ Playing (now sheet) (now directory) (now cells) (now st) × (length (now old) ≡ length (now st)) × (telegramFits (now sheet) t ≡ true) × (isInternal t ≡ false) ⌝ }
     ensures { λ a. ⌜ ended a (now (st .exit)) ≡ delivered (now (sheet .entry)) (limitOf (now (sheet .entry))) (now (old .entry)) t (now (st .entry)) ⌝ }
 {
     if engine_valid_words::is_below(t.receiver, engine_valid_values::externals(sheet, directory)) {
@@ -153,7 +153,7 @@ pub fn reacts(
     st: &mut [i32],
     t: Telegram,
 ) -> Answer
-    requires { ⌜ Playing (now sheet) (now directory) (now st) × (length (now old) ≡ length (now st)) × (telegramFits (now sheet) t ≡ true) × (isInternal t ≡ true) × CellTable (now sheet) (now cells) ⌝ }
+    requires { ⌜ Playing (now sheet) (now directory) (now cells) (now st) × (length (now old) ≡ length (now st)) × (telegramFits (now sheet) t ≡ true) × (isInternal t ≡ true) ⌝ }
     ensures { λ a. ⌜ ended a (now (st .exit)) ≡ reacting (now (sheet .entry)) (limitOf (now (sheet .entry))) (now (old .entry)) (natAbs (t .receiver)) (elementBody (now (sheet .entry)) (natAbs (t .receiver)) (reactsTo (natAbs (t .name)))) t (now (st .entry)) ⌝ }
 {
     let e = engine_valid_words::number(t.receiver);

@@ -8,15 +8,11 @@ ghost use mathlib.Core.List.{[]};
 ghost use mathlib.Core.Path.{_≡_};
 ghost use lib.IntN.{pos};
 ghost use lib.ListN.{length, replicate};
-ghost use Rattle.sheet.specs.Sheet.{directoryOf};
-ghost use Rattle.sheet_rules.specs.declared.Checked.the-variants.{Passed};
 ghost use Rattle.machine.specs.declared.Handed.the-variants.{Nothing};
 ghost use Rattle.machine.specs.Values.{isBound};
 ghost use Rattle.machine.specs.State.{stateLength};
 ghost use Rattle.machine.specs.Play.{ended, answer, limitOf, isInitial, elementBody, alone, ranBody, started};
-ghost use Rattle.sheet_rules.specs.Check.{checkOf};
-ghost use Rattle.machine_events.specs.Playing.{Playing};
-ghost use Rattle.engine_cells.specs.Cells.{CellTable};
+ghost use Rattle.engine_cells.specs.Playing.{Opened, Playing};
 
 // The initial body of element e.
 fn initial(
@@ -27,7 +23,7 @@ fn initial(
     e: usize,
     limit: u32,
 ) -> Ran
-    requires { ⌜ Playing (now sheet) (now directory) (now st) × (isBound (now sheet) e ≡ true) × CellTable (now sheet) (now cells) × (limit ≡ limitOf (now sheet)) ⌝ }
+    requires { ⌜ Playing (now sheet) (now directory) (now cells) (now st) × (isBound (now sheet) e ≡ true) × (limit ≡ limitOf (now sheet)) ⌝ }
     ensures { λ r. ⌜ (r ≡ ranBody (now (sheet .entry)) (limitOf (now (sheet .entry))) e (alone (elementBody (now (sheet .entry)) e isInitial)) [] (now (st .entry)) .ran) × (now (st .exit) ≡ ranBody (now (sheet .entry)) (limitOf (now (sheet .entry))) e (alone (elementBody (now (sheet .entry)) e isInitial)) [] (now (st .entry)) .st) ⌝ }
 {
     let n = engine_cells::chart_number(sheet, directory, cells, e);
@@ -66,7 +62,7 @@ pub fn from_defaults(
     cells: &[usize; 2176],
     st: &mut [i32],
 ) -> Answer
-    requires { ⌜ (now directory ≡ directoryOf (now sheet)) × (checkOf (now sheet) ≡ Passed) × (length (now st) ≡ stateLength (now sheet)) × CellTable (now sheet) (now cells) ⌝ }
+    requires { ⌜ Opened (now sheet) (now directory) (now cells) × (length (now st) ≡ stateLength (now sheet)) ⌝ }
     ensures { λ a. ⌜ ended a (now (st .exit)) ≡ started (now (sheet .entry)) (limitOf (now (sheet .entry))) ⌝ }
 {
     engine_defaults::default_state(sheet, directory, st);

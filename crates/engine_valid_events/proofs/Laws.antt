@@ -1,17 +1,27 @@
 -- Laws of the kinds of event.
 use Prim.Native.Nat.{ℕ}
-use mathlib.Core.Path.{_≡_, sym, ap, _∙_}
+use mathlib.Core.Path.{_≡_, refl, sym, ap, subst, _∙_}
 use mathlib.Core.List.{List}
-use mathlib.Core.Bool.{true, false}
+use mathlib.Core.Bool.{Bool, true, false}
+use lib.ListN.{length}
+use lib.Dec.{eqb}
 use lib.IntN.{ℤ, pos}
 use mir.Syntax.{w32}
 use mir.Val.{toZ, ofZ}
+use borrow.Author.Tests.{eq-eqb, ne-eqb}
+use Rattle.sheet.specs.All.{_and_}
 use Rattle.sheet.specs.Table.{lookUp}
+use Rattle.sheet.proofs.All.{first-fails, first-holds}
 use Rattle.machine.specs.Values.{fits32}
-use Rattle.machine.specs.Kinds.{outside, deliver, corrupt, inner, kindOf}
-use Rattle.machine.specs.Play.{restZero, wellFormed}
+use Rattle.machine.specs.State.{wordOf}
+use Rattle.machine.specs.Kinds.{Kind, outside, deliver, corrupt, inner, slice, noKind, kindOf}
+use Rattle.machine.specs.Play.{wordsOfEvent, wellFormed, isEvent}
 use Rattle.machine_equations.proofs.EventKinds.{no-kind}
+use Rattle.machine_events.specs.declared.Event.{Event}
+use Rattle.machine_events.specs.declared.Event.the-variants.{Malformed}
+use Rattle.machine_events.specs.Event.{eventAs, eventOf}
 use Rattle.engine_valid_words.proofs.Laws.{read-back}
+use Rattle.engine_valid_events.specs.Read.{Read}
 
 -- a word that was read, by its bits
 pub word-is : (z w : ℤ) (n : ℕ) → z ≡ w → fits32 z ≡ true → ofZ w32 z ≡ n → w ≡ toZ w32 n
@@ -20,31 +30,54 @@ word-is z w n e h b = sym (read-back z w e h) ∙ ap (toZ w32) b
 pub word-not : (z w : ℤ) (n : ℕ) → z ≡ w → (ofZ w32 z ≡ n → ⊥) → w ≡ pos n → ⊥
 word-not z w n e h b = h (ap (ofZ w32) (e ∙ b))
 
-module _ (s : List ℕ) (ev : List ℤ) (k : ℤ) where
-  -- an event whose first word is so much
-  by-kind : (z : ℤ) → k ≡ z → wellFormed s ev (kindOf z) ≡ wellFormed s ev (kindOf k)
-  by-kind z e = sym (ap (λ z. wellFormed s ev (kindOf z)) e)
+-- ---- by one kind
 
-  pub kind-1 : k ≡ pos 1 → wellFormed s ev outside ≡ wellFormed s ev (kindOf k)
-  unfolding kindOf lookUp
-  kind-1 e = by-kind (pos 1) e
+module _ (s : List ℕ) (ev : List ℤ) (k : Kind) (e : Event) where
+  pub read-so : wellFormed s ev k ≡ true → e ≡ eventAs ev k → Read s ev k e
+  read-so h q = q ∙ sym (ap (λ b. elim b as (λ b. Event) [ true ↦ eventAs ev k | false ↦ Malformed ]) h)
 
-  pub kind-2 : k ≡ pos 2 → wellFormed s ev deliver ≡ wellFormed s ev (kindOf k)
-  unfolding kindOf lookUp
-  kind-2 e = by-kind (pos 2) e
+  pub read-none : wellFormed s ev k ≡ false → e ≡ Malformed → Read s ev k e
+  read-none h q = q ∙ sym (ap (λ b. elim b as (λ b. Event) [ true ↦ eventAs ev k | false ↦ Malformed ]) h)
 
-  pub kind-3 : k ≡ pos 3 → wellFormed s ev corrupt ≡ wellFormed s ev (kindOf k)
-  unfolding kindOf lookUp
-  kind-3 e = by-kind (pos 3) e
+-- ---- by the kind that the first word says
 
-  pub kind-4 : k ≡ pos 4 → wellFormed s ev inner ≡ wellFormed s ev (kindOf k)
-  unfolding kindOf lookUp
-  kind-4 e = by-kind (pos 4) e
+module _ (s : List ℕ) (ev : List ℤ) (e : Event) where
+  pub another-length : (length ev ≡ wordsOfEvent → ⊥) → e ≡ Malformed → e ≡ eventOf s ev
+  unfolding eventOf isEvent
+  another-length h q = q ∙ sym (ap (λ b. elim b as (λ b. Event) [ true ↦ eventAs ev (kindOf (wordOf ev 0)) | false ↦ Malformed ]) (sym (first-fails (eqb (length ev) wordsOfEvent) _ (ne-eqb (length ev) wordsOfEvent h))))
 
-  pub kind-5 : k ≡ pos 5 → restZero ev 1 ≡ wellFormed s ev (kindOf k)
-  unfolding wellFormed kindOf lookUp
-  kind-5 e = by-kind (pos 5) e
+  module _ (nine : length ev ≡ wordsOfEvent) where
+    formed : wellFormed s ev (kindOf (wordOf ev 0)) ≡ isEvent s ev
+    unfolding isEvent
+    formed = first-holds _ (eqb (length ev) wordsOfEvent) _ (eq-eqb (length ev) wordsOfEvent nine) refl
 
-  pub of-no-kind : (k ≡ pos 1 → ⊥) → (k ≡ pos 2 → ⊥) → (k ≡ pos 3 → ⊥) → (k ≡ pos 4 → ⊥) → (k ≡ pos 5 → ⊥) → false ≡ wellFormed s ev (kindOf k)
-  unfolding wellFormed
-  of-no-kind a b c d e = sym (ap (wellFormed s ev) (no-kind k a b c d e))
+    by-kind : (z : ℤ) → wordOf ev 0 ≡ z → Read s ev (kindOf z) e → e ≡ eventOf s ev
+    unfolding eventOf
+    by-kind z q h =
+        h
+        ∙ sym (ap (λ z. elim (wellFormed s ev (kindOf z)) as (λ b. Event) [ true ↦ eventAs ev (kindOf z) | false ↦ Malformed ]) q)
+        ∙ ap (λ b. elim b as (λ b. Event) [ true ↦ eventAs ev (kindOf (wordOf ev 0)) | false ↦ Malformed ]) formed
+
+    pub kind-1 : wordOf ev 0 ≡ pos 1 → Read s ev outside e → e ≡ eventOf s ev
+    unfolding kindOf lookUp
+    kind-1 q h = by-kind (pos 1) q h
+
+    pub kind-2 : wordOf ev 0 ≡ pos 2 → Read s ev deliver e → e ≡ eventOf s ev
+    unfolding kindOf lookUp
+    kind-2 q h = by-kind (pos 2) q h
+
+    pub kind-3 : wordOf ev 0 ≡ pos 3 → Read s ev corrupt e → e ≡ eventOf s ev
+    unfolding kindOf lookUp
+    kind-3 q h = by-kind (pos 3) q h
+
+    pub kind-4 : wordOf ev 0 ≡ pos 4 → Read s ev inner e → e ≡ eventOf s ev
+    unfolding kindOf lookUp
+    kind-4 q h = by-kind (pos 4) q h
+
+    pub kind-5 : wordOf ev 0 ≡ pos 5 → Read s ev slice e → e ≡ eventOf s ev
+    unfolding kindOf lookUp
+    kind-5 q h = by-kind (pos 5) q h
+
+    pub of-no-kind : (wordOf ev 0 ≡ pos 1 → ⊥) → (wordOf ev 0 ≡ pos 2 → ⊥) → (wordOf ev 0 ≡ pos 3 → ⊥) → (wordOf ev 0 ≡ pos 4 → ⊥) → (wordOf ev 0 ≡ pos 5 → ⊥) → e ≡ Malformed → e ≡ eventOf s ev
+    unfolding wellFormed
+    of-no-kind n₁ n₂ n₃ n₄ n₅ q = by-kind (wordOf ev 0) refl (subst (λ k. Read s ev k e) (sym (no-kind (wordOf ev 0) n₁ n₂ n₃ n₄ n₅)) q)

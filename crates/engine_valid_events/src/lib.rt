@@ -1,18 +1,23 @@
-// Whether an event is well formed: nine words, by its kind.
+// An event's nine words, taken apart by its kind where they are well formed.
+use machine::EVENT_WORDS;
+use machine_events::Event;
 ghost use mathlib.Core.Path.{_≡_};
-ghost use Prim.Native.Nat.{_+_, _<_, _≤_};
+ghost use mathlib.Core.List.{List};
+ghost use Prim.Native.Nat.{ℕ, _<_, _≤_};
 ghost use lib.ListN.{length};
 ghost use Rattle.sheet.specs.Sheet.{directoryOf};
 ghost use Rattle.machine.specs.State.{wordOf};
-ghost use Rattle.machine.specs.Kinds.{outside, deliver, corrupt, inner};
-ghost use Rattle.machine.specs.Play.{restZero, boundWord, wellFormed, isEvent};
+ghost use Rattle.machine.specs.Kinds as kind;
+ghost use Rattle.machine.specs.Play.{wordsOfEvent, restZero, boundWord, wellFormed};
+ghost use Rattle.machine_events.specs.Event.{eventOf, isMalformed};
+ghost use Rattle.engine_valid_events.specs.Read.{Read};
 
 // Whether the words from number i on are 0.
 fn rest_zero(ev: &[i32], i: usize) -> bool
-    requires { ⌜ (length (now ev) ≡ 9) × (i ≤ 9) ⌝ }
+    requires { ⌜ (length (now ev) ≡ wordsOfEvent) × (i ≤ wordsOfEvent) ⌝ }
     ensures { λ b. ⌜ b ≡ restZero (now (ev .entry)) i ⌝ }
 {
-    let count = 9 - i;
+    let count = EVENT_WORDS - i;
     let mut k: usize = 0;
     while k < count {
         if !engine_valid_words::zero_at(ev, i + k) {
@@ -36,8 +41,8 @@ fn bound_word(sheet: &[u8], directory: &[usize; 16], ev: &[i32], i: usize) -> bo
 
 // Kind 1, Outside: from an external component to a bound element.
 fn outside_formed(sheet: &[u8], directory: &[usize; 16], ev: &[i32]) -> bool
-    requires { ⌜ (now directory ≡ directoryOf (now sheet)) × (length (now ev) ≡ 9) ⌝ }
-    ensures { λ b. ⌜ b ≡ wellFormed (now (sheet .entry)) (now (ev .entry)) outside ⌝ }
+    requires { ⌜ (now directory ≡ directoryOf (now sheet)) × (length (now ev) ≡ wordsOfEvent) ⌝ }
+    ensures { λ b. ⌜ b ≡ wellFormed (now (sheet .entry)) (now (ev .entry)) kind.outside ⌝ }
 {
     if !engine_valid_words::below_at(ev, 1, engine_valid_values::externals(sheet, directory)) {
         return false;
@@ -53,8 +58,8 @@ fn outside_formed(sheet: &[u8], directory: &[usize; 16], ev: &[i32]) -> bool
 
 // Kind 2, Deliver: between components that are not both external.
 fn deliver_formed(sheet: &[u8], directory: &[usize; 16], ev: &[i32]) -> bool
-    requires { ⌜ (now directory ≡ directoryOf (now sheet)) × (length (now ev) ≡ 9) ⌝ }
-    ensures { λ b. ⌜ b ≡ wellFormed (now (sheet .entry)) (now (ev .entry)) deliver ⌝ }
+    requires { ⌜ (now directory ≡ directoryOf (now sheet)) × (length (now ev) ≡ wordsOfEvent) ⌝ }
+    ensures { λ b. ⌜ b ≡ wellFormed (now (sheet .entry)) (now (ev .entry)) kind.deliver ⌝ }
 {
     let count = engine_valid_values::components(sheet, directory);
     if !engine_valid_words::below_at(ev, 1, count) {
@@ -71,8 +76,8 @@ fn deliver_formed(sheet: &[u8], directory: &[usize; 16], ev: &[i32]) -> bool
 
 // Kind 3, Corrupt: to a bound element.
 fn corrupt_formed(sheet: &[u8], directory: &[usize; 16], ev: &[i32]) -> bool
-    requires { ⌜ (now directory ≡ directoryOf (now sheet)) × (length (now ev) ≡ 9) ⌝ }
-    ensures { λ b. ⌜ b ≡ wellFormed (now (sheet .entry)) (now (ev .entry)) corrupt ⌝ }
+    requires { ⌜ (now directory ≡ directoryOf (now sheet)) × (length (now ev) ≡ wordsOfEvent) ⌝ }
+    ensures { λ b. ⌜ b ≡ wellFormed (now (sheet .entry)) (now (ev .entry)) kind.corrupt ⌝ }
 {
     if !engine_valid_words::below_at(ev, 1, engine_valid_values::components(sheet, directory)) {
         return false;
@@ -85,8 +90,8 @@ fn corrupt_formed(sheet: &[u8], directory: &[usize; 16], ev: &[i32]) -> bool
 
 // Kind 4, Inner: of a component.
 fn inner_formed(sheet: &[u8], directory: &[usize; 16], ev: &[i32]) -> bool
-    requires { ⌜ (now directory ≡ directoryOf (now sheet)) × (length (now ev) ≡ 9) ⌝ }
-    ensures { λ b. ⌜ b ≡ wellFormed (now (sheet .entry)) (now (ev .entry)) inner ⌝ }
+    requires { ⌜ (now directory ≡ directoryOf (now sheet)) × (length (now ev) ≡ wordsOfEvent) ⌝ }
+    ensures { λ b. ⌜ b ≡ wellFormed (now (sheet .entry)) (now (ev .entry)) kind.inner ⌝ }
 {
     if !engine_valid_words::zero_at(ev, 1) {
         return false;
@@ -97,21 +102,94 @@ fn inner_formed(sheet: &[u8], directory: &[usize; 16], ev: &[i32]) -> bool
     rest_zero(ev, 3)
 }
 
-// Whether an event is well formed. A Slice, kind 5, uses no other word.
-pub fn is_event(sheet: &[u8], directory: &[usize; 16], ev: &[i32]) -> bool
-    requires { ⌜ now directory ≡ directoryOf (now sheet) ⌝ }
-    ensures { λ b. ⌜ b ≡ isEvent (now (sheet .entry)) (now (ev .entry)) ⌝ }
+// Each kind's words, or Malformed.
+fn outside(sheet: &[u8], directory: &[usize; 16], ev: &[i32]) -> Event
+    requires { ⌜ (now directory ≡ directoryOf (now sheet)) × (length (now ev) ≡ wordsOfEvent) ⌝ }
+    ensures { λ e. ⌜ Read (now (sheet .entry)) (now (ev .entry)) kind.outside e ⌝ }
 {
-    if ev.len() != 9 {
-        return false;
+    if outside_formed(sheet, directory, ev) {
+        return Event::Outside(engine_store::telegram_in(ev, 1));
+    }
+    Event::Malformed
+}
+
+fn deliver(sheet: &[u8], directory: &[usize; 16], ev: &[i32]) -> Event
+    requires { ⌜ (now directory ≡ directoryOf (now sheet)) × (length (now ev) ≡ wordsOfEvent) ⌝ }
+    ensures { λ e. ⌜ Read (now (sheet .entry)) (now (ev .entry)) kind.deliver e ⌝ }
+{
+    if deliver_formed(sheet, directory, ev) {
+        return Event::Deliver {
+            sender: engine_valid_words::word(ev, 1),
+            receiver: engine_valid_words::word(ev, 2),
+        };
+    }
+    Event::Malformed
+}
+
+fn corrupt(sheet: &[u8], directory: &[usize; 16], ev: &[i32]) -> Event
+    requires { ⌜ (now directory ≡ directoryOf (now sheet)) × (length (now ev) ≡ wordsOfEvent) ⌝ }
+    ensures { λ e. ⌜ Read (now (sheet .entry)) (now (ev .entry)) kind.corrupt e ⌝ }
+{
+    if corrupt_formed(sheet, directory, ev) {
+        return Event::Corrupt {
+            sender: engine_valid_words::word(ev, 1),
+            receiver: engine_valid_words::word(ev, 2),
+        };
+    }
+    Event::Malformed
+}
+
+fn inner(sheet: &[u8], directory: &[usize; 16], ev: &[i32]) -> Event
+    requires { ⌜ (now directory ≡ directoryOf (now sheet)) × (length (now ev) ≡ wordsOfEvent) ⌝ }
+    ensures { λ e. ⌜ Read (now (sheet .entry)) (now (ev .entry)) kind.inner e ⌝ }
+{
+    if inner_formed(sheet, directory, ev) {
+        return Event::Inner {
+            receiver: engine_valid_words::word(ev, 2),
+        };
+    }
+    Event::Malformed
+}
+
+fn slice(ev: &[i32]) -> Event
+    requires { ⌜ length (now ev) ≡ wordsOfEvent ⌝ }
+    ensures { λ e. ⌜ ((s : List ℕ) → Read s (now (ev .entry)) kind.slice e) ⌝ }
+{
+    if rest_zero(ev, 1) {
+        return Event::Slice;
+    }
+    Event::Malformed
+}
+
+// An event's words taken apart. A Slice, kind 5, uses no other word.
+pub fn event_of(sheet: &[u8], directory: &[usize; 16], ev: &[i32]) -> Event
+    requires { ⌜ now directory ≡ directoryOf (now sheet) ⌝ }
+    ensures { λ e. ⌜ e ≡ eventOf (now (sheet .entry)) (now (ev .entry)) ⌝ }
+{
+    if ev.len() != EVENT_WORDS {
+        return Event::Malformed;
     }
     let kind = engine_valid_words::word(ev, 0);
     match kind {
-        1 => outside_formed(sheet, directory, ev),
-        2 => deliver_formed(sheet, directory, ev),
-        3 => corrupt_formed(sheet, directory, ev),
-        4 => inner_formed(sheet, directory, ev),
-        5 => rest_zero(ev, 1),
-        _ => false,
+        1 => outside(sheet, directory, ev),
+        2 => deliver(sheet, directory, ev),
+        3 => corrupt(sheet, directory, ev),
+        4 => inner(sheet, directory, ev),
+        5 => slice(ev),
+        _ => Event::Malformed,
+    }
+}
+
+// Whether it is turned down with 4.
+pub fn is_malformed(e: Event) -> bool
+    ensures { λ b. ⌜ b ≡ isMalformed e ⌝ }
+{
+    match e {
+        Event::Malformed => true,
+        Event::Outside(_) => false,
+        Event::Deliver { sender, receiver } => false,
+        Event::Corrupt { sender, receiver } => false,
+        Event::Inner { receiver } => false,
+        Event::Slice => false,
     }
 }

@@ -9,7 +9,6 @@ use lib.ListN.{length}
 use lib.Dec.{eqb}
 use lib.IntN.{ℤ}
 use borrow.Author.Tests.{eqb-false}
-use Rattle.sheet.specs.Sheet.{directoryOf}
 use Rattle.machine.specs.declared.Answer.{Answer}
 use Rattle.sheet_rules.specs.declared.Checked.the-variants.{Passed}
 use Rattle.machine.specs.State.{stateLength}
@@ -19,17 +18,16 @@ use Rattle.machine.specs.Play.{ended, limitOf}
 use Rattle.machine.specs.Lists.{goesOn, StartGives, EventGives}
 use Rattle.machine_promise.specs.Promise.{StartKept, EventKept}
 use Rattle.machine_promise.proofs.Promise.{promise}
-use Rattle.machine_events.specs.Playing.{Playing}
 
-pub begun : (s d : List ℕ) (lent : List ℤ) (a : Answer) (st : List ℤ) → d ≡ directoryOf s → checkOf s ≡ Passed → length lent ≡ stateLength s → StartGives s (limitOf s) lent a st → a .number ≡ 0 → Playing s d st
-begun s d lent a st e ok l g z = record { directory = e; passed = ok; state = subst (StartKept s) (sym g) (promise s ok .start lent l) .1 z }
+pub begun : (s : List ℕ) → checkOf s ≡ Passed → (lent : List ℤ) (a : Answer) (st : List ℤ) → length lent ≡ stateLength s → StartGives s (limitOf s) lent a st → a .number ≡ 0 → OfSheet s st
+begun s ok lent a st l g z = subst (StartKept s) (sym g) (promise s ok .start lent l) .1 z
 
-module _ (s d : List ℕ) (old ev : List ℤ) (a : Answer) (st : List ℤ) (p : Playing s d old) (g : EventGives s (limitOf s) old old ev a st) where
+module _ (s : List ℕ) (ok : checkOf s ≡ Passed) (old ev : List ℤ) (a : Answer) (st : List ℤ) (o : OfSheet s old) (g : EventGives s (limitOf s) old old ev a st) where
   kept : EventKept s old (ended a st)
-  kept = subst (EventKept s old) (sym g) (promise s (p .passed) .event old ev (p .state))
+  kept = subst (EventKept s old) (sym g) (promise s ok .event old ev o)
 
-  pub goes-on : Playing s d st
-  goes-on = record { directory = p .directory; passed = p .passed; state = ⊎-elim (λ z. kept .1 z) (λ b. subst (OfSheet s) (sym (kept .2 (λ z. omega arith))) (p .state)) (kept .0) }
+  pub goes-on : OfSheet s st
+  goes-on = ⊎-elim (λ z. kept .1 z) (λ b. subst (OfSheet s) (sym (kept .2 (λ z. omega arith))) o) (kept .0)
 
   -- a refused event left the old state
   pub goes-on-is : goesOn a old st ≡ st

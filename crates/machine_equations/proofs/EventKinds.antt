@@ -22,15 +22,3 @@ no-kind (pos (suc (suc (suc (suc zero))))) a b c d e = absurd (d refl)
 no-kind (pos (suc (suc (suc (suc (suc zero)))))) a b c d e = absurd (e refl)
 no-kind (pos (suc (suc (suc (suc (suc (suc n))))))) a b c d e = no-more (suc (suc (suc (suc (suc (suc n)))))) (omega arith)
 no-kind (negsuc n) a b c d e = refl
-
--- a word of some kind is a number from 1 to 5
-pub kind-word : (z : ℤ) → (kindOf z ≡ noKind → ⊥) → (m : ℕ) × (z ≡ pos m) × (1 ≤ m) × (m ≤ 5)
-unfolding kindOf lookUp
-kind-word (pos zero) h = absurd (h refl)
-kind-word (pos (suc zero)) h = (1, refl, omega arith, omega arith)
-kind-word (pos (suc (suc zero))) h = (2, refl, omega arith, omega arith)
-kind-word (pos (suc (suc (suc zero)))) h = (3, refl, omega arith, omega arith)
-kind-word (pos (suc (suc (suc (suc zero))))) h = (4, refl, omega arith, omega arith)
-kind-word (pos (suc (suc (suc (suc (suc zero)))))) h = (5, refl, omega arith, omega arith)
-kind-word (pos (suc (suc (suc (suc (suc (suc n))))))) h = absurd (h (no-more (suc (suc (suc (suc (suc (suc n)))))) (omega arith)))
-kind-word (negsuc n) h = absurd (h refl)

@@ -167,35 +167,9 @@ module _ (s : List ℕ) (old result ev : List ℤ) where
       pub event-happens : contentFits s old ≡ true → isEvent s ev ≡ true → eventCall s (limitOf s) old result ev ≡ happens s (limitOf s) old ev
       event-happens c e = whole ∙ rw (c, e) refl
 
--- ---- the five kinds
+-- ---- 5 Slice
 
 -- a slice goes over the bound elements
 pub slice-is : (s : List ℕ) → checkOf s ≡ Passed → (st : List ℤ) → slice s st ≡ changeEnd st (slicedFrom s (elementsOf s) (externalsOf s) st)
 unfolding slice
 slice-is s ok st = ap (λ b. changeEnd st (elim b as (λ b. Changed) [ true ↦ slicedFrom s (elementsOf s) (externalsOf s) st | false ↦ lost ])) (has-head s ok)
-
-module _ (s : List ℕ) (st ev : List ℤ) where
-  -- an event whose first word is so much
-  happens-by : (z : ℤ) → wordOf ev 0 ≡ z → happens s (limitOf s) st ev ≡ happensAs s (limitOf s) st ev (kindOf z)
-  unfolding happens
-  happens-by z h = ap (λ z. happensAs s (limitOf s) st ev (kindOf z)) h
-
-  pub happens-outside : wordOf ev 0 ≡ pos 1 → happens s (limitOf s) st ev ≡ outside s st (telegramOfEvent ev)
-  unfolding happensAs kindOf lookUp
-  happens-outside h = happens-by (pos 1) h
-
-  pub happens-deliver : wordOf ev 0 ≡ pos 2 → happens s (limitOf s) st ev ≡ deliver s (limitOf s) st (wordOf ev 1) (wordOf ev 2)
-  unfolding happensAs kindOf lookUp
-  happens-deliver h = happens-by (pos 2) h
-
-  pub happens-corrupt : wordOf ev 0 ≡ pos 3 → happens s (limitOf s) st ev ≡ corrupt s (limitOf s) st (wordOf ev 1) (wordOf ev 2)
-  unfolding happensAs kindOf lookUp
-  happens-corrupt h = happens-by (pos 3) h
-
-  pub happens-inner : wordOf ev 0 ≡ pos 4 → happens s (limitOf s) st ev ≡ inner s (limitOf s) st (wordOf ev 2)
-  unfolding happensAs kindOf lookUp
-  happens-inner h = happens-by (pos 4) h
-
-  pub happens-slice : wordOf ev 0 ≡ pos 5 → happens s (limitOf s) st ev ≡ slice s st
-  unfolding happensAs kindOf lookUp
-  happens-slice h = happens-by (pos 5) h

@@ -1,4 +1,5 @@
 pub mod Laws
+pub mod Apart
 pub mod Called
 pub mod Taken
 pub mod Received

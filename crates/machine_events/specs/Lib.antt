@@ -1,3 +1,4 @@
 pub mod Called
-pub mod Playing
+pub mod Event
 pub mod Sought
+pub mod Takes

@@ -19,7 +19,7 @@ chart-number-requires c κs =
     let pre = c .before .before .before .pre in
     let word = c .before .before .before .args .t .receiver in
     let receiver = number-read word (c .before .struct-told .given .1 .0 .1) _ (c .number .ensures) in
-    (pre .0 .directory, pre .0 .passed, pre .5, receiver-bound _ (pre .0 .passed) _ (pre .2) (pre .3) (pre .4) _ receiver)
+    (pre .0 .directory, pre .0 .passed, pre .0 .cells, receiver-bound _ (pre .0 .passed) _ (pre .2) (pre .3) (pre .4) _ receiver)
 
 read-requires : tie.Need-read-requires
 read-requires c κs = c .before .before .before .before .pre .0 .directory
@@ -86,7 +86,7 @@ event-body-requires c κs =
     let found = c .before .before .before .before .before .before .reaction-on .ensures in
     let ok = pre .0 .passed in
     let called = reaction-called _ ok t (pre .2) (pre .3) (pre .4) _ receiver _ bound _ _ _ port name found (c .before .before .before .before .if1 .taken) _ brought in
-    (record { playing = pre .0; table = pre .5; chart = record { there = there; bound = bound }; called = called }, pre .1)
+    (record { playing = pre .0; chart = record { there = there; bound = bound }; called = called }, pre .1)
 
 same-length : tie.Need-same-length
 same-length c = search needs
@@ -116,7 +116,7 @@ run-panic-body-requires c κs =
     let is = c .before .before .before .before .before .before .before .before .before .c .given .1 in
     let there = sym (c .before .before .before .before .before .before .before .before .before .before .before .read .ensures) ∙ is in
     let bound = sym (c .before .before .before .before .before .before .before .before .before .before .before .before .chart-number .ensures) ∙ there in
-    (pre .0, pre .1, pre .5, record { there = there; bound = bound })
+    (pre .0, pre .1, record { there = there; bound = bound })
 
 same-length-2 : tie.Need-same-length-2
 same-length-2 c = search needs

@@ -5,7 +5,7 @@ use Rattle.engine_delivery.proofs.panicked.Statement.{statement}
 use Rattle.engine_delivery.proofs.panicked.Tie as tie
 
 chart-number-requires : tie.Need-chart-number-requires
-chart-number-requires c κs = (c .before .pre .0 .directory, c .before .pre .0 .passed, c .before .pre .3, c .before .pre .2)
+chart-number-requires c κs = (c .before .pre .0 .directory, c .before .pre .0 .passed, c .before .pre .0 .cells, c .before .pre .2)
 
 read-requires : tie.Need-read-requires
 read-requires c κs = c .before .before .pre .0 .directory
@@ -31,7 +31,7 @@ run-panic-body-requires : tie.Need-run-panic-body-requires
 run-panic-body-requires c κs =
     let pre = c .before .before .before .before .before .before .before .pre in
     let there = sym (c .before .before .before .before .read .ensures) ∙ c .before .before .c .given .1 in
-    (pre .0, pre .1, pre .3, record { there = there; bound = sym (c .before .before .before .before .before .chart-number .ensures) ∙ there })
+    (pre .0, pre .1, record { there = there; bound = sym (c .before .before .before .before .before .chart-number .ensures) ∙ there })
 
 same-length : tie.Need-same-length
 same-length c = search needs

@@ -19,7 +19,7 @@ chart-number-requires c κs =
     let pre = c .before .before .before .pre in
     let word = c .before .before .before .args .t .receiver in
     let receiver = number-read word (c .before .struct-told .given .1 .0 .1) _ (c .number .ensures) in
-    (pre .0 .directory, pre .0 .passed, pre .4, inner-bound _ (pre .0 .passed) _ (pre .2) (pre .3) _ receiver)
+    (pre .0 .directory, pre .0 .passed, pre .0 .cells, inner-bound _ (pre .0 .passed) _ (pre .2) (pre .3) _ receiver)
 
 read-requires : tie.Need-read-requires
 read-requires c κs = c .before .before .before .before .pre .0 .directory
@@ -75,7 +75,7 @@ event-body-requires c κs =
     let bound = sym (c .before .before .before .before .before .before .before .before .before .before .before .chart-number .ensures) ∙ there in
     let found = c .before .before .before .before .reaction-to .ensures in
     let called = inner-asked _ (pre .0 .passed) t (pre .2) (pre .3) _ receiver _ bound _ _ name found _ brought in
-    (record { playing = pre .0; table = pre .4; chart = record { there = there; bound = bound }; called = called }, pre .1)
+    (record { playing = pre .0; chart = record { there = there; bound = bound }; called = called }, pre .1)
 
 same-length : tie.Need-same-length
 same-length c = search needs

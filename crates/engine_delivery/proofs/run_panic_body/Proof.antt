@@ -15,8 +15,8 @@ add-event-body c = search needs
 event-body-requires : tie.Need-event-body-requires
 event-body-requires c κs =
     let pre = c .before .before .before .before .before .pre in
-    let called = panic-asked _ (pre .0 .passed) _ _ (pre .3 .bound) _ (c .before .before .before .with-role .ensures) in
-    (record { playing = pre .0; table = pre .2; chart = pre .3; called = called }, pre .1)
+    let called = panic-asked _ (pre .0 .passed) _ _ (pre .2 .bound) _ (c .before .before .before .with-role .ensures) in
+    (record { playing = pre .0; chart = pre .2; called = called }, pre .1)
 
 same-length : tie.Need-same-length
 same-length c = search needs
@@ -24,7 +24,7 @@ same-length c = search needs
 returns : tie.Need-returns
 returns c =
     let pre = c .before .before .before .before .before .before .before .pre in
-    as-panicking _ (pre .0 .passed) _ _ (pre .3 .bound) _ (c .before .before .before .before .before .with-role .ensures) _ _ _ (c .before .event-body .ensures)
+    as-panicking _ (pre .0 .passed) _ _ (pre .2 .bound) _ (c .before .before .before .before .before .with-role .ensures) _ _ _ (c .before .event-body .ensures)
 
 pub run-panic-body-spec : {M : Type 1} → statement M
 run-panic-body-spec =

@@ -7,7 +7,7 @@ use Rattle.engine_starts.proofs.initial.Statement.{statement}
 use Rattle.engine_starts.proofs.initial.Tie as tie
 
 chart-number-requires : tie.Need-chart-number-requires
-chart-number-requires c κs = (c .before .pre .0 .directory, c .before .pre .0 .passed, c .before .pre .2, c .before .pre .1)
+chart-number-requires c κs = (c .before .pre .0 .directory, c .before .pre .0 .passed, c .before .pre .0 .cells, c .before .pre .1)
 
 read-requires : tie.Need-read-requires
 read-requires c κs = c .before .before .pre .0 .directory
@@ -42,7 +42,7 @@ run-body-requires c κs =
     let bound = sym (c .before .before .before .before .before .before .before .before .chart-number .ensures) ∙ there in
     let x = chart-element _ _ _ bound in
     let called = initial-called _ (pre .0 .passed) _ (x .0) _ (x .1) _ (c .before .before .before .with-role .ensures) in
-    (record { playing = pre .0; table = pre .2; chart = record { there = there; bound = bound }; called = called }, pre .3)
+    (record { playing = pre .0; chart = record { there = there; bound = bound }; called = called }, pre .2)
 
 same-length : tie.Need-same-length
 same-length c = search needs
