@@ -13,8 +13,10 @@ use Rattle.sheet_rules.specs.Fields.{oneIf, sumBelow, countBelow}
 use Rattle.sheet_rules.proofs.Fields.{sum-more}
 use Rattle.sheet_rules.proofs.Sums.{count-on}
 use Rattle.machine.specs.declared.Telegram.{Telegram}
-use Rattle.machine.specs.State.{placeAt, stateLength, waiting, telegramIn, telegramOf, isInternal, classOf, sameClass, waitingLike, classLimit}
+use Rattle.machine.specs.State.{places, stateLength, waiting, telegramIn, telegramOf, isInternal, classOf, sameClass, waitingLike, classLimit}
 use Rattle.machine_states.proofs.Classes.{class-inside, class-outside}
+use Rattle.engine_store.specs.Layout.{shortest, placeIn}
+use Rattle.engine_store.proofs.Lies.{place-in}
 
 -- ---- telegrams of a class
 
@@ -41,33 +43,33 @@ like-more : (s : List ℕ) (st : List ℤ) (t : Telegram) (j : ℕ) → likeBelo
 unfolding countBelow
 like-more s st t j = sum-more j (λ i. oneIf (sameClass t (telegramOf s st i)))
 
--- of n telegrams those before `at` are looked at; from `last` on as many are left as are still needed for 16
+-- of n telegrams those before `at` are looked at; from `last` on as many are left as a full class still needs
 pub record Looked (st : List ℤ) (n : ℕ) (t : Telegram) (last at : ℕ) : Type 0 where
   pub seen : ℕ
   pub need : ℕ
-  pub here : at ≡ length st - 1024 + 8 * seen
+  pub here : at ≡ placeIn (length st) seen
   pub inside : seen ≤ n
   pub some : 1 ≤ need
-  pub most : need ≤ 16
-  pub behind : last + 8 * need ≡ length st - 1024 + 8 * n
-  pub like : (s : List ℕ) → length st ≡ stateLength s → need + likeBelow s st t seen ≡ 16
+  pub most : need ≤ classLimit
+  pub behind : last + 8 * need ≡ placeIn (length st) n
+  pub like : (s : List ℕ) → length st ≡ stateLength s → need + likeBelow s st t seen ≡ classLimit
 
-module _ (st : List ℤ) (n : ℕ) (e : n ≡ waiting st) (fits : n ≤ 128) (long : 1032 ≤ length st) (t : Telegram) where
+module _ (st : List ℤ) (n : ℕ) (e : n ≡ waiting st) (fits : n ≤ places) (long : shortest ≤ length st) (t : Telegram) where
   abbrev end : ℕ
-  end = length st - 1024 + 8 * n
+  end = placeIn (length st) n
 
   abbrev Full : Bool → Type 0
   Full b = (s : List ℕ) → length st ≡ stateLength s → b ≡ leb classLimit (waitingLike s st t)
 
-  pub looked-none : 16 ≤ n → Looked st n t (end - 8 * 16) (length st - 1024)
+  pub looked-none : classLimit ≤ n → (last at : ℕ) → last ≡ placeIn (length st) (n - classLimit) → at ≡ placeIn (length st) 0 → Looked st n t last at
   unfolding countBelow sumBelow
-  looked-none h = record { seen = 0; need = 16; here = omega arith; inside = omega arith; some = omega arith; most = omega arith; behind = omega arith; like = λ s w. refl }
+  looked-none h last at l a = record { seen = 0; need = classLimit; here = a; inside = omega arith; some = omega arith; most = omega arith; behind = omega arith; like = λ s w. refl }
 
   pub end-inside : end ≤ length st
   end-inside = omega arith
 
   -- there are too few
-  pub class-few : n < 16 → Full false
+  pub class-few : n < classLimit → Full false
   unfolding waitingLike countBelow sumBelow
   class-few h s w = sym (lt-leb classLimit (likeBelow s st t (waiting st)) (let c = count-on (λ i. sameClass t (telegramOf s st i)) 0 (waiting st) (omega arith) in omega (arith, c .1)))
 
@@ -81,15 +83,15 @@ module _ (st : List ℤ) (n : ℕ) (e : n ≡ waiting st) (fits : n ≤ 128) (lo
       pub looked-inside : at + 8 ≤ end
       looked-inside = omega (arith, k .some, k .behind)
 
-      next-here : at + 8 ≡ length st - 1024 + 8 * (k .seen + 1)
+      next-here : at + 8 ≡ placeIn (length st) (k .seen + 1)
       next-here = omega (arith, k .here)
 
       next-inside : k .seen + 1 ≤ n
       next-inside = omega (arith, k .here, k .behind, k .some)
 
       this : (s : List ℕ) → length st ≡ stateLength s → telegramOf s st (k .seen) ≡ telegramIn st at
-      unfolding telegramOf placeAt stateLength
-      this s w = let here : placeAt s (k .seen) ≡ at = omega (arith, k .here) in ap (telegramIn st) here
+      unfolding telegramOf
+      this s w = ap (telegramIn st) (sym (k .here ∙ place-in s (length st) (k .seen) w))
 
       module _ (q : sameClass t (telegramIn st at) ≡ true) where
         one-more : (s : List ℕ) → length st ≡ stateLength s → likeBelow s st t (k .seen + 1) ≡ likeBelow s st t (k .seen) + 1

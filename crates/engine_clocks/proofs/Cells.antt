@@ -14,7 +14,7 @@ use Rattle.sheet.specs.Sheet.{countOf}
 use Rattle.sheet.proofs.All.{and-true, and-first, and-second, false-and, and-false, all-at}
 use Rattle.machine.specs.Values.{isBelow, isZero}
 use Rattle.machine.specs.State.{cellAt, placeAt, stateLength, wordOf, on}
-use Rattle.machine.specs.Valid.{zeroWords, runningClock}
+use Rattle.machine.specs.Valid.{zeroWords, runningClock, cellFits}
 use Rattle.machine.specs.Play.{ticks, slicedCell}
 use Rattle.machine_states.proofs.Clocks.{running, running-below, timer-runs, timeout-runs, cycler-runs, clock-named}
 use Rattle.engine_ticks.specs.Running.{Running}
@@ -101,19 +101,24 @@ module _ (s : List ℕ) (e t : ℕ) (st : List ℤ) (at : ℕ) (h : runningClock
 pub not-timer : (k x : ℕ) {t : ℕ} → x ≡ t → x ≡ k → 5 ≤ k → eqb t Timer-type ≡ false
 not-timer k x e f l = ap (λ (u : ℕ). eqb u Timer-type) (sym e ∙ f) ∙ ne-eqb k 4 (λ q. omega arith)
 
-pub cell-named : (s : List ℕ) (e t : ℕ) (st : List ℤ) (i : ℕ) → Cell s e t st i → isClock t ≡ true → eqb t Timer-type ≡ false → isZero (wordOf st (cellAt i)) ≡ false → isBelow (wordOf st (cellAt i + 3)) (countOf s names) ≡ true
-cell-named s e t st i c clock named n = clock-named s e t st (cellAt i) (running s e t st (cellAt i) (c .clock clock .1) clock n) named
+-- a clock that runs in the cell numbered i, which begins at `at`
+module _ (s : List ℕ) (e t : ℕ) (st : List ℤ) (i at : ℕ) (here : at ≡ cellAt i) (c : Cell s e t st i) (clock : isClock t ≡ true) (n : isZero (wordOf st at) ≡ false) where
+  fits : cellFits s e t st at ≡ true
+  fits = rw here (c .clock clock .1)
 
-pub cell-runs : (s : List ℕ) (e t : ℕ) (st : List ℤ) (i : ℕ) → Cell s e t st i → isClock t ≡ true → isZero (wordOf st (cellAt i)) ≡ false → Running st (cellAt i)
-unfolding cellAt stateLength placeAt
-cell-runs s e t st i c clock n =
-    let w = words-from s e t st (cellAt i) (running s e t st (cellAt i) (c .clock clock .1) clock n) in
-    record {
-      behind = omega arith;
-      inside = let l = c .clock clock .0 in let m = c .whole in omega arith;
-      head = c .head;
-      runs = one-word _ (running-below s e t st (cellAt i) (c .clock clock .1) clock n) n;
-      value = w .0;
-      period = w .1;
-      name = w .2;
-    }
+  pub cell-named : eqb t Timer-type ≡ false → isBelow (wordOf st (at + 3)) (countOf s names) ≡ true
+  cell-named named = clock-named s e t st at (running s e t st at fits clock n) named
+
+  pub cell-runs : Running st at
+  unfolding cellAt stateLength placeAt
+  cell-runs =
+      let w = words-from s e t st at (running s e t st at fits clock n) in
+      record {
+        behind = omega arith;
+        inside = let l = c .clock clock .0 in let m = c .whole in omega arith;
+        head = c .head;
+        runs = one-word _ (running-below s e t st at fits clock n) n;
+        value = w .0;
+        period = w .1;
+        name = w .2;
+      }

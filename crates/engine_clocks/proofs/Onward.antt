@@ -24,7 +24,7 @@ use Rattle.sheet_rules.specs.Shape.{cellsBound, cellsOf}
 use Rattle.sheet_rules.specs.Check.{checkOf}
 use Rattle.sheet_rules.proofs.Fields.{sum-more}
 use Rattle.machine.specs.Values.{isBelow, isZero, chartOf, firstCell, sameWord}
-use Rattle.machine.specs.State.{cellAt, cellOf, placeAt, stateLength, wordOf, waiting, putWords, withTelegram, Changed, on, off, lost, appended}
+use Rattle.machine.specs.State.{places, cellAt, cellOf, placeAt, stateLength, wordOf, waiting, counted, putWords, withTelegram, Changed, on, off, lost, appended}
 use Rattle.machine.specs.Valid.{cellFits, OfSheet}
 use Rattle.machine.specs.Play.{thenSlice, clockTelegram, fires, ticks, slicedCell, slicedEach, slicedVariable, slicedCells, slicedElement, slicedFrom}
 use Rattle.machine_passed.proofs.Declared.{element-declared}
@@ -38,10 +38,10 @@ use Rattle.engine_cells.specs.Cells.{CellTable}
 use Rattle.engine_clocks.specs.Cells.{Cell, Cells}
 use Rattle.engine_clocks.proofs.Cells.{cell-data}
 
--- as long as the sheet's states, at most 128 waiting, and from a word on up to the places as before
+-- as long as the sheet's states, no more waiting than there are places, and from a word on up to the places as before
 pub record After (s : List ℕ) (from : ℕ) (old st : List ℤ) : Type 0 where
   pub whole : length st ≡ stateLength s
-  pub head : isBelow (wordOf st 0) 129 ≡ true
+  pub head : counted st ≡ true
   pub later : (k : ℕ) → from ≤ k → k < placeAt s 0 → wordOf st k ≡ wordOf old k
 
 abbrev pub Onward : List ℕ → ℕ → List ℤ → Changed → Type 0
@@ -50,18 +50,18 @@ Onward s from old (off n) = Unit {0}
 Onward s from old lost = Unit {0}
 
 module _ (s : List ℕ) where
-  pub after-none : (from : ℕ) (st : List ℤ) → length st ≡ stateLength s → isBelow (wordOf st 0) 129 ≡ true → After s from st st
+  pub after-none : (from : ℕ) (st : List ℤ) → length st ≡ stateLength s → counted st ≡ true → After s from st st
   after-none from st w h = record { whole = w; head = h; later = λ k l m. refl }
 
   pub after-more : (from from′ : ℕ) (a b c : List ℤ) → from ≤ from′ → After s from a b → After s from′ b c → After s from′ a c
   after-more from from′ a b c l h k = record { whole = k .whole; head = k .head; later = λ i m n. k .later i m n ∙ h .later i (omega arith) n }
 
   -- one word of the cell, or some of its words
-  module _ (st : List ℤ) (at : ℕ) (whole : length st ≡ stateLength s) (head : isBelow (wordOf st 0) 129 ≡ true) (behind : 8 ≤ at) (inside : at + 8 ≤ placeAt s 0) where
+  module _ (st : List ℤ) (at : ℕ) (whole : length st ≡ stateLength s) (head : counted st ≡ true) (behind : 8 ≤ at) (inside : at + 8 ≤ placeAt s 0) where
     set-onward : (z : ℤ) → After s (at + 8) st (set st (at + 1) z)
     set-onward z = record {
       whole = length-set st (at + 1) z ∙ whole;
-      head = ap (λ (w : ℤ). isBelow w 129) (word-set-other st (at + 1) 0 z (λ q. omega arith)) ∙ head;
+      head = ap (λ (w : ℤ). isBelow w (places + 1)) (word-set-other st (at + 1) 0 z (λ q. omega arith)) ∙ head;
       later = λ k l m. word-set-other st (at + 1) k z (λ q. omega arith);
     }
 
@@ -71,11 +71,11 @@ module _ (s : List ℕ) where
         let fit : at + length ws ≤ length st = omega arith in
         record {
           whole = length-put st at ws fit ∙ whole;
-          head = ap (λ (w : ℤ). isBelow w 129) (word-put-before st at ws fit 0 (omega arith)) ∙ head;
+          head = ap (λ (w : ℤ). isBelow w (places + 1)) (word-put-before st at ws fit 0 (omega arith)) ∙ head;
           later = λ k l m. word-put-behind st at ws fit k (omega arith);
         }
 
-  module _ (st : List ℤ) (e at : ℕ) (whole : length st ≡ stateLength s) (head : isBelow (wordOf st 0) 129 ≡ true) (behind : 8 ≤ at) (inside : at + 8 ≤ placeAt s 0) where
+  module _ (st : List ℤ) (e at : ℕ) (whole : length st ≡ stateLength s) (head : counted st ≡ true) (behind : 8 ≤ at) (inside : at + 8 ≤ placeAt s 0) where
     abbrev t : Telegram
     t = clockTelegram e st at
 
@@ -84,7 +84,7 @@ module _ (s : List ℕ) where
     fired-onward ws n = appending s st t head (λ r. Onward s (at + 8) st (thenSlice r (λ st′. on (putWords st′ at ws))))
         (λ room few.
         let long : length (withTelegram s st t) ≡ stateLength s = with-length s st t whole room ∙ whole in
-        let first : isBelow (wordOf (withTelegram s st t) 0) 129 ≡ true = ap (λ (w : ℤ). isBelow w 129) (with-head s st t whole room) ∙ lt-ltb (waiting st + 1) 129 (omega arith) in
+        let first : counted (withTelegram s st t) ≡ true = ap (λ (w : ℤ). isBelow w (places + 1)) (with-head s st t whole room) ∙ lt-ltb (waiting st + 1) (places + 1) (omega arith) in
         let sent : After s (at + 8) st (withTelegram s st t) = record { whole = long; head = first; later = λ k l m. with-before s st t whole room k (omega arith) (omega arith) } in
         after-more (at + 8) (at + 8) st (withTelegram s st t) (putWords (withTelegram s st t) at ws) (omega arith) sent (put-onward (withTelegram s st t) at long first behind inside ws n))
         tt
@@ -140,7 +140,7 @@ module _ (s : List ℕ) where
   then-onward from from′ st (off n) K l h k = tt
   then-onward from from′ st lost K l h k = tt
 
-  each-onward : (e t n i : ℕ) (st : List ℤ) → length st ≡ stateLength s → isBelow (wordOf st 0) 129 ≡ true → i + n ≤ cellsOf s → Onward s (cellAt (i + n)) st (slicedEach s e t n i st)
+  each-onward : (e t n i : ℕ) (st : List ℤ) → length st ≡ stateLength s → counted st ≡ true → i + n ≤ cellsOf s → Onward s (cellAt (i + n)) st (slicedEach s e t n i st)
   unfolding slicedEach cellAt placeAt
   each-onward e t zero i st w h l = after-none (cellAt (i + 0)) st w h
   each-onward e t (suc n) i st w h l =
@@ -150,7 +150,7 @@ module _ (s : List ℕ) where
       (rw f at (cell-onward st e (cellAt i) w h (omega arith) (omega arith) t))
       (λ st′ a. rw g at (each-onward e t n (suc i) st′ (a .whole) (a .head) (omega arith)))
 
-  variable-onward : (e d i : ℕ) (st : List ℤ) → length st ≡ stateLength s → isBelow (wordOf st 0) 129 ≡ true → i + cellsTaken s d ≤ cellsOf s → Onward s (cellAt (i + cellsTaken s d)) st (slicedVariable s e d i st)
+  variable-onward : (e d i : ℕ) (st : List ℤ) → length st ≡ stateLength s → counted st ≡ true → i + cellsTaken s d ≤ cellsOf s → Onward s (cellAt (i + cellsTaken s d)) st (slicedVariable s e d i st)
   unfolding slicedVariable
   variable-onward e d i st w h l = go (recordOf s declarations d)
     where
@@ -213,7 +213,7 @@ module _ (s : List ℕ) where
     begins-next : (j : ℕ) → begins j + cellsTaken s (own j) ≡ begins (suc j)
     begins-next j = omega (arith, cells-next s c j)
 
-    cells-onward : (n j : ℕ) (st : List ℤ) → length st ≡ stateLength s → isBelow (wordOf st 0) 129 ≡ true → begins (j + n) ≤ cellsOf s → Onward s (cellAt (begins (j + n))) st (slicedCells s e n (own j) (begins j) st)
+    cells-onward : (n j : ℕ) (st : List ℤ) → length st ≡ stateLength s → counted st ≡ true → begins (j + n) ≤ cellsOf s → Onward s (cellAt (begins (j + n))) st (slicedCells s e n (own j) (begins j) st)
     unfolding slicedCells
     cells-onward zero j st w h l = after-none (cellAt (begins (j + 0))) st w h
     cells-onward (suc n) j st w h l =
@@ -224,7 +224,7 @@ module _ (s : List ℕ) where
         (variable-onward e (own j) (begins j) st w h (omega arith))
         (λ st′ a. rw (f, begins-next j) (rw g at (cells-onward n (suc j) st′ (a .whole) (a .head) (rw g l))))
 
-    pub cells-after : (st st′ : List ℤ) → length st ≡ stateLength s → isBelow (wordOf st 0) 129 ≡ true → begins (chartVariables c .count) ≤ cellsOf s → slicedCells s e (chartVariables c .count) (chartVariables c .first) (firstCell s e) st ≡ on st′ → After s (cellAt (begins (chartVariables c .count))) st st′
+    pub cells-after : (st st′ : List ℤ) → length st ≡ stateLength s → counted st ≡ true → begins (chartVariables c .count) ≤ cellsOf s → slicedCells s e (chartVariables c .count) (chartVariables c .first) (firstCell s e) st ≡ on st′ → After s (cellAt (begins (chartVariables c .count))) st st′
     cells-after st st′ w h l q =
         let a : own 0 ≡ chartVariables c .first = omega arith in
         let b : begins 0 ≡ firstCell s e = omega (arith, cells-none s c) in

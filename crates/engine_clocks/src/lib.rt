@@ -31,7 +31,7 @@ fn slice_cell(
     requires { ⌜ (now directory ≡ directoryOf (now sheet)) × (e < 64) × (cellsOf (now sheet) ≤ 512) × Cell (now sheet) e (typeAt (now sheet) d) (now st) i ⌝ }
     ensures { λ n. ⌜ slicedCell (now (sheet .entry)) e (typeAt (now (sheet .entry)) d) (cellAt i) (now (st .entry)) ≡ changedTo n (now (st .exit)) ⌝ }
 {
-    let at = 8 + 8 * i;
+    let at = engine_store::cell_at(i);
     if st[at] == 0 {
         return 0;
     }

@@ -26,9 +26,17 @@ pub fn sought(st: &[i32], e: Event) -> usize
     match e {
         Event::Malformed => 0,
         Event::Outside(t) => 0,
-        Event::Deliver { sender, receiver } => engine_queue::oldest_external(st, sender, receiver),
-        Event::Corrupt { sender, receiver } => engine_queue::oldest_external(st, sender, receiver),
-        Event::Inner { receiver } => engine_queue::oldest_internal(st, receiver),
+        Event::Deliver { sender, receiver } => engine_searching::oldest_external(
+            st,
+            sender,
+            receiver,
+        ),
+        Event::Corrupt { sender, receiver } => engine_searching::oldest_external(
+            st,
+            sender,
+            receiver,
+        ),
+        Event::Inner { receiver } => engine_searching::oldest_internal(st, receiver),
         Event::Slice => 0,
     }
 }
@@ -72,6 +80,6 @@ pub fn take(st: &mut [i32], j: usize) -> Taken
         return Taken::Missing;
     }
     let t = engine_queue::telegram_at(st, j);
-    engine_queue::remove(st, j);
+    engine_removing::remove(st, j);
     Taken::Took(t)
 }

@@ -6,14 +6,14 @@ use mathlib.Core.Bool.{true}
 use lib.ListN.{length}
 use lib.IntN.{ℤ, pos}
 use lib.Signed.{leZ}
-use Rattle.machine.specs.Values.{isBelow}
-use Rattle.machine.specs.State.{wordOf}
+use Rattle.machine.specs.State.{wordOf, counted}
+use Rattle.engine_store.specs.Layout.{shortest}
 
 -- a cell before the places for telegrams, of a clock that runs; its value, period and name are from 0 on
 pub record Running (st : List ℤ) (at : ℕ) : Type 0 where
   pub behind : 8 ≤ at
-  pub inside : at + 1032 ≤ length st
-  pub head : isBelow (wordOf st 0) 129 ≡ true
+  pub inside : at + shortest ≤ length st
+  pub head : counted st ≡ true
   pub runs : wordOf st at ≡ pos 1
   pub value : leZ (pos 0) (wordOf st (at + 1)) ≡ true
   pub period : leZ (pos 0) (wordOf st (at + 2)) ≡ true

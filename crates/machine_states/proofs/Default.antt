@@ -241,7 +241,7 @@ module _ (s : List ℕ) (ok : checkOf s ≡ Passed) where
 
   default-head : headFits (defaultState s) ≡ true
   unfolding headFits isBelow
-  default-head = and-true _ _ (ap (λ (z : ℤ). isBelow z 129) (head-word 0 (omega arith))) (zeros (defaultState s) 0 1 (λ k a b. head-word (0 + k) (omega arith)))
+  default-head = and-true _ _ (ap (λ (z : ℤ). isBelow z (places + 1)) (head-word 0 (omega arith))) (zeros (defaultState s) 0 1 (λ k a b. head-word (0 + k) (omega arith)))
 
   place-zero : (n : ℕ) → n < places → zeroWords (defaultState s) (placeAt s n) 0 ≡ true
   unfolding placeAt

@@ -55,7 +55,7 @@ module _ (s : List ℕ) (st : List ℤ) (o : OfSheet s st) (e : ℕ) (c : Record
   module _ (st′ : List ℤ) (whole : length st′ ≡ length st) (before : (i : ℕ) → i < cell → wordOf st′ i ≡ wordOf st i) (behind : (i : ℕ) → cell + 8 ≤ i → wordOf st′ i ≡ wordOf st i) where
     head-kept : headFits st′ ≡ true
     unfolding headFits
-    head-kept = and-true _ _ (ap (λ (z : ℤ). isBelow z 129) (before 0 (omega (arith, cell-late))) ∙ is-counted s st o) (zero-same st′ 0 st 0 (λ k m. before (0 + k) (omega (arith, cell-late))) 1 ∙ head-zero s st o)
+    head-kept = and-true _ _ (ap (λ (z : ℤ). isBelow z (places + 1)) (before 0 (omega (arith, cell-late))) ∙ is-counted s st o) (zero-same st′ 0 st 0 (λ k m. before (0 + k) (omega (arith, cell-late))) 1 ∙ head-zero s st o)
 
     waiting-kept : waiting st′ ≡ waiting st
     unfolding waiting
@@ -109,7 +109,7 @@ module _ (s : List ℕ) (st : List ℤ) (o : OfSheet s st) (e : ℕ) (c : Record
 -- the head, with another number of telegrams
 head-of : (s : List ℕ) (st : List ℤ) → OfSheet s st → (st′ : List ℤ) (n : ℕ) → wordOf st′ 0 ≡ pos n → n ≤ places → ((i : ℕ) → 0 < i → i < 8 → wordOf st′ i ≡ wordOf st i) → headFits st′ ≡ true
 unfolding headFits isBelow
-head-of s st o st′ n e l h = and-true _ _ (ap (λ (z : ℤ). isBelow z 129) e ∙ lt-ltb n 129 (omega arith)) (zero-from st′ 0 st 0 1 (λ k m q. h (0 + k) (omega arith) (omega arith)) ∙ head-zero s st o)
+head-of s st o st′ n e l h = and-true _ _ (ap (λ (z : ℤ). isBelow z (places + 1)) e ∙ lt-ltb n (places + 1) (omega arith)) (zero-from st′ 0 st 0 1 (λ k m q. h (0 + k) (omega arith) (omega arith)) ∙ head-zero s st o)
 
 -- the cells, where all their words are as they were
 cells-of : (s : List ℕ) (st : List ℤ) → OfSheet s st → (st′ : List ℤ) → ((i : ℕ) → 0 < i → i < placeAt s 0 → wordOf st′ i ≡ wordOf st i) → cellsFit s st′ ≡ true
@@ -144,7 +144,7 @@ removed-kept s st o j here = record {
   ]);
   unused = rest-unused s (withoutTelegram s st j) (waiting st - 1) (without-waiting s st j (o .whole) here limit) (λ k m l. elim (decLt (k + 1) places) [
     | yes q ↦ zero-same (withoutTelegram s st j) (placeAt s k) st (placeAt s (k + 1)) (without-closed s st j (o .whole) here limit k (omega arith) q) 0 ∙ unused-of s st o (k + 1) (omega arith) q
-    | no q ↦ (let e : k ≡ 127 = omega arith in rw e (zeros (withoutTelegram s st j) (placeAt s 127) 0 (λ i a b. without-last s st j (o .whole) here limit i b)))
+    | no q ↦ (let e : k ≡ places - 1 = omega arith in rw e (zeros (withoutTelegram s st j) (placeAt s (places - 1)) 0 (λ i a b. without-last s st j (o .whole) here limit i b)))
   ]);
   classes = classes-fit s (withoutTelegram s st j) (without-most s st j (o .whole) here limit (at-most s st (o .classes)));
 }

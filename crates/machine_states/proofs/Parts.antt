@@ -71,7 +71,7 @@ module _ (s : List ℕ) (st : List ℤ) (o : OfSheet s st) where
 
   pub waiting-limit : waiting st ≤ places
   unfolding waiting
-  waiting-limit = omega (arith, below-abs (wordOf st 0) 129 is-counted)
+  waiting-limit = omega (arith, below-abs (wordOf st 0) (places + 1) is-counted)
 
   pub head-zero : zeroWords st 0 1 ≡ true
   unfolding headFits

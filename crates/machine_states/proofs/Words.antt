@@ -176,12 +176,12 @@ module _ (s : List ℕ) (st : List ℤ) (j : ℕ) (whole : length st ≡ stateLe
       ∙ getD-take (8 * (places - (j + 1))) (drop (placeAt s (j + 1)) st) k (pos 0) (omega arith)
       ∙ (rw f at (getD-drop (placeAt s (j + 1)) st k (pos 0)))
 
-  pub without-last : (k : ℕ) → k < 8 → wordOf (withoutTelegram s st j) (placeAt s 127 + k) ≡ pos 0
+  pub without-last : (k : ℕ) → k < 8 → wordOf (withoutTelegram s st j) (placeAt s (places - 1) + k) ≡ pos 0
   unfolding withoutTelegram wordOf placeAt
   without-last k l =
       let n = 8 * (places - (j + 1)) in
-      let e : placeAt s j + (n + k) ≡ placeAt s 127 + k = omega arith in
-      word-not-waiting removed (waiting st - 1) (placeAt s 127 + k) (omega arith)
+      let e : placeAt s j + (n + k) ≡ placeAt s (places - 1) + k = omega arith in
+      word-not-waiting removed (waiting st - 1) (placeAt s (places - 1) + k) (omega arith)
       ∙ (rw e at (word-put-in st (placeAt s j) closed closed-fits (n + k) (omega (arith, closed-length))))
       ∙ word-rest (placesFrom s st (j + 1)) (replicate 8 (pos 0)) n k later-length
       ∙ getD-replicate 8 k (pos 0) (pos 0) l

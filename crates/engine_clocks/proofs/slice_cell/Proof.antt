@@ -1,4 +1,3 @@
-use Prim.Native.Nat.{_+_, _*_}
 use native.Mathlib.Omega.{arith}
 use mathlib.Core.Path.{sym, ap, _∙_}
 use lib.ListN.{getD}
@@ -12,111 +11,123 @@ use Rattle.engine_clocks.proofs.Cells.{cell-stopped, cell-data, cell-ti
 use Rattle.engine_clocks.proofs.slice_cell.Statement.{statement}
 use Rattle.engine_clocks.proofs.slice_cell.Tie as tie
 
-mul-at : tie.Need-mul-at
-mul-at c = search needs
-
-add-at : tie.Need-add-at
-add-at c = search needs
+cell-at-requires : tie.Need-cell-at-requires
+unfolding cellAt
+cell-at-requires c κs = let l = c .before .pre .2 in let i = c .before .pre .3 .inside in omega arith
 
 mul-if1 : tie.Need-mul-if1
-mul-if1 c = search needs
+unfolding cellAt
+mul-if1 c = let e = c .cell-at .ensures in let l = c .before .before .pre .2 in let i = c .before .before .pre .3 .inside in omega arith
 
 slice-copy-out-if1 : tie.Need-slice-copy-out-if1
-unfolding placeAt stateLength
-slice-copy-out-if1 c = let l = c .before .pre .3 .inside in let m = c .before .pre .3 .whole in omega arith
+unfolding cellAt placeAt stateLength
+slice-copy-out-if1 c = let e = c .cell-at .ensures in let i = c .before .before .pre .3 .inside in let m = c .before .before .pre .3 .whole in omega arith
 
 returns : tie.Need-returns
-unfolding changedTo cellAt wordOf
-returns c = cell-stopped _ _ _ _ _ (bits-zero (getD (c .before .before .before .args .st .now) (8 + 8 * c .before .before .before .args .i) (pos 0)) (c .before .if12 .given) (c .if1 .taken))
+unfolding changedTo wordOf
+returns c =
+    let cell-at = c .before .before .cell-at in
+    let st = c .before .before .before .before .args .st .now in
+    rw (← cell-at .ensures) (cell-stopped _ _ _ _ _ (bits-zero (getD st (cell-at .result) (pos 0)) (c .before .if12 .given) (c .if1 .taken)))
 
 type-at-requires : tie.Need-type-at-requires
 type-at-requires c κs = search needs
 
 tick-timer-requires : tie.Need-tick-timer-requires
-unfolding cellAt wordOf
-tick-timer-requires c κs = cell-runs _ _ _ _ _ (c .before .before .before .before .before .before .pre .3) (is-clock 4 _ (c .before .before .type-at .ensures) (c .before .if2 .taken) (omega arith) (omega arith)) (bits-some (getD (c .before .before .before .before .before .before .args .st .now) (8 + 8 * c .before .before .before .before .before .before .args .i) (pos 0)) (c .before .before .before .before .if12 .given) (c .before .before .before .if1 .left))
+unfolding wordOf
+tick-timer-requires c κs =
+    let type-at = c .before .before .type-at in
+    let if1 = c .before .before .before .if1 in
+    let if12 = c .before .before .before .before .if12 in
+    let cell-at = c .before .before .before .before .before .cell-at in
+    let args = c .before .before .before .before .before .before .before .args in
+    let pre = c .before .before .before .before .before .before .before .pre in
+    let some = bits-some (getD (args .st .now) (cell-at .result) (pos 0)) (if12 .given) (if1 .left) in
+    cell-runs _ _ _ _ _ _ (cell-at .ensures) (pre .3) (is-clock 4 _ (type-at .ensures) (c .before .if2 .taken) (omega arith) (omega arith)) some
 
 same-length : tie.Need-same-length
 same-length c = search needs
 
 returns-2 : tie.Need-returns-2
-unfolding cellAt wordOf
+unfolding wordOf
 returns-2 c =
-    let if2 = c .before .before .before .if2 in
     let type-at = c .before .before .before .before .type-at in
     let if1 = c .before .before .before .before .before .if1 in
     let if12 = c .before .before .before .before .before .before .if12 in
-    let args = c .before .before .before .before .before .before .before .before .args in
-    let type-at-is = sym (type-at .ensures) ∙ if2 .taken in
-    let is-clock-here = is-clock 4 _ (type-at .ensures) (if2 .taken) (omega arith) (omega arith) in
-    let bits-some-here = bits-some (getD (args .st .now) (8 + 8 * args .i) (pos 0)) (if12 .given) (if1 .left) in
-    cell-ticks _ _ _ _ _ is-clock-here bits-some-here
-    ∙ ap (λ k. ticks (args .sheet .now) (args .e) k (8 + 8 * args .i) (args .st .now)) type-at-is
-    ∙ c .before .tick-timer .ensures _ _
+    let cell-at = c .before .before .before .before .before .before .before .cell-at in
+    let args = c .before .before .before .before .before .before .before .before .before .args in
+    let pre = c .before .before .before .before .before .before .before .before .before .pre in
+    let some = bits-some (getD (args .st .now) (cell-at .result) (pos 0)) (if12 .given) (if1 .left) in
+    let if-here = c .before .before .before .if2 in
+    let clock = is-clock 4 _ (type-at .ensures) (if-here .taken) (omega arith) (omega arith) in
+    rw (← cell-at .ensures)
+    (cell-ticks _ _ _ _ _ clock some
+    ∙ ap (λ k. ticks (args .sheet .now) (args .e) k (cell-at .result) (args .st .now)) (sym (type-at .ensures) ∙ if-here .taken)
+    ∙ c .before .tick-timer .ensures _ _)
 
 tick-timeout-requires : tie.Need-tick-timeout-requires
-unfolding cellAt wordOf
+unfolding wordOf
 tick-timeout-requires c κs =
     let type-at = c .before .before .before .type-at in
     let if1 = c .before .before .before .before .if1 in
     let if12 = c .before .before .before .before .before .if12 in
-    let args = c .before .before .before .before .before .before .before .args in
-    let pre = c .before .before .before .before .before .before .before .pre in
-    let bits-some-here = bits-some (getD (args .st .now) (8 + 8 * args .i) (pos 0)) (if12 .given) (if1 .left) in
-    (cell-runs _ _ _ _ _ (pre .3) (is-clock 5 _ (type-at .ensures) (c .before .if3 .taken) (omega arith) (omega arith)) bits-some-here, pre .1)
+    let cell-at = c .before .before .before .before .before .before .cell-at in
+    let args = c .before .before .before .before .before .before .before .before .args in
+    let pre = c .before .before .before .before .before .before .before .before .pre in
+    let some = bits-some (getD (args .st .now) (cell-at .result) (pos 0)) (if12 .given) (if1 .left) in
+    (cell-runs _ _ _ _ _ _ (cell-at .ensures) (pre .3) (is-clock 5 _ (type-at .ensures) (c .before .if3 .taken) (omega arith) (omega arith)) some, pre .1)
 
 same-length-2 : tie.Need-same-length-2
 same-length-2 c = search needs
 
 returns-3 : tie.Need-returns-3
-unfolding cellAt wordOf
+unfolding wordOf
 returns-3 c =
-    let at8 = c .before .before .before .before .before .before .before .before in
-    let if3 = c .before .before .before .if3 in
     let type-at = c .before .before .before .before .before .type-at in
     let if1 = c .before .before .before .before .before .before .if1 in
     let if12 = c .before .before .before .before .before .before .before .if12 in
-    let args = at8 .before .args in
-    let pre = at8 .before .pre in
-    let type-at-is = sym (type-at .ensures) ∙ if3 .taken in
-    let is-clock-here = is-clock 5 _ (type-at .ensures) (if3 .taken) (omega arith) (omega arith) in
-    let bits-some-here = bits-some (getD (args .st .now) (8 + 8 * args .i) (pos 0)) (if12 .given) (if1 .left) in
-    let cell-named-here = cell-named _ _ _ _ _ (pre .3) is-clock-here (not-timer 5 _ (type-at .ensures) (if3 .taken) (omega arith)) bits-some-here in
-    cell-ticks _ _ _ _ _ is-clock-here bits-some-here
-    ∙ ap (λ k. ticks (args .sheet .now) (args .e) k (8 + 8 * args .i) (args .st .now)) type-at-is
-    ∙ c .before .tick-timeout .ensures _ (pre .3 .whole) cell-named-here
+    let cell-at = c .before .before .before .before .before .before .before .before .cell-at in
+    let args = c .before .before .before .before .before .before .before .before .before .before .args in
+    let pre = c .before .before .before .before .before .before .before .before .before .before .pre in
+    let some = bits-some (getD (args .st .now) (cell-at .result) (pos 0)) (if12 .given) (if1 .left) in
+    let if-here = c .before .before .before .if3 in
+    let clock = is-clock 5 _ (type-at .ensures) (if-here .taken) (omega arith) (omega arith) in
+    rw (← cell-at .ensures)
+    (cell-ticks _ _ _ _ _ clock some
+    ∙ ap (λ k. ticks (args .sheet .now) (args .e) k (cell-at .result) (args .st .now)) (sym (type-at .ensures) ∙ if-here .taken)
+    ∙ c .before .tick-timeout .ensures _ (pre .3 .whole) (cell-named _ _ _ _ _ _ (cell-at .ensures) (pre .3) clock some (not-timer 5 _ (type-at .ensures) (if-here .taken) (omega arith))))
 
 tick-cycler-requires : tie.Need-tick-cycler-requires
-unfolding cellAt wordOf
+unfolding wordOf
 tick-cycler-requires c κs =
     let type-at = c .before .before .before .before .type-at in
     let if1 = c .before .before .before .before .before .if1 in
     let if12 = c .before .before .before .before .before .before .if12 in
-    let args = c .before .before .before .before .before .before .before .before .args in
-    let pre = c .before .before .before .before .before .before .before .before .pre in
-    let bits-some-here = bits-some (getD (args .st .now) (8 + 8 * args .i) (pos 0)) (if12 .given) (if1 .left) in
-    (cell-runs _ _ _ _ _ (pre .3) (is-clock 6 _ (type-at .ensures) (c .before .if4 .taken) (omega arith) (omega arith)) bits-some-here, pre .1)
+    let cell-at = c .before .before .before .before .before .before .before .cell-at in
+    let args = c .before .before .before .before .before .before .before .before .before .args in
+    let pre = c .before .before .before .before .before .before .before .before .before .pre in
+    let some = bits-some (getD (args .st .now) (cell-at .result) (pos 0)) (if12 .given) (if1 .left) in
+    (cell-runs _ _ _ _ _ _ (cell-at .ensures) (pre .3) (is-clock 6 _ (type-at .ensures) (c .before .if4 .taken) (omega arith) (omega arith)) some, pre .1)
 
 same-length-3 : tie.Need-same-length-3
 same-length-3 c = search needs
 
 returns-4 : tie.Need-returns-4
-unfolding cellAt wordOf
+unfolding wordOf
 returns-4 c =
-    let at8 = c .before .before .before .before .before .before .before .before in
-    let if4 = c .before .before .before .if4 in
     let type-at = c .before .before .before .before .before .before .type-at in
     let if1 = c .before .before .before .before .before .before .before .if1 in
-    let if12 = at8 .if12 in
-    let args = at8 .before .before .args in
-    let pre = at8 .before .before .pre in
-    let type-at-is = sym (type-at .ensures) ∙ if4 .taken in
-    let is-clock-here = is-clock 6 _ (type-at .ensures) (if4 .taken) (omega arith) (omega arith) in
-    let bits-some-here = bits-some (getD (args .st .now) (8 + 8 * args .i) (pos 0)) (if12 .given) (if1 .left) in
-    let cell-named-here = cell-named _ _ _ _ _ (pre .3) is-clock-here (not-timer 6 _ (type-at .ensures) (if4 .taken) (omega arith)) bits-some-here in
-    cell-ticks _ _ _ _ _ is-clock-here bits-some-here
-    ∙ ap (λ k. ticks (args .sheet .now) (args .e) k (8 + 8 * args .i) (args .st .now)) type-at-is
-    ∙ c .before .tick-cycler .ensures _ (pre .3 .whole) cell-named-here
+    let if12 = c .before .before .before .before .before .before .before .before .if12 in
+    let cell-at = c .before .before .before .before .before .before .before .before .before .cell-at in
+    let args = c .before .before .before .before .before .before .before .before .before .before .before .args in
+    let pre = c .before .before .before .before .before .before .before .before .before .before .before .pre in
+    let some = bits-some (getD (args .st .now) (cell-at .result) (pos 0)) (if12 .given) (if1 .left) in
+    let if-here = c .before .before .before .if4 in
+    let clock = is-clock 6 _ (type-at .ensures) (if-here .taken) (omega arith) (omega arith) in
+    rw (← cell-at .ensures)
+    (cell-ticks _ _ _ _ _ clock some
+    ∙ ap (λ k. ticks (args .sheet .now) (args .e) k (cell-at .result) (args .st .now)) (sym (type-at .ensures) ∙ if-here .taken)
+    ∙ c .before .tick-cycler .ensures _ (pre .3 .whole) (cell-named _ _ _ _ _ _ (cell-at .ensures) (pre .3) clock some (not-timer 6 _ (type-at .ensures) (if-here .taken) (omega arith))))
 
 returns-5 : tie.Need-returns-5
 unfolding changedTo
@@ -126,8 +137,7 @@ pub slice-cell-spec : {M : Type 1} → statement M
 slice-cell-spec =
     tie.close
     (tie.spec
-    mul-at
-    add-at
+    cell-at-requires
     mul-if1
     slice-copy-out-if1
     returns

@@ -37,7 +37,7 @@ enum-known-taken : tie.Need-enum-known-taken
 enum-known-taken c = search needs
 
 delivers-requires : tie.Need-delivers-requires
-delivers-requires c κs = 
+delivers-requires c κs =
     let h = c .before .before .before .before .before .before .before .before .before .before .before .pre in
     let took = c .before .before .before .before .before .take .ensures _ (h .playing .state) in
     let t = c .before .before .taken .given in
@@ -61,7 +61,7 @@ enum-known-taken-2 : tie.Need-enum-known-taken-2
 enum-known-taken-2 c = search needs
 
 number-requires : tie.Need-number-requires
-number-requires c κs = 
+number-requires c κs =
     let h = c .before .before .before .before .before .before .before .before .before .before .before .before .pre in
     let took = c .before .before .before .before .before .before .take2 .ensures _ (h .playing .state) in
     let t = c .before .before .before .taken2 .given in
@@ -70,7 +70,7 @@ number-requires c κs =
     ap (leZ (pos 0)) (given (t .0 .0 .receiver) (c .struct-told .given .1 .0 .1)) ∙ receiver-number _ (h .playing .passed) _ (fits h w)
 
 panicked-requires : tie.Need-panicked-requires
-panicked-requires c κs = 
+panicked-requires c κs =
     let h = c .before .before .before .before .before .before .before .before .before .before .before .before .before .pre in
     let took = c .before .before .before .before .before .before .before .take2 .ensures _ (h .playing .state) in
     let t = c .before .before .before .before .taken2 .given in
@@ -95,7 +95,7 @@ enum-known-taken-3 : tie.Need-enum-known-taken-3
 enum-known-taken-3 c = search needs
 
 reacts-requires : tie.Need-reacts-requires
-reacts-requires c κs = 
+reacts-requires c κs =
     let h = c .before .before .before .before .before .before .before .before .before .before .before .pre in
     let took = c .before .before .before .before .before .take3 .ensures _ (h .playing .state) in
     let t = c .before .before .taken3 .given in
@@ -122,7 +122,7 @@ same-length-2 : tie.Need-same-length-2
 same-length-2 c = search needs
 
 returns-3 : tie.Need-returns-3
-returns-3 c = 
+returns-3 c =
     let h = c .before .before .before .before .before .before .before .before .before .before .pre in
     deliver-missing h (c .before .before .before .before .take .ensures _ (h .playing .state)) (c .before .enum-told2 .given .1) _ _ (c .before .before .before .before .before .before .before .e2 .given .1) _ (c .answered2 .ensures)
 
@@ -130,7 +130,7 @@ same-length-3 : tie.Need-same-length-3
 same-length-3 c = search needs
 
 returns-4 : tie.Need-returns-4
-returns-4 c = 
+returns-4 c =
     let h = c .before .before .before .before .before .before .before .before .before .before .before .before .before .pre in
     let took = c .before .before .before .before .before .before .before .take .ensures _ (h .playing .state) in
     let t = c .before .before .before .before .taken .given in
@@ -142,7 +142,7 @@ same-length-4 : tie.Need-same-length-4
 same-length-4 c = search needs
 
 returns-5 : tie.Need-returns-5
-returns-5 c = 
+returns-5 c =
     let h = c .before .before .before .before .before .before .before .before .before .before .pre in
     corrupt-missing h (c .before .before .before .before .take2 .ensures _ (h .playing .state)) (c .before .enum-told3 .given .1) _ _ (c .before .before .before .before .before .before .before .e3 .given .1) _ (c .answered3 .ensures)
 
@@ -150,7 +150,7 @@ same-length-5 : tie.Need-same-length-5
 same-length-5 c = search needs
 
 returns-6 : tie.Need-returns-6
-returns-6 c = 
+returns-6 c =
     let h = c .before .before .before .before .before .before .before .before .before .before .before .before .before .before .before .pre in
     let took = c .before .before .before .before .before .before .before .before .before .take2 .ensures _ (h .playing .state) in
     let t = c .before .before .before .before .before .before .taken2 .given in
@@ -163,7 +163,7 @@ same-length-6 : tie.Need-same-length-6
 same-length-6 c = search needs
 
 returns-7 : tie.Need-returns-7
-returns-7 c = 
+returns-7 c =
     let h = c .before .before .before .before .before .before .before .before .before .before .pre in
     inner-missing h (c .before .before .before .before .take3 .ensures _ (h .playing .state)) (c .before .enum-told4 .given .1) _ (c .before .before .before .before .before .before .before .e4 .given .1) _ (c .answered4 .ensures)
 
@@ -171,7 +171,7 @@ same-length-7 : tie.Need-same-length-7
 same-length-7 c = search needs
 
 returns-8 : tie.Need-returns-8
-returns-8 c = 
+returns-8 c =
     let h = c .before .before .before .before .before .before .before .before .before .before .before .before .before .pre in
     let took = c .before .before .before .before .before .before .before .take3 .ensures _ (h .playing .state) in
     let t = c .before .before .before .before .taken3 .given in

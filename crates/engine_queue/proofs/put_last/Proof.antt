@@ -6,6 +6,7 @@ use lib.ListN.{set}
 use borrow.Author.Needs.{needs}
 use Rattle.machine.specs.State.{wordsOf, putWords}
 use Rattle.engine_store.proofs.Laws.{given}
+use Rattle.engine_store.proofs.Lies.{place-in}
 use Rattle.engine_queue.proofs.Laws.{last-put}
 use Rattle.engine_queue.proofs.put_last.Statement.{statement}
 use Rattle.engine_queue.proofs.put_last.Tie as tie
@@ -13,29 +14,29 @@ use Rattle.engine_queue.proofs.put_last.Tie as tie
 waiting-count-requires : tie.Need-waiting-count-requires
 waiting-count-requires c κs = search needs
 
-place-requires : tie.Need-place-requires
-place-requires c κs = (c .before .before .before .pre .0 .long, (let e = c .before .waiting-count .ensures in let l = c .before .before .before .pre .1 in omega arith))
+place-at-requires : tie.Need-place-at-requires
+place-at-requires c κs = let e = c .waiting-count .ensures in let l = c .before .before .pre .1 in (c .before .before .pre .0 .long, omega arith)
 
 put-words-requires : tie.Need-put-words-requires
 put-words-requires c κs =
     let at8 = c .before .before .before .before .before .before .before .before in
-    let place = at8 .before .place in
-    let waiting-count = at8 .before .before .before .waiting-count in
-    let pre = at8 .before .before .before .before .before .pre in
+    let place = at8 .before .place-at in
+    let waiting-count = at8 .before .before .waiting-count in
+    let pre = at8 .before .before .before .before .pre in
     let e = waiting-count .ensures in
     let l = pre .1 in
-    let q = place .ensures .0 in
+    let q = place .ensures in
     let m = pre .0 .long in
     omega arith
 
 add-set-word : tie.Need-add-set-word
-add-set-word c = let e = c .before .before .before .before .before .before .before .before .before .before .before .before .before .before .waiting-count .ensures in let l = c .before .before .before .before .before .before .before .before .before .before .before .before .before .before .before .before .pre .1 in record { fits = omega arith }
+add-set-word c = let e = c .before .before .before .before .before .before .before .before .before .before .before .before .before .waiting-count .ensures in let l = c .before .before .before .before .before .before .before .before .before .before .before .before .before .before .before .pre .1 in record { fits = omega arith }
 
 cast-set-word : tie.Need-cast-set-word
-cast-set-word c = let e = c .before .before .before .before .before .before .before .before .before .before .before .before .before .before .waiting-count .ensures in let l = c .before .before .before .before .before .before .before .before .before .before .before .before .before .before .before .before .pre .1 in record { sfits = omega arith }
+cast-set-word c = let e = c .before .before .before .before .before .before .before .before .before .before .before .before .before .waiting-count .ensures in let l = c .before .before .before .before .before .before .before .before .before .before .before .before .before .before .before .pre .1 in record { sfits = omega arith }
 
 set-word-requires : tie.Need-set-word-requires
-set-word-requires c κs = let q = c .before .st .given in let m = c .before .before .before .before .before .before .before .before .before .before .before .before .before .before .before .before .pre .0 .long in omega arith
+set-word-requires c κs = let q = c .before .st .given in let m = c .before .before .before .before .before .before .before .before .before .before .before .before .before .before .before .pre .0 .long in omega arith
 
 same-length : tie.Need-same-length
 same-length c = search needs
@@ -43,13 +44,12 @@ same-length c = search needs
 returns : tie.Need-returns
 returns c =
     let at8 = c .before .before .before .before .before .before .before .before in
-    let at16 = at8 .before .before .before .before .before .before .before .before in
     let put-words = c .before .before .before .before .put-words in
     let struct-told8 = c .before .before .before .before .before .struct-told8 in
-    let place = at8 .before .before .before .before .before .before .place in
-    let waiting-count = at16 .waiting-count in
-    let args = at16 .before .before .args in
-    let pre = at16 .before .before .pre in
+    let place = at8 .before .before .before .before .before .before .place-at in
+    let waiting-count = at8 .before .before .before .before .before .before .before .waiting-count in
+    let args = at8 .before .before .before .before .before .before .before .before .before .args in
+    let pre = at8 .before .before .before .before .before .before .before .before .before .pre in
     let pos-here = pos (waiting-count .result + 1) in
     λ s e.
     let t = args .t in
@@ -69,14 +69,14 @@ returns c =
     c .before .set-word .ensures
     ∙ ap (λ z. set (put-words .last .0) 0 z) (given pos-here (omega arith))
     ∙ ap (λ l. set l 0 pos-here) p
-    ∙ last-put s _ t _ _ n (place .ensures .1 s e)
+    ∙ last-put s _ t _ _ n (place .ensures ∙ place-in s _ _ e)
 
 pub put-last-spec : {M : Type 1} → statement M
 put-last-spec =
     tie.close
     (tie.spec
     waiting-count-requires
-    place-requires
+    place-at-requires
     put-words-requires
     add-set-word
     cast-set-word

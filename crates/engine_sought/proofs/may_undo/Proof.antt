@@ -25,7 +25,7 @@ is-below-requires : tie.Need-is-below-requires
 is-below-requires c κs = search needs
 
 returns : tie.Need-returns
-returns c = 
+returns c =
     let e = c .before .before .before .before .e2 .given in
     let read = given (e .0 .1 .0) (c .before .before .before .known-told2 .given .1 .0 .1) in
     handed-on _ _ _ _ _ (e .1) (sym (below-same _ _ _ _ (c .before .is-below .ensures ∙ ap (λ z. isBelow z (c .before .before .externals .result)) read) (c .before .before .externals .ensures .0)) ∙ c .if1 .taken)
@@ -57,7 +57,7 @@ unfolding mayUndo
 returns-3 c = sym (ap (mayUndo _ _) (c .before .e .given .1))
 
 returns-4 : tie.Need-returns-4
-returns-4 c = 
+returns-4 c =
     let e = c .before .before .before .before .before .e2 .given in
     let read = given (e .0 .1 .0) (c .before .before .before .before .known-told2 .given .1 .0 .1) in
     deliver-undone _ _ _ _ (c .before .before .before .before .before .before .before .before .pre .1) _ (c .waiting-count .ensures) _ _ (e .1) (sym (below-same _ _ _ _ (c .before .before .is-below .ensures ∙ ap (λ z. isBelow z (c .before .before .before .externals .result)) read) (c .before .before .before .externals .ensures .0)) ∙ c .before .if1 .left)

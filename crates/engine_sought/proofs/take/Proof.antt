@@ -24,7 +24,7 @@ same-length-2 : tie.Need-same-length-2
 same-length-2 c = search needs
 
 returns-2 : tie.Need-returns-2
-returns-2 c = 
+returns-2 c =
     λ s o. record {
       waits = omega (arith, c .before .before .before .before .before .before .waiting-count .ensures, c .before .before .before .before .before .if1 .left);
       telegram = c .before .before .before .telegram-at .ensures s (o .whole);

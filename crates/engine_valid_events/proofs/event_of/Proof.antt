@@ -41,7 +41,7 @@ returns-6 : tie.Need-returns-6
 returns-6 c = kind-5 _ _ _ (c .before .before .before .if1 .left) (word-is _ _ 5 (c .before .before .word .ensures .0) (c .before .before .word .ensures .1) (c .before .match .keys5)) (c .slice .ensures _)
 
 returns-7 : tie.Need-returns-7
-returns-7 c = 
+returns-7 c =
     let word = c .before .word .ensures .0 in
     let rest = c .match .rest in
     of-no-kind _ _ _ (c .before .before .if1 .left) (word-not _ _ 1 word (rest .0 .0 .0 .0 .1)) (word-not _ _ 2 word (rest .0 .0 .0 .1)) (word-not _ _ 3 word (rest .0 .0 .1)) (word-not _ _ 4 word (rest .0 .1)) (word-not _ _ 5 word (rest .1)) refl

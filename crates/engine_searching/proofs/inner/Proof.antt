@@ -7,8 +7,8 @@ use Rattle.sheet.proofs.All.{true-and, first-fails}
 use Rattle.machine.specs.State.{wordOf, telegramIn}
 use Rattle.engine_ints.proofs.Words.{same-bits}
 use Rattle.engine_store.proofs.Laws.{port-inside, port-outside}
-use Rattle.engine_queue.proofs.inner.Statement.{statement}
-use Rattle.engine_queue.proofs.inner.Tie as tie
+use Rattle.engine_searching.proofs.inner.Statement.{statement}
+use Rattle.engine_searching.proofs.inner.Tie as tie
 
 add-if1 : tie.Need-add-if1
 add-if1 c = search needs

@@ -8,8 +8,8 @@ use Rattle.sheet.proofs.All.{true-and, first-fails, rest-fails}
 use Rattle.machine.specs.State.{wordOf, telegramIn}
 use Rattle.engine_ints.proofs.Words.{same-bits}
 use Rattle.engine_store.proofs.Laws.{bits-same, bits-differ, port-inside, port-outside}
-use Rattle.engine_queue.proofs.goes.Statement.{statement}
-use Rattle.engine_queue.proofs.goes.Tie as tie
+use Rattle.engine_searching.proofs.goes.Statement.{statement}
+use Rattle.engine_searching.proofs.goes.Tie as tie
 
 add-if1 : tie.Need-add-if1
 add-if1 c = search needs

@@ -12,12 +12,11 @@ use lib.IntN.{ℤ, pos, negsuc}
 use borrow.Author.Tests.{eqb-true}
 use Rattle.sheet.proofs.All.{true-false, all-at}
 use Rattle.machine.specs.Values.{isZero}
-use Rattle.machine.specs.State.{placeAt, stateLength, wordOf, waiting, putWords, withoutTelegram}
+use Rattle.machine.specs.State.{places, placeAt, stateLength, wordOf, waiting, putWords, withoutTelegram}
 use Rattle.machine.specs.Valid.{zeroWords, OfSheet}
-use Rattle.machine_states.proofs.Words.{length-put, word-put-in, word-put-before, word-put-behind, word-set, word-set-other, without-length, without-head, without-before, without-behind, without-last}
-use Rattle.machine_states.proofs.Parts.{unused-of}
+use Rattle.machine_states.proofs.Words.{length-put, word-put-in, word-put-before, word-put-behind, word-set, word-set-other, without-length, without-head, without-before, without-behind, without-last, without-kept}
+use Rattle.machine_states.proofs.Parts.{waiting-limit, unused-of}
 use Rattle.engine_store.proofs.Laws.{word-zeros}
-use Rattle.engine_queue.proofs.Laws.{laid, waiting-limit}
 
 -- the words from `at` on, up to number i, are those eight further on
 pub record Moved (old : List ℤ) (at i : ℕ) (st : List ℤ) : Type 0 where
@@ -44,8 +43,8 @@ zero-word (pos k) h = ap pos (eqb-true k 0 h)
 zero-word (negsuc k) h = absurd (true-false h refl)
 
 -- "unused ones zero"
-unused-word : (s : List ℕ) (st : List ℤ) → OfSheet s st → (k : ℕ) → placeAt s (waiting st) ≤ k → k < stateLength s → wordOf st k ≡ pos 0
-unfolding placeAt stateLength zeroWords
+unused-word : (s : List ℕ) (st : List ℤ) → OfSheet s st → (k : ℕ) → placeAt s (waiting st) ≤ k → k < placeAt s places → wordOf st k ≡ pos 0
+unfolding placeAt zeroWords
 unused-word s st o k l m =
     let x = k - placeAt s 0 in
     let d = div-add-mod' x 8 in
@@ -54,8 +53,8 @@ unused-word s st o k l m =
     rw e at (zero-word _ (all-at 8 _ (unused-of s st o (x / 8) (omega arith) (omega arith)) (x % 8) r))
 
 module _ (s : List ℕ) (old : List ℤ) (o : OfSheet s old) (j n at end i : ℕ) (st : List ℤ) (here : j < waiting old) (count : n ≡ waiting old - 1) (from : at ≡ placeAt s j) (to : end ≡ placeAt s n) (low : i ≤ end) (high : end ≤ i) (whole : length st ≡ length old) (h : Moved old at i st) where
-  limit : waiting old ≤ 128
-  limit = waiting-limit old (laid s old o)
+  limit : waiting old ≤ places
+  limit = waiting-limit s old o
 
   abbrev cleared : List ℤ
   cleared = putWords st end (replicate 8 (pos 0))
@@ -67,24 +66,33 @@ module _ (s : List ℕ) (old : List ℤ) (o : OfSheet s old) (j n at end i : ℕ
   cleared-length : length cleared ≡ length st
   cleared-length = length-put st end (replicate 8 (pos 0)) last-fits
 
-  left-zero : (k : ℕ) → end ≤ k → k < length st → wordOf cleared k ≡ pos 0
-  unfolding placeAt stateLength
+  -- in the places from there on
+  left-zero : (k : ℕ) → end ≤ k → k < placeAt s places → wordOf cleared k ≡ pos 0
+  unfolding placeAt
   left-zero k l m = elim (decLt k (end + 8)) [
     | yes q ↦ (let e : end + (k - end) ≡ k = omega arith in rw e at (word-put-in st end (replicate 8 (pos 0)) last-fits (k - end) (omega arith) ∙ word-zeros 8 (k - end) (omega arith)))
-    | no q ↦ word-put-behind st end (replicate 8 (pos 0)) last-fits k (omega arith) ∙ h .behind k (omega arith) ∙ unused-word s old o k (omega (arith, limit)) (omega (arith, o .whole))
+    | no q ↦ word-put-behind st end (replicate 8 (pos 0)) last-fits k (omega arith) ∙ h .behind k (omega arith) ∙ unused-word s old o k (omega (arith, limit)) m
   ]
 
-  right-zero : (k : ℕ) → end ≤ k → k < length st → wordOf (withoutTelegram s old j) k ≡ pos 0
-  unfolding placeAt stateLength
-  right-zero k l m = elim (decLt (k + 8) (stateLength s)) [
+  right-zero : (k : ℕ) → end ≤ k → k < placeAt s places → wordOf (withoutTelegram s old j) k ≡ pos 0
+  unfolding placeAt
+  right-zero k l m = elim (decLt (k + 8) (placeAt s places)) [
     | yes q ↦ without-behind s old j (o .whole) here limit k (omega arith) q ∙ unused-word s old o (k + 8) (omega arith) q
-    | no q ↦ (let e : placeAt s 127 + (k - placeAt s 127) ≡ k = omega (arith, o .whole) in rw e at (without-last s old j (o .whole) here limit (k - placeAt s 127) (omega (arith, o .whole))))
+    | no q ↦ (let last = placeAt s (places - 1) in let e : last + (k - last) ≡ k = omega arith in rw e at (without-last s old j (o .whole) here limit (k - last) (omega arith)))
   ]
 
-  word : (k : ℕ) → k < length st → (k ≡ 0 → ⊥) → wordOf cleared k ≡ wordOf (withoutTelegram s old j) k
-  unfolding placeAt stateLength
-  word k l z = elim (decLt k end) [
-    | no q ↦ left-zero k (omega arith) l ∙ sym (right-zero k (omega arith) l)
+  -- behind the places
+  kept : (k : ℕ) → placeAt s places ≤ k → wordOf cleared k ≡ wordOf (withoutTelegram s old j) k
+  unfolding placeAt
+  kept k l = word-put-behind st end (replicate 8 (pos 0)) last-fits k (omega (arith, limit)) ∙ h .behind k (omega (arith, limit)) ∙ sym (without-kept s old j (o .whole) here limit k l)
+
+  word : (k : ℕ) → (k ≡ 0 → ⊥) → wordOf cleared k ≡ wordOf (withoutTelegram s old j) k
+  unfolding placeAt
+  word k z = elim (decLt k end) [
+    | no q ↦ elim (decLt k (placeAt s places)) [
+      | yes p ↦ left-zero k (omega arith) p ∙ sym (right-zero k (omega arith) p)
+      | no p ↦ kept k (omega arith)
+    ]
     | yes q ↦ word-put-before st end (replicate 8 (pos 0)) last-fits k q ∙ elim (decLt k at) [
       | yes p ↦ h .before k p ∙ sym (without-before s old j (o .whole) here limit k (omega arith) (omega arith))
       | no p ↦ h .moved k (omega arith) (omega arith) ∙ sym (without-behind s old j (o .whole) here limit k (omega arith) (omega (arith, limit)))
@@ -98,5 +106,5 @@ module _ (s : List ℕ) (old : List ℤ) (o : OfSheet s old) (j n at end i : ℕ
       each : (k : ℕ) → k < length (set cleared 0 (pos n)) → wordOf (set cleared 0 (pos n)) k ≡ wordOf (withoutTelegram s old j) k
       each k l = elim (ℕ-discrete k 0) [
         | yes q ↦ rw q (word-set cleared 0 (pos n) (omega (arith, length-set cleared 0 (pos n))) ∙ ap pos count ∙ sym (without-head s old j (o .whole) here limit))
-        | no q ↦ word-set-other cleared 0 k (pos n) q ∙ word k (omega (arith, length-set cleared 0 (pos n), cleared-length)) q
+        | no q ↦ word-set-other cleared 0 k (pos n) q ∙ word k q
       ]
