@@ -1,2 +1,3 @@
 pub mod Cells
 pub mod Playing
+pub mod Lent

@@ -1,5 +1,5 @@
 -- The numbers of a running body, and where an index leads.
-use Prim.Native.Nat.{ℕ, _+_, _*_, _-_, _<_, _≤_}
+use Prim.Native.Nat.{ℕ, _+_, _-_, _<_, _≤_}
 use mathlib.Core.Path.{_≡_, refl, sym, ap, _∙_}
 use mathlib.Core.List.{List}
 use mathlib.Core.Bool.{Bool, true, false, not}
@@ -9,6 +9,7 @@ use lib.ListN.{length, getD, set}
 use lib.Seq.{getD-set-same, getD-set-other}
 use lib.IntN.{ℤ, natAbs}
 use borrow.Author.Tests.{not-true, not-false}
+use Rattle.sheet_rules.specs.Shape.{mostCells}
 use Rattle.machine.specs.Values.{isBelow}
 use Rattle.machine.specs.State.{cellAt}
 use Rattle.machine_states.proofs.Parts.{below-abs}
@@ -38,10 +39,10 @@ module _ (w : List ℕ) (n : ℕ) (i : ℤ) (t : Bool) (test : t ≡ isBelow i (
   goes-below h = sym test ∙ not-false t h
 
   module _ (h : not t ≡ false) (k : ℕ) (e : k ≡ natAbs i) where
-    pub goes-inside : At (8 + 8 * (cellIn w n + k)) ≡ leadsTo w n i
-    unfolding leadsTo cellAt
-    goes-inside = ap (λ k. At (8 + 8 * (cellIn w n + k))) e ∙ rw (leadsTo, goes-below h) refl
+    pub goes-inside : (at : ℕ) → at ≡ cellAt (cellIn w n + k) → At at ≡ leadsTo w n i
+    unfolding leadsTo
+    goes-inside at q = ap At (q ∙ ap (λ (k : ℕ). cellAt (cellIn w n + k)) e) ∙ rw (leadsTo, goes-below h) refl
 
     -- the cell is one of the few
-    pub goes-few : Spans w n → cellIn w n + k ≤ 512
+    pub goes-few : Spans w n → cellIn w n + k ≤ mostCells
     goes-few l = omega (arith, below-abs i (cellIn w (n + 1) - cellIn w n) (goes-below h), l .rise, l .few)

@@ -5,6 +5,7 @@ use mathlib.Core.List.{List}
 use mathlib.Core.Bool.{true, false}
 use lib.ListN.{length, getD}
 use lib.IntN.{ℤ, natAbs}
+use Rattle.sheet_rules.specs.Shape.{mostCells}
 use Rattle.machine.specs.Values.{isBelow}
 use Rattle.machine.specs.State.{cellAt}
 use Rattle.engine_context.specs.declared.Place.{Place}
@@ -34,7 +35,7 @@ pub record Spans (w : List ℕ) (n : ℕ) : Type 0 where
   pub whole : length w ≡ 38
   pub number : n < 32
   pub rise : cellIn w n ≤ cellIn w (n + 1)
-  pub few : cellIn w (n + 1) ≤ 512
+  pub few : cellIn w (n + 1) ≤ mostCells
 
 -- where index i leads in variable n
 unfoldable pub leadsTo : List ℕ → ℕ → ℤ → Place

@@ -3,6 +3,7 @@ ghost use mathlib.Core.Path.{_≡_};
 ghost use Prim.Native.Nat.{ℕ, _+_, _*_, _<_, _≤_};
 ghost use lib.ListN.{length, getD};
 ghost use Rattle.machine.specs.State.{cellAt};
+ghost use Rattle.engine_store.specs.Layout.{longest};
 ghost use Rattle.engine_context.specs.Context.{elementIn, bindingIn, chartIn, firstBodyIn, bodyIn, cellIn, Spans, leadsTo};
 
 pub const ELEMENT: usize = 0;
@@ -68,10 +69,10 @@ pub fn inner(context: &[usize; 38], body: usize) -> [usize; 38]
 
 // The first word of plain variable n.
 pub fn first_word(context: &[usize; 38], n: usize) -> usize
-    requires { ⌜ (length (now context) ≡ 38) × (n < 32) × (cellAt (cellIn (now context) n) < 5128) ⌝ }
+    requires { ⌜ (length (now context) ≡ 38) × (n < 32) × (cellAt (cellIn (now context) n) < longest) ⌝ }
     ensures { λ k. ⌜ k ≡ cellAt (cellIn (now (context .entry)) n) ⌝ }
 {
-    8 + 8 * context[CELLS + n]
+    engine_store::cell_at(context[CELLS + n])
 }
 
 // The word of array n at index i. Its cells end where the next variable's begin, whatever the kind of
@@ -86,5 +87,5 @@ pub fn element_word(context: &[usize; 38], n: usize, i: i32) -> Place
         return Place::Outside;
     }
     let k = engine_valid_words::number(i);
-    Place::At(8 + 8 * (first + k))
+    Place::At(engine_store::cell_at(first + k))
 }

@@ -2,20 +2,20 @@
 use sheet::Found;
 use sheet::Record;
 ghost use mathlib.Core.Path.{_≡_};
-ghost use mathlib.Core.List.{List, _∷_, _++_};
-ghost use Prim.Native.Nat.{ℕ, _+_, _*_, _<_, _≤_};
+ghost use mathlib.Core.List.{_∷_};
+ghost use Prim.Native.Nat.{_+_, _<_, _≤_};
 ghost use lib.ListN.{length, replicate};
-ghost use lib.IntN.{ℤ, pos};
+ghost use lib.IntN.{pos};
 ghost use Rattle.sheet.specs.Sheet.{directoryOf};
 ghost use Rattle.sheet.specs.Names.{chartVariables, bodyParameters, bodyLocals};
 ghost use Rattle.sheet_rules.specs.declared.Checked.the-variants.{Passed};
 ghost use Rattle.sheet_rules.specs.Indices.{cellsBefore};
 ghost use Rattle.machine.specs.Values.{defaultOf};
 ghost use Rattle.machine.specs.Run.{localAt, localsOf};
-ghost use Rattle.machine.specs.State.{cellAt, stateLength};
+ghost use Rattle.machine.specs.State.{cellAt, stateLength, putWords};
 ghost use Rattle.machine.specs.Play.{alike, defaultCells, defaultState};
 ghost use Rattle.sheet_rules.specs.Check.{checkOf};
-ghost use Rattle.engine_defaults.specs.Blank.{Blank};
+ghost use Rattle.engine_cells.specs.Lent.{CellsIn};
 
 // "Defaults: false, 0, Log, log, the declared member, a stopped clock"
 fn default_of(sheet: &[u8], directory: &[usize; 16], t: usize) -> i32
@@ -57,22 +57,19 @@ pub fn fresh_locals(sheet: &[u8], directory: &[usize; 16], b: Record, d: &[i32; 
     locals
 }
 
-// n cells alike, from a cell on: word z and seven zeros each. Where z is 0 they are so already.
+// n cells set to a default, from a cell on, whatever stood there: word z and seven zeros each.
 fn cells_alike(st: &mut [i32], cell: usize, n: usize, z: i32)
-    requires { ⌜ (cell + n ≤ 512) × (cellAt (cell + n) ≤ length (now st)) ⌝ }
-    ensures { λ _. ⌜ ((done : List ℤ) (m : ℕ) → Blank (now (st .entry)) done cell (8 * n + m) → Blank (now (st .exit)) (done ++ alike n (z ∷ replicate 7 (pos 0))) (cell + n) m) ⌝ }
+    requires { ⌜ CellsIn (now st) cell n ⌝ }
+    ensures { λ _. ⌜ now (st .exit) ≡ putWords (now (st .entry)) (cellAt cell) (alike n (z ∷ replicate 7 (pos 0))) ⌝ }
 {
-    if z == 0 {
-        return;
-    }
     let mut k: usize = 0;
     while k < n {
-        st[8 + 8 * (cell + k)] = z;
+        engine_store::set_cell(st, engine_store::cell_at(cell + k), z);
         k += 1;
     }
 }
 
-// The default cells of a chart's variables, from a cell on, and the cell behind them.
+// The default cells of a chart's variables, from a cell on, whatever stood there, and the cell behind them.
 fn default_cells(
     sheet: &[u8],
     directory: &[usize; 16],
@@ -80,8 +77,8 @@ fn default_cells(
     c: Record,
     cell: usize,
 ) -> usize
-    requires { ⌜ (now directory ≡ directoryOf (now sheet)) × (cell + cellsBefore (now sheet) c (chartVariables c .count) ≤ 512) × (cellAt (cell + cellsBefore (now sheet) c (chartVariables c .count)) ≤ length (now st)) ⌝ }
-    ensures { λ n. ⌜ (n ≡ cell + cellsBefore (now (sheet .entry)) c (chartVariables c .count)) × ((done : List ℤ) (m : ℕ) → Blank (now (st .entry)) done cell (8 * cellsBefore (now (sheet .entry)) c (chartVariables c .count) + m) → Blank (now (st .exit)) (done ++ defaultCells (now (sheet .entry)) (chartVariables c .count) (chartVariables c .first)) (cell + cellsBefore (now (sheet .entry)) c (chartVariables c .count)) m) ⌝ }
+    requires { ⌜ (now directory ≡ directoryOf (now sheet)) × CellsIn (now st) cell (cellsBefore (now sheet) c (chartVariables c .count)) ⌝ }
+    ensures { λ n. ⌜ (n ≡ cell + cellsBefore (now (sheet .entry)) c (chartVariables c .count)) × (now (st .exit) ≡ putWords (now (st .entry)) (cellAt cell) (defaultCells (now (sheet .entry)) (chartVariables c .count) (chartVariables c .first))) ⌝ }
 {
     let count = c.f3 as usize;
     let mut next = cell;

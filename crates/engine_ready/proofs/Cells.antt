@@ -12,11 +12,11 @@ use Rattle.sheet.specs.All.{_and_}
 use Rattle.sheet.specs.Names.{chartVariables}
 use Rattle.sheet.proofs.All.{and-first, and-second}
 use Rattle.sheet_rules.specs.Indices.{indexAt, isPlain, cellsTaken, cellsBefore}
-use Rattle.sheet_rules.specs.Shape.{chartShape}
+use Rattle.sheet_rules.specs.Shape.{mostCells, chartShape}
 use Rattle.machine.specs.Values.{isBelow, chartOf}
 use Rattle.sheet_rules.specs.declared.Checked.the-variants.{Passed}
 use Rattle.sheet_rules.specs.Check.{checkOf}
-use Rattle.machine.specs.State.{cellAt, cellOf, placeAt, stateLength}
+use Rattle.machine.specs.State.{cellAt, cellOf}
 use Rattle.machine.specs.Valid.{OfSheet}
 use Rattle.machine_passed.proofs.Records.{chart-shape, cells-limit}
 use Rattle.machine_passed.proofs.Charts.{element-chart}
@@ -25,15 +25,16 @@ use Rattle.sheet_rules.proofs.Fields.{sum-more}
 use Rattle.machine_states.proofs.Elements.{variable-cells, element-cells}
 use Rattle.machine_states.proofs.Parts.{below-abs}
 use Rattle.machine_states.proofs.Kept.{cell-in-state}
+use Rattle.engine_store.specs.Layout.{longest}
+use Rattle.engine_store.proofs.Lies.{at-most}
 use Rattle.engine_context.specs.declared.Place.{Place}
 use Rattle.engine_context.specs.declared.Place.the-variants.{At, Outside}
 use Rattle.engine_context.specs.Context.{elementIn, cellIn, leadsTo}
 use Rattle.engine_ready.specs.Ready.{contextAt, Running, Ready, Lies, Reaches}
 
 -- "Elements have at most 512 variables together"
-state-short : (s : List ℕ) (st : List ℤ) → checkOf s ≡ Passed → OfSheet s st → length st ≤ 5128
-unfolding stateLength placeAt
-state-short s st ok o = omega (arith, cells-limit s ok, o .whole)
+state-short : (s : List ℕ) (st : List ℤ) → checkOf s ≡ Passed → OfSheet s st → length st ≤ longest
+state-short s st ok o = at-most s (length st) (cells-limit s ok) (o .whole)
 
 -- where an index leads, the state has a word
 pub leads-inside : (w : List ℕ) (st : List ℤ) (n : ℕ) → Reaches w st n → (i : ℤ) (k : ℕ) → leadsTo w n i ≡ At k → k < length st
@@ -82,7 +83,7 @@ module _ (s w : List ℕ) (st lo : List ℤ) (ready : Ready s w st lo) (n : ℕ)
   cell-inside : (k : ℕ) → k < cellsTaken s (chartVariables (contextAt s w .chart) .first + n) → cellAt (cellIn w n + k) + 8 ≤ length st
   cell-inside k l = let e = cell-is s w (ready .running) n h k in omega (arith, cell-in-state s st (ready .state) _ _ own n h k l)
 
-  few-cells : cellIn w (n + 1) ≤ 512
+  few-cells : cellIn w (n + 1) ≤ mostCells
   unfolding contextAt
   few-cells = omega (arith, next-is s w (ready .running) n h, ready .running .cells n (omega arith), variable-cells s (contextAt s w .chart) n (chartVariables (contextAt s w .chart) .count) h, element-cells s (elementIn w) (contextAt s w .chart) own, cells-limit s (ready .running .passed))
 

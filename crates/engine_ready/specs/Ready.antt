@@ -23,6 +23,7 @@ use Rattle.machine.specs.Valid.{OfSheet}
 use Rattle.machine.specs.Eval.{Context, evalOf}
 use Rattle.sheet_rules.specs.Check.{checkOf}
 use Rattle.machine_passed.specs.Places.{Placed, Locals}
+use Rattle.engine_store.specs.Layout.{longest}
 use Rattle.engine_context.specs.Context.{elementIn, bindingIn, chartIn, firstBodyIn, bodyIn, cellIn, Spans}
 use Rattle.machine_sound.specs.Gives.{Gives}
 
@@ -54,7 +55,7 @@ pub record Lies (w : List ℕ) (st : List ℤ) (n : ℕ) : Type 0 where
   pub whole : length w ≡ 38
   pub number : n < 32
   pub inside : cellAt (cellIn w n) + 8 ≤ length st
-  pub short : length st ≤ 5128
+  pub short : length st ≤ longest
 
 -- the cells of variable n lie in the state
 pub record Reaches (w : List ℕ) (st : List ℤ) (n : ℕ) : Type 0 where

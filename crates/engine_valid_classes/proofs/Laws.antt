@@ -16,11 +16,13 @@ use Rattle.sheet_rules.proofs.Fields.{sum-more}
 use Rattle.sheet_rules.proofs.Sums.{sum-same, count-on}
 use Rattle.machine.specs.declared.Telegram.{Telegram}
 use Rattle.machine.specs.Values.{isBelow, sameWord}
-use Rattle.machine.specs.State.{placeAt, stateLength, waiting, telegramIn, telegramOf, isInternal, classOf, sameClass, waitingLike, classLimit}
+use Rattle.machine.specs.State.{stateLength, waiting, telegramIn, telegramOf, isInternal, classOf, sameClass, waitingLike, classLimit}
 use Rattle.machine.specs.Valid.{classesFit}
 use Rattle.machine_states.proofs.Frame.{all-true}
 use Rattle.machine_states.proofs.Parts.{below-abs}
 use Rattle.machine_states.proofs.Classes.{class-inside, class-outside, class-words}
+use Rattle.engine_store.specs.Layout.{placeIn}
+use Rattle.engine_store.proofs.Lies.{place-in}
 use Rattle.engine_valid_classes.specs.Classes.{EndsFit, classNumber}
 
 -- ---- numbers of classes
@@ -92,7 +94,10 @@ by-number t u f g = go (sameClass t u) refl
 
 module _ (st : List ℤ) where
   abbrev at : ℕ → Telegram
-  at j = telegramIn st (length st - 1024 + 8 * j)
+  at j = telegramIn st (placeIn (length st) j)
+
+  pub number-is : (j i k : ℕ) → i ≡ placeIn (length st) j → k ≡ classNumber (telegramIn st i) → k ≡ classNumber (at j)
+  number-is j i k p e = e ∙ ap (λ (i : ℕ). classNumber (telegramIn st i)) p
 
   -- how many of the first j have the class of number k
   abbrev numbered : ℕ → ℕ → ℕ
@@ -130,8 +135,8 @@ module _ (st : List ℤ) where
 
     module _ (s : List ℕ) (whole : length st ≡ stateLength s) (all : n ≡ waiting st) where
       place : (j : ℕ) → telegramOf s st j ≡ at j
-      unfolding telegramOf placeAt stateLength
-      place j = let e : placeAt s j ≡ length st - 1024 + 8 * j = omega arith in ap (telegramIn st) e
+      unfolding telegramOf
+      place j = ap (telegramIn st) (sym (place-in s (length st) j whole))
 
       -- so many of the first m are of a class
       like-numbered : (i : ℕ) → i < n → (m : ℕ) → m ≤ n → countBelow m (λ j. sameClass (telegramOf s st i) (telegramOf s st j)) ≡ numbered m (classNumber (at i))

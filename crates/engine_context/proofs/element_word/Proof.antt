@@ -2,6 +2,7 @@ use mathlib.Core.Path.{_≡_}
 use native.Mathlib.Omega.{arith}
 use mir.Syntax.{w32}
 use mir.Val.{ofZ, toZ}
+use Rattle.machine.specs.State.{cellAt}
 use Rattle.engine_valid_words.proofs.Laws.{below-from}
 use Rattle.engine_context.proofs.Laws.{goes-outside, goes-below, goes-inside, goes-few}
 use borrow.Author.Needs.{needs}
@@ -41,47 +42,26 @@ returns c = let h : toZ w32 (ofZ w32 (c .before .before .before .before .args .i
 number-requires : tie.Need-number-requires
 number-requires c κs = let h : toZ w32 (ofZ w32 (c .before .before .before .before .args .i)) ≡ c .before .before .before .before .args .i = search needs in rw h (below-from _ _ (goes-below (c .before .before .before .before .args .context .now) (c .before .before .before .before .args .n) (c .before .before .before .before .args .i) _ (rw h at (c .before .is-below .ensures)) (c .if1 .left)))
 
-add-t7 : tie.Need-add-t7
-add-t7 c =
+add-cell-at : tie.Need-add-cell-at
+add-cell-at c =
     let args = c .before .before .before .before .before .args in
-    let pre = c .before .before .before .before .before .pre in
     let h : toZ w32 (ofZ w32 (args .i)) ≡ args .i = search needs in
-    record {
-      fits = omega (
-        arith,
-        goes-few (args .context .now) (args .n) (args .i) _ (rw h at (c .before .before .is-below .ensures)) (c .before .if1 .left) _
-            (rw h at (c .number .ensures)) pre,
-      );
-    }
+    let few = goes-few (args .context .now) (args .n) (args .i) _ (rw h at (c .before .before .is-below .ensures)) (c .before .if1 .left) _ (rw h at (c .number .ensures)) (c .before .before .before .before .before .pre) in
+    record { fits = omega arith }
 
-mul-t11 : tie.Need-mul-t11
-mul-t11 c =
+cell-at-requires : tie.Need-cell-at-requires
+unfolding cellAt
+cell-at-requires c κs =
     let args = c .before .before .before .before .before .args in
-    let pre = c .before .before .before .before .before .pre in
     let h : toZ w32 (ofZ w32 (args .i)) ≡ args .i = search needs in
-    record {
-      fits = omega (
-        arith,
-        goes-few (args .context .now) (args .n) (args .i) _ (rw h at (c .before .before .is-below .ensures)) (c .before .if1 .left) _
-            (rw h at (c .number .ensures)) pre,
-      );
-    }
-
-add-t8 : tie.Need-add-t8
-add-t8 c =
-    let args = c .before .before .before .before .before .args in
-    let pre = c .before .before .before .before .before .pre in
-    let h : toZ w32 (ofZ w32 (args .i)) ≡ args .i = search needs in
-    record {
-      fits = omega (
-        arith,
-        goes-few (args .context .now) (args .n) (args .i) _ (rw h at (c .before .before .is-below .ensures)) (c .before .if1 .left) _
-            (rw h at (c .number .ensures)) pre,
-      );
-    }
+    let few = goes-few (args .context .now) (args .n) (args .i) _ (rw h at (c .before .before .is-below .ensures)) (c .before .if1 .left) _ (rw h at (c .number .ensures)) (c .before .before .before .before .before .pre) in
+    omega arith
 
 returns-2 : tie.Need-returns-2
-returns-2 c = let h : toZ w32 (ofZ w32 (c .before .before .before .before .before .args .i)) ≡ c .before .before .before .before .before .args .i = search needs in goes-inside (c .before .before .before .before .before .args .context .now) (c .before .before .before .before .before .args .n) (c .before .before .before .before .before .args .i) _ (rw h at (c .before .before .is-below .ensures)) (c .before .if1 .left) _ (rw h at (c .number .ensures))
+returns-2 c =
+    let args = c .before .before .before .before .before .before .args in
+    let h : toZ w32 (ofZ w32 (args .i)) ≡ args .i = search needs in
+    goes-inside (args .context .now) (args .n) (args .i) _ (rw h at (c .before .before .before .is-below .ensures)) (c .before .before .if1 .left) _ (rw h at (c .before .number .ensures)) _ (c .cell-at .ensures)
 
 pub element-word-spec : {M : Type 1} → statement M
 element-word-spec =
@@ -98,7 +78,6 @@ element-word-spec =
     is-below-requires
     returns
     number-requires
-    add-t7
-    mul-t11
-    add-t8
+    add-cell-at
+    cell-at-requires
     returns-2)

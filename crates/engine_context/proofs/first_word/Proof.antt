@@ -1,31 +1,24 @@
-use native.Mathlib.Omega.{arith}
 use Rattle.machine.specs.State.{cellAt}
 use borrow.Author.Needs.{needs}
 use Rattle.engine_context.proofs.first_word.Statement.{statement}
 use Rattle.engine_context.proofs.first_word.Tie as tie
 
-add-result : tie.Need-add-result
-add-result c = search needs
+add-cell-at : tie.Need-add-cell-at
+add-cell-at c = search needs
 
-mul-result : tie.Need-mul-result
-mul-result c = search needs
+mul-cell-at : tie.Need-mul-cell-at
+mul-cell-at c = search needs
 
-element-copy-out-result : tie.Need-element-copy-out-result
-element-copy-out-result c = search needs
+element-copy-out-cell-at : tie.Need-element-copy-out-cell-at
+element-copy-out-cell-at c = search needs
 
-mul-result-2 : tie.Need-mul-result-2
-unfolding cellAt
-mul-result-2 c = let h = c .before .pre .2 in record { fits = omega arith }
-
-add-result-2 : tie.Need-add-result-2
-unfolding cellAt
-add-result-2 c = let h = c .before .pre .2 in record { fits = omega arith }
+cell-at-requires : tie.Need-cell-at-requires
+cell-at-requires c κs = search needs
 
 returns : tie.Need-returns
-unfolding cellAt
 returns c = search needs
 
 pub first-word-spec : {M : Type 1} → statement M
 first-word-spec =
     tie.close
-    (tie.spec add-result mul-result element-copy-out-result mul-result-2 add-result-2 returns)
+    (tie.spec add-cell-at mul-cell-at element-copy-out-cell-at cell-at-requires returns)

@@ -13,7 +13,7 @@ use Rattle.engine_defaults.proofs.default_cells.Statement.{statement}
 use Rattle.engine_defaults.proofs.default_cells.Tie as tie
 
 abbrev Inv-loop : tie.InvT-loop
-Inv-loop sheet directory st₀ c cell count next₀ j₀ st next j = (j ≤ count) × (length st ≡ length st₀) × (next ≡ cell + cellsBefore sheet c j) × Written sheet c st₀ st (cellsBefore sheet c (c .f3)) cell j
+Inv-loop sheet directory st₀ c cell count next₀ j₀ st next j = (j ≤ count) × (length st ≡ length st₀) × (next ≡ cell + cellsBefore sheet c j) × Written sheet c st₀ cell st j
 
 abbrev μ-loop : tie.MeasureT-loop
 μ-loop sheet directory st₀ c cell count next₀ j₀ st next j = count - j
@@ -22,7 +22,7 @@ cast-count : tie.Need-cast-count Inv-loop μ-loop
 cast-count c = search needs
 
 loop-holds : tie.Need-loop-holds Inv-loop μ-loop
-loop-holds c = (omega arith, refl, no-cells _ _ _, written-none _ _ _ _ _)
+loop-holds c = (omega arith, refl, no-cells _ _ _, written-none _ (c .before .before .args .c) _ _)
 
 cast-d : tie.Need-cast-d Inv-loop μ-loop
 cast-d c = search needs
@@ -42,21 +42,23 @@ cells-taken-requires c κs = search needs
 cells-alike-requires : tie.Need-cells-alike-requires Inv-loop μ-loop
 unfolding cellAt
 cells-alike-requires c κs =
+    let turn = c .before .before .before .before .before .before .loop in
+    let start = c .before .before .before .before .before .before .before .before .before in
     let l = c .before .before .before .before .before .loop-test .taken in
-    let e = c .before .before .before .before .before .before .loop .inv .2 in
-    let v = variable-cells (c .before .before .before .before .before .before .before .before .before .args .sheet .now) (c .before .before .before .before .before .before .before .before .before .args .c) (c .before .before .before .before .before .before .loop .j) _ l in
-    let w = c .before .before .before .before .before .before .before .before .before .pre .1 in
+    let v = variable-cells (start .args .sheet .now) (start .args .c) (turn .j) _ l in
+    let e = turn .inv .2 in
+    let h = turn .inv .1 in
     let x = c .before .cells-taken .ensures .0 in
-    let k = c .before .before .before .before .before .before .before .before .before .pre .2 in
-    let h = c .before .before .before .before .before .before .loop .inv .1 in
-    (omega arith, omega arith)
+    let w = start .pre .1 .few in
+    let k = start .pre .1 .inside in
+    record { few = omega arith; inside = omega arith }
 
 add-next : tie.Need-add-next Inv-loop μ-loop
 add-next c =
     let l = c .before .before .before .before .before .before .before .loop-test .taken in
     let e = c .before .before .before .before .before .before .before .before .loop .inv .2 in
     let v = variable-cells (c .before .before .before .before .before .before .before .before .before .before .before .args .sheet .now) (c .before .before .before .before .before .before .before .before .before .before .before .args .c) (c .before .before .before .before .before .before .before .before .loop .j) _ l in
-    let w = c .before .before .before .before .before .before .before .before .before .before .before .pre .1 in
+    let w = c .before .before .before .before .before .before .before .before .before .before .before .pre .1 .few in
     let x = c .before .before .before .cells-taken .ensures .0 in
     record { fits = omega arith }
 
@@ -67,26 +69,24 @@ loop-less : tie.Need-loop-less Inv-loop μ-loop
 loop-less c = search needs
 
 loop-again : tie.Need-loop-again Inv-loop μ-loop
+unfolding cellAt
 loop-again c =
     let at8 = c .before .before .before .before .before .before .before .before in
     let cells-taken = c .before .before .before .cells-taken in
     let default-of = c .before .before .before .before .default-of in
     let type-at = c .before .before .before .before .before .type-at in
-    let loop-test = c .before .before .before .before .before .before .before .loop-test in
+    let l = c .before .before .before .before .before .before .before .loop-test .taken in
     let loop = at8 .loop in
     let args = at8 .before .before .before .args in
-    let pre = at8 .before .before .before .pre in
-    let l = loop-test .taken in
     let e = loop .inv .2 in
     let v = variable-cells (args .sheet .now) (args .c) (loop .j) _ l in
-    let w = pre .1 in
+    let w = at8 .before .before .before .pre .1 .inside in
     let x = cells-taken .ensures .0 in
-    let h = loop .inv .1 in (
+    let z = given (default-of .result) (default-of .ok) ∙ default-of .ensures in (
       omega arith,
-      c .st .given ∙ h,
+      c .st .given ∙ loop .inv .1,
       next-cell _ (args .c) _ _ _ _ e x,
-      written-more _ (args .c) _ (loop .st) _ _ _ _ (type-at .result) _ _ _ v (type-at .ensures)
-          (given (default-of .result) (default-of .ok) ∙ default-of .ensures) x e (c .before .cells-alike .ensures) (loop .inv .3),
+      written-more _ (args .c) _ _ (loop .st) _ _ (type-at .result) _ _ _ (omega arith) (type-at .ensures) z x e (c .before .cells-alike .ensures) (loop .inv .3),
     )
 
 same-length : tie.Need-same-length Inv-loop μ-loop

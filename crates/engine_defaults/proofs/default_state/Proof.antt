@@ -16,7 +16,7 @@ use Rattle.engine_defaults.proofs.default_state.Statement.{statement}
 use Rattle.engine_defaults.proofs.default_state.Tie as tie
 
 abbrev Inv-loop : tie.InvT-loop
-Inv-loop sheet directory st₀ count cell₀ k₀ i₀ st cell k i = (i ≤ count) × (count ≡ elementsOf sheet) × (length st ≡ stateLength sheet) × (cell ≡ sumBelow i (cellsBound sheet)) × Filled sheet st cell i × (k ≡ firstBinding sheet i)
+Inv-loop sheet directory st₀ count cell₀ k₀ i₀ st cell k i = (i ≤ count) × (count ≡ elementsOf sheet) × (length st ≡ stateLength sheet) × (cell ≡ sumBelow i (cellsBound sheet)) × Filled sheet st₀ st cell i × (k ≡ firstBinding sheet i)
 
 abbrev μ-loop : tie.MeasureT-loop
 μ-loop sheet directory st₀ count cell₀ k₀ i₀ st cell k i = count - i
@@ -29,7 +29,10 @@ elements-requires c κs = search needs
 
 loop-holds : tie.Need-loop-holds Inv-loop μ-loop
 unfolding sumBelow firstBinding
-loop-holds c = (omega arith, c .elements .ensures .0, ap length (c .before .before .zero .ensures) ∙ length-replicate _ (pos 0) ∙ c .before .before .before .before .before .pre .2, refl, filled-none _ (c .before .before .before .before .before .pre .1) _ _ (c .before .before .before .before .before .pre .2) (c .before .before .zero .ensures), refl)
+loop-holds c =
+    let start = c .before .before .before .before .before in
+    let whole = ap length (c .before .before .zero .ensures) ∙ length-replicate _ (pos 0) ∙ start .pre .2 in
+    (omega arith, c .elements .ensures .0, whole, refl, filled-none _ (start .pre .1) _ whole, refl)
 
 chart-bound-requires : tie.Need-chart-bound-requires Inv-loop μ-loop
 chart-bound-requires c κs = search needs
@@ -63,7 +66,7 @@ default-cells-requires c κs =
     let i = bound-inside _ (pre .1) _ _ (omega arith) (c .before .before .before .before .before .before .loop .inv .5) _ (sym (c .before .before .before .before .chart-bound .ensures) ∙ c .before .before .c .given .1) _ (c .before .before .before .before .before .before .loop .inv .3) in
     let v = cells-limit _ (pre .1) in
     let w = c .before .before .before .before .before .before .loop .inv .2 in
-    (pre .0, omega arith, omega arith)
+    (pre .0, record { few = omega arith; inside = omega arith })
 
 records-for-requires : tie.Need-records-for-requires Inv-loop μ-loop
 records-for-requires c κs = search needs
@@ -87,13 +90,20 @@ loop-again c =
     let e = i .1 in
     let p = sym (c .before .before .before .before .before .before .before .chart-bound .ensures) ∙ c .before .before .before .before .before .c .given .1 in
     let x = c .before .before .default-cells .ensures in
-    (omega arith, e, c .before .st2 .given ∙ i .2, x .0 ∙ bound-next _ (pre .1) _ _ (omega arith) (i .5) _ p _ (i .3), filled-more _ (pre .1) _ _ _ _ _ _ _ (omega arith) (i .5) p (i .3) (x .1) (x .0) (i .4), binding-next _ (pre .1) _ _ (omega arith) (i .5) _ p _ (c .records-for .ensures .0))
+    (omega arith, e, c .before .st2 .given ∙ i .2, x .0 ∙ bound-next _ (pre .1) _ _ (omega arith) (i .5) _ p _ (i .3), filled-more _ (pre .1) _ _ _ _ _ _ _ _ (omega arith) (i .5) p (i .3) (x .1) (x .0) (i .4), binding-next _ (pre .1) _ _ (omega arith) (i .5) _ p _ (c .records-for .ensures .0))
 
 same-length-2 : tie.Need-same-length-2 Inv-loop μ-loop
 same-length-2 c = c .before .loop .inv .2 ∙ sym (c .before .before .before .before .before .before .before .pre .2)
 
 returns-2 : tie.Need-returns-2 Inv-loop μ-loop
-returns-2 c = let e = c .before .loop .inv .1 in let l = c .before .loop .inv .0 in let m = c .loop-test .left in filled-all _ (c .before .before .before .before .before .before .before .pre .1) _ _ _ (omega arith) (omega arith) (c .before .loop .inv .3) (c .before .loop .inv .4)
+returns-2 c =
+    let start = c .before .before .before .before .before .before .before in
+    let zeros = c .before .before .before .before .zero .ensures in
+    let inv = c .before .loop .inv in
+    let e = inv .1 in
+    let l = inv .0 in
+    let m = c .loop-test .left in
+    filled-all _ (start .pre .1) _ _ _ _ _ (start .pre .2) zeros (omega arith) (omega arith) (inv .3) (inv .4)
 
 pub default-state-spec : {M : Type 1} → statement M
 default-state-spec =

@@ -5,6 +5,9 @@ use Rattle.sheet_types.proofs.Laws.{no, so}
 use Rattle.engine_valid_state.proofs.head_fits.Statement.{statement}
 use Rattle.engine_valid_state.proofs.head_fits.Tie as tie
 
+add-below-at : tie.Need-add-below-at
+add-below-at c = search needs
+
 below-at-requires : tie.Need-below-at-requires
 below-at-requires c κs = search needs
 
@@ -20,4 +23,4 @@ unfolding headFits
 returns-2 c = first-holds _ _ _ (so (c .before .before .below-at .ensures) (c .before .if1 .left)) (c .zero-words .ensures)
 
 pub head-fits-spec : {M : Type 1} → statement M
-head-fits-spec = tie.close (tie.spec below-at-requires returns zero-words-requires returns-2)
+head-fits-spec = tie.close (tie.spec add-below-at below-at-requires returns zero-words-requires returns-2)

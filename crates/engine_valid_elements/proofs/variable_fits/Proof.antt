@@ -1,5 +1,5 @@
 use native.Mathlib.Omega.{arith}
-use mathlib.Core.Path.{_≡_, refl}
+use mathlib.Core.Path.{_≡_, refl, ap, _∙_}
 use mathlib.Core.List.{List}
 use mathlib.Core.Bool.{Bool, true}
 use Prim.Native.Nat.{ℕ, _+_, _-_, _≤_}
@@ -12,8 +12,8 @@ use Rattle.sheet_types.proofs.Laws.{no, so}
 use Rattle.machine.specs.Values.{chartOf}
 use Rattle.machine.specs.State.{cellAt}
 use Rattle.machine.specs.Valid.{cellFits}
-use Rattle.engine_valid_state.proofs.variable_fits.Statement.{statement}
-use Rattle.engine_valid_state.proofs.variable_fits.Tie as tie
+use Rattle.engine_valid_elements.proofs.variable_fits.Statement.{statement}
+use Rattle.engine_valid_elements.proofs.variable_fits.Tie as tie
 
 abbrev fits : List ℕ → ℕ → ℕ → List ℤ → ℕ → ℕ → Bool
 fits s e t st cell k = cellFits s e t st (cellAt (cell + k))
@@ -28,25 +28,27 @@ loop-holds : tie.Need-loop-holds Inv-loop μ-loop
 unfolding allBelow
 loop-holds c = (omega arith, λ e p. refl)
 
-add-at : tie.Need-add-at Inv-loop μ-loop
-unfolding cellAt
-add-at c = let l = c .loop-test .taken in let h = c .before .before .before .pre .1 in omega arith
+add-cell-at : tie.Need-add-cell-at Inv-loop μ-loop
+add-cell-at c = search needs
 
-mul-at : tie.Need-mul-at Inv-loop μ-loop
+cell-at-requires : tie.Need-cell-at-requires Inv-loop μ-loop
 unfolding cellAt
-mul-at c = let l = c .loop-test .taken in let h = c .before .before .before .pre .1 in omega arith
-
-add-at-2 : tie.Need-add-at-2 Inv-loop μ-loop
-unfolding cellAt
-add-at-2 c = let l = c .loop-test .taken in let h = c .before .before .before .pre .1 in omega arith
+cell-at-requires c κs = search needs
 
 cell-fits-requires : tie.Need-cell-fits-requires Inv-loop μ-loop
 unfolding cellAt
-cell-fits-requires c κs = let l = c .loop-test .taken in let h = c .before .before .before .pre .1 in (c .before .before .before .pre .0, omega arith)
+cell-fits-requires c κs =
+    let start = c .before .before .before .before in
+    let l = c .before .loop-test .taken in
+    let h = start .pre .1 .inside in
+    let e = c .cell-at .ensures in
+    (start .pre .0, omega arith)
 
 returns : tie.Need-returns Inv-loop μ-loop
-unfolding cellAt
-returns c e p = loop-fails _ _ (c .before .before .before .loop .k) _ refl (c .before .before .loop-test .taken) (no (c .before .cell-fits .ensures e p) (c .if1 .taken))
+returns c e p =
+    let start = c .before .before .before .before .before .before in
+    let judged = c .before .cell-fits .ensures e p ∙ ap (cellFits (start .args .sheet .now) e (start .args .t) (start .args .st .now)) (c .before .before .cell-at .ensures) in
+    loop-fails _ _ (c .before .before .before .before .loop .k) _ refl (c .before .before .before .loop-test .taken) (no judged (c .if1 .taken))
 
 add-k : tie.Need-add-k Inv-loop μ-loop
 add-k c = search needs
@@ -55,10 +57,11 @@ loop-less : tie.Need-loop-less Inv-loop μ-loop
 loop-less c = search needs
 
 loop-again : tie.Need-loop-again Inv-loop μ-loop
-unfolding cellAt
 loop-again c =
-    let turn = c .before .before .before .loop in
-    (omega arith, λ e p. all-more (turn .k) _ (turn .inv .1 e p) (so (c .before .cell-fits .ensures e p) (c .if1 .left)))
+    let turn = c .before .before .before .before .loop in
+    let start = c .before .before .before .before .before .before in
+    let at = c .before .before .cell-at .ensures in
+    (omega arith, λ e p. all-more (turn .k) _ (turn .inv .1 e p) (so (c .before .cell-fits .ensures e p ∙ ap (cellFits (start .args .sheet .now) e (start .args .t) (start .args .st .now)) at) (c .if1 .left)))
 
 returns-2 : tie.Need-returns-2 Inv-loop μ-loop
 returns-2 c e p = loop-ends _ _ _ _ refl (c .before .loop .inv .0) (c .loop-test .left) (c .before .loop .inv .1 e p)
@@ -70,9 +73,8 @@ variable-fits-spec =
     Inv-loop
     μ-loop
     loop-holds
-    add-at
-    mul-at
-    add-at-2
+    add-cell-at
+    cell-at-requires
     cell-fits-requires
     returns
     add-k
