@@ -1,13 +1,13 @@
 -- Events and answers of a list in words.
-use Prim.Native.Nat.{ℕ, zero, suc, _*_, _/_}
+use Prim.Native.Nat.{ℕ, zero, suc, _+_, _*_, _/_}
 use mathlib.Core.List.{List, [], _∷_, _++_}
 use mathlib.Core.Bool.{true, false}
 use lib.ListN.{length, take, drop, replicate}
-use lib.IntN.{ℤ, pos}
+use lib.IntN.{ℤ, pos, natAbs}
 use Rattle.machine.specs.declared.Handed.{Handed}
 use Rattle.machine.specs.declared.Handed.the-variants.{Nothing, Outside}
 use Rattle.machine.specs.declared.Answer.{Answer}
-use Rattle.machine.specs.Values.{isZero}
+use Rattle.machine.specs.Values.{isBelow, isZero}
 use Rattle.machine.specs.State.{wordOf, telegramIn}
 use Rattle.machine.specs.Play.{wordsOfEvent}
 use Rattle.machine.specs.Lists.{Played, played, nowhere}
@@ -42,6 +42,14 @@ handedIn ws at = elim (isZero (wordOf ws at)) [ true ↦ Nothing | false ↦ Out
 -- number, steps, dropped, and what is handed
 abbrev pub answerWords : Answer → List ℤ
 answerWords a = pos (a .number) ∷ pos (a .steps) ∷ pos (a .dropped) ∷ handedWords (a .handed)
+
+-- a word as a number below n, and 0 where it is none
+abbrev pub numberBelow : ℕ → ℤ → ℕ
+numberBelow n z = elim (isBelow z n) [ true ↦ natAbs z | false ↦ 0 ]
+
+-- read again from those words: a number of a byte, of 31 bits, of a byte, and what is handed
+abbrev pub answerIn : List ℤ → ℕ → Answer
+answerIn ws at = record { number = numberBelow 256 (wordOf ws at); steps = numberBelow 2147483648 (wordOf ws (at + 1)); dropped = numberBelow 256 (wordOf ws (at + 2)); handed = handedIn ws (at + 3) }
 
 unfoldable pub answersWords : List Answer → List ℤ
 answersWords [] = []

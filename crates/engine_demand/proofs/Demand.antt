@@ -11,7 +11,7 @@ use Rattle.machine.specs.declared.Answer.{Answer}
 use Rattle.sheet_rules.specs.Fields.{elementsOf}
 use Rattle.machine.specs.State.{stateLength}
 use Rattle.machine.specs.Valid.{OfSheet}
-use Rattle.machine.specs.Play.{limitOf}
+use Rattle.machine.specs.Play.{wordsOfEvent, limitOf}
 use Rattle.machine.specs.Lists.{played, playOf}
 use Rattle.machine_promise.specs.Promise.{OneOf, OneReaction}
 use Rattle.machine_claim.specs.Claim.{Call, eventsCalled, AllLent, Claim}
@@ -20,7 +20,7 @@ use Rattle.machine_claim.proofs.Machine.{machine, machine-start, machine-event}
 use Rattle.engine_answers.specs.Words.{eventsFrom, eventsIn, answersWords}
 use Rattle.engine_lists.specs.ListCall.{Listed, listed, unlisted, listOf}
 use Rattle.engine_demand.specs.Demand.{Demand, EveryPlay}
-use Rattle.engine_lists.proofs.Calls.{whole-list}
+use Rattle.engine_lists.proofs.Calls.{whole-events, whole-list}
 
 -- ---- the events as calls, with one state lent for each
 
@@ -79,7 +79,7 @@ module _ (s : List ℕ) (events lent room : List ℤ) (c : Claim machine s lent 
             let y : c .first .number ≡ 0 = sym (ap (λ a. a .number) same) ∙ z in
             record {
               given = c .answers;
-              each = c .each y ∙ sym (length-map (callsOf lent (eventsIn events)) _) ∙ ap length (events-called lent (eventsIn events)) ∙ events-count events (length events / 9) 0;
+              each = c .each y ∙ sym (length-map (callsOf lent (eventsIn events)) _) ∙ ap length (events-called lent (eventsIn events)) ∙ events-count events (length events / wordsOfEvent) 0;
               words = words ∙ ap (λ b. elim b as (λ b. List ℤ) [ true ↦ answersWords (c .answers) | false ↦ room ]) (eq-eqb (c .first .number) 0 y);
               machine = ap (playOf s (limitOf s)) (sym (events-called lent (eventsIn events))) ∙ c .machine ∙ ap (λ a. played (a ∷ c .answers) (c .last)) (sym same) ∙ ap (played (a ∷ c .answers)) (sym left);
               answered = c .answered;
@@ -96,4 +96,4 @@ unfolding listOf
 every-play s events lent spare room ok l k u v a st answers e =
     let calls = callsOf lent (eventsIn events) in
     let c = claim-given machine s ok lent l (machine-start s lent) calls (all-lent lent s l (eventsIn events)) (all-played lent s (eventsIn events)) in
-    given-demand s events lent room c a st answers (e ∙ whole-list s events lent spare room ok (stateLength s) refl l k u v ∙ ap (λ evs. listOf room (playOf s (limitOf s) evs)) (sym (events-called lent (eventsIn events))) ∙ ap (listOf room) (c .machine))
+    given-demand s events lent room c a st answers (e ∙ whole-list s events lent spare room ok (eq-eqb (length lent) (stateLength s) l) (eq-eqb (length spare) (stateLength s) k) (whole-events events room u v) ∙ ap (λ evs. listOf room (playOf s (limitOf s) evs)) (sym (events-called lent (eventsIn events))) ∙ ap (listOf room) (c .machine))

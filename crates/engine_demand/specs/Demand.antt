@@ -9,19 +9,19 @@ use Rattle.sheet_rules.specs.declared.Checked.the-variants.{Passed}
 use Rattle.sheet_rules.specs.Fields.{elementsOf}
 use Rattle.machine.specs.State.{stateLength}
 use Rattle.machine.specs.Valid.{OfSheet}
-use Rattle.machine.specs.Play.{limitOf}
+use Rattle.machine.specs.Play.{wordsOfEvent, limitOf}
 use Rattle.sheet_rules.specs.Check.{checkOf}
 use Rattle.machine.specs.Lists.{played, playOf}
 use Rattle.machine_promise.specs.Promise.{OneOf, AllAnswered, OneReaction}
 use Rattle.machine_claim.specs.Claim.{AllWithin}
-use Rattle.engine_answers.specs.Words.{eventsIn, answersWords}
+use Rattle.engine_answers.specs.Words.{wordsOfAnswer, eventsIn, answersWords}
 use Rattle.engine_lists.specs.ListCall.{listed, listCall}
 
 -- after a start of 0: `st` and `answers` are what was left
 pub record Held (s : List ℕ) (events : List ℤ) (a : Answer) (st answers : List ℤ) : Type 0 where
   -- an answer for each event, and `answers` is exactly their words
   pub given : List Answer
-  pub each : length given ≡ length events / 9
+  pub each : length given ≡ length events / wordsOfEvent
   pub words : answers ≡ answersWords given
   -- the machine, "fed with the sheet and the events alone", gives start's answer and these, whole, and has this state, word for word
   pub machine : playOf s (limitOf s) (eventsIn events) ≡ played (a ∷ given) st
@@ -44,4 +44,4 @@ pub record Demand (s : List ℕ) (events room : List ℤ) (a : Answer) (st answe
 
 -- for every sheet that check passes, all events and every state and room of fitting length, and whatever meets the contract of `play`
 abbrev pub EveryPlay : Type 0
-EveryPlay = (s : List ℕ) (events lent spare room : List ℤ) → checkOf s ≡ Passed → length lent ≡ stateLength s → length spare ≡ stateLength s → length events % 9 ≡ 0 → length room ≡ 10 * (length events / 9) → (a : Answer) (st answers : List ℤ) → listed a st answers ≡ listCall s (limitOf s) events lent spare room → Demand s events room a st answers
+EveryPlay = (s : List ℕ) (events lent spare room : List ℤ) → checkOf s ≡ Passed → length lent ≡ stateLength s → length spare ≡ stateLength s → length events % wordsOfEvent ≡ 0 → length room ≡ wordsOfAnswer * (length events / wordsOfEvent) → (a : Answer) (st answers : List ℤ) → listed a st answers ≡ listCall s (limitOf s) events lent spare room → Demand s events room a st answers

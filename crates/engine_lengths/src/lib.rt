@@ -18,12 +18,16 @@ pub fn is_state(cells: usize, words: usize) -> bool
     words == engine_store::state_length(cells)
 }
 
-// Whether words are whole events, and as many others are room for an answer to each.
+// Whether words are whole events, and as many others are room for an answer to each: by quotients, so
+// that no product can wrap.
 pub fn is_list(events: usize, answers: usize) -> bool
     ensures { λ b. ⌜ b ≡ (eqb (events % wordsOfEvent) 0 and eqb answers (wordsOfAnswer * (events / wordsOfEvent))) ⌝ }
 {
     if events % EVENT_WORDS != 0 {
         return false;
     }
-    answers == ANSWER_WORDS * (events / EVENT_WORDS)
+    if answers % ANSWER_WORDS != 0 {
+        return false;
+    }
+    answers / ANSWER_WORDS == events / EVENT_WORDS
 }

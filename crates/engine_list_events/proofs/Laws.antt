@@ -19,8 +19,8 @@ use Rattle.machine.specs.Lists.{Played, played, nowhere, thenPlayed, afterAnswe
 use Rattle.machine_events.specs.Playing.{Playing}
 use Rattle.machine_claim.proofs.Limit.{event-within}
 use Rattle.machine_claim.proofs.Kept.{goes-on-is}
-use Rattle.engine_answers.specs.Words.{eventAt, eventsFrom, answerWords, answersWords, Written, written, unwritten, inWords}
-use Rattle.engine_answers.proofs.Laws.{ten, front-put}
+use Rattle.engine_answers.specs.Words.{eventAt, eventsFrom, wordsOfAnswer, answerWords, answersWords, Written, written, unwritten, inWords}
+use Rattle.engine_answers.proofs.Laws.{answer-length, front-put}
 
 -- ---- steps fit a word
 
@@ -67,7 +67,7 @@ module _ (s d : List ℕ) (events : List ℤ) where
   abbrev pub rest : ℕ → ℕ → List ℤ → Written
   rest count i st = inWords (eventsOf s (limitOf s) st (eventsFrom events (count - i) i))
 
-  pub no-event-yet : (count : ℕ) (st answers : List ℤ) → inWords (eventsOf s (limitOf s) st (eventsFrom events count 0)) ≡ behind (take (10 * 0) answers) (rest count 0 st)
+  pub no-event-yet : (count : ℕ) (st answers : List ℤ) → inWords (eventsOf s (limitOf s) st (eventsFrom events count 0)) ≡ behind (take (wordsOfAnswer * 0) answers) (rest count 0 st)
   no-event-yet count st answers =
       let e : count ≡ count - 0 = omega arith in
       sym (behind-none (inWords (eventsOf s (limitOf s) st (eventsFrom events count 0)))) ∙ ap (λ n. behind [] (inWords (eventsOf s (limitOf s) st (eventsFrom events n 0)))) e
@@ -80,23 +80,23 @@ module _ (s d : List ℕ) (events : List ℤ) where
       ∙ behind-answer a (eventsOf s (limitOf s) new evs)
 
   -- one event more
-  pub event-more : (count i : ℕ) (st answers : List ℤ) (w : Written) → i < count → length answers ≡ 10 * count → Playing s d st → w ≡ behind (take (10 * i) answers) (rest count i st) → (ev : List ℤ) → ev ≡ eventAt events i → (a : Answer) (new : List ℤ) → EventGives s (limitOf s) st st ev a new → (answers′ : List ℤ) → answers′ ≡ putWords answers (10 * i) (answerWords a) → w ≡ behind (take (10 * (i + 1)) answers′) (rest count (i + 1) new)
+  pub event-more : (count i : ℕ) (st answers : List ℤ) (w : Written) → i < count → length answers ≡ wordsOfAnswer * count → Playing s d st → w ≡ behind (take (wordsOfAnswer * i) answers) (rest count i st) → (ev : List ℤ) → ev ≡ eventAt events i → (a : Answer) (new : List ℤ) → EventGives s (limitOf s) st st ev a new → (answers′ : List ℤ) → answers′ ≡ putWords answers (wordsOfAnswer * i) (answerWords a) → w ≡ behind (take (wordsOfAnswer * (i + 1)) answers′) (rest count (i + 1) new)
   unfolding eventsFrom
   event-more count i st answers w l m p h ev q a new g answers′ e =
       let n : count - i ≡ suc (count - (i + 1)) = omega arith in
       let k : suc i ≡ i + 1 = omega arith in
-      let front : take (10 * (i + 1)) answers′ ≡ take (10 * i) answers ++ answerWords a = ap (take (10 * (i + 1))) e ∙ front-put answers (10 * i) (answerWords a) (10 * (i + 1)) (omega arith) (omega (arith, ten a)) in
+      let front : take (wordsOfAnswer * (i + 1)) answers′ ≡ take (wordsOfAnswer * i) answers ++ answerWords a = ap (take (wordsOfAnswer * (i + 1))) e ∙ front-put answers (wordsOfAnswer * i) (answerWords a) (wordsOfAnswer * (i + 1)) (omega arith) (omega (arith, answer-length a)) in
       h
-      ∙ ap (λ n. behind (take (10 * i) answers) (inWords (eventsOf s (limitOf s) st (eventsFrom events n i)))) n
-      ∙ ap (λ k. behind (take (10 * i) answers) (inWords (eventsOf s (limitOf s) st (eventAt events i ∷ eventsFrom events (count - (i + 1)) k)))) k
-      ∙ ap (λ ev. behind (take (10 * i) answers) (inWords (eventsOf s (limitOf s) st (ev ∷ eventsFrom events (count - (i + 1)) (i + 1))))) (sym q)
-      ∙ ap (behind (take (10 * i) answers)) (one-event st ev (eventsFrom events (count - (i + 1)) (i + 1)) a new p g)
-      ∙ behind-behind (take (10 * i) answers) (answerWords a) (rest count (i + 1) new)
+      ∙ ap (λ n. behind (take (wordsOfAnswer * i) answers) (inWords (eventsOf s (limitOf s) st (eventsFrom events n i)))) n
+      ∙ ap (λ k. behind (take (wordsOfAnswer * i) answers) (inWords (eventsOf s (limitOf s) st (eventAt events i ∷ eventsFrom events (count - (i + 1)) k)))) k
+      ∙ ap (λ ev. behind (take (wordsOfAnswer * i) answers) (inWords (eventsOf s (limitOf s) st (ev ∷ eventsFrom events (count - (i + 1)) (i + 1))))) (sym q)
+      ∙ ap (behind (take (wordsOfAnswer * i) answers)) (one-event st ev (eventsFrom events (count - (i + 1)) (i + 1)) a new p g)
+      ∙ behind-behind (take (wordsOfAnswer * i) answers) (answerWords a) (rest count (i + 1) new)
       ∙ ap (λ ws. behind ws (rest count (i + 1) new)) (sym front)
 
-  pub all-events : (count i : ℕ) (st answers : List ℤ) (w : Written) → i ≤ count → count ≤ i → length answers ≡ 10 * count → w ≡ behind (take (10 * i) answers) (rest count i st) → written answers st ≡ w
+  pub all-events : (count i : ℕ) (st answers : List ℤ) (w : Written) → i ≤ count → count ≤ i → length answers ≡ wordsOfAnswer * count → w ≡ behind (take (wordsOfAnswer * i) answers) (rest count i st) → written answers st ≡ w
   unfolding behind eventsFrom eventsOf inWords answersWords
   all-events count i st answers w l k m h =
       let n : count - i ≡ 0 = omega arith in
-      let whole : take (10 * i) answers ≡ answers = take-all (10 * i) answers (omega arith) in
-      sym (h ∙ ap (λ n. behind (take (10 * i) answers) (inWords (eventsOf s (limitOf s) st (eventsFrom events n i)))) n ∙ ap (λ ws. written ws st) (append-nil (take (10 * i) answers) ∙ whole))
+      let whole : take (wordsOfAnswer * i) answers ≡ answers = take-all (wordsOfAnswer * i) answers (omega arith) in
+      sym (h ∙ ap (λ n. behind (take (wordsOfAnswer * i) answers) (inWords (eventsOf s (limitOf s) st (eventsFrom events n i)))) n ∙ ap (λ ws. written ws st) (append-nil (take (wordsOfAnswer * i) answers) ∙ whole))

@@ -1,16 +1,18 @@
 // Plays a list of events on from a state of the sheet.
+use machine::ANSWER_WORDS;
+use machine::EVENT_WORDS;
 ghost use Prim.Native.Nat.{_*_, _/_};
 ghost use mathlib.Core.Path.{_≡_};
 ghost use lib.ListN.{length};
 ghost use Rattle.machine.specs.Lists.{eventsOf};
 ghost use Rattle.machine_events.specs.Playing.{Playing};
 ghost use Rattle.engine_cells.specs.Cells.{CellTable};
-ghost use Rattle.engine_answers.specs.Words.{eventsIn, written, inWords};
-ghost use Rattle.machine.specs.Play.{limitOf};
+ghost use Rattle.engine_answers.specs.Words.{wordsOfAnswer, eventsIn, written, inWords};
+ghost use Rattle.machine.specs.Play.{wordsOfEvent, limitOf};
 
 // Plays events, nine words each, on from a state of the sheet, which becomes the one that the list
-// leaves. Each answer goes into ten words: number, steps, 1 if a telegram is handed outside, then its
-// receiver, port, name and four data.
+// leaves. Each answer goes into eleven words: number, steps, how many waiting telegrams were dropped,
+// 1 if one is handed outside, then its receiver, port, name and four data.
 pub fn play_on(
     sheet: &[u8],
     directory: &[usize; 16],
@@ -20,16 +22,16 @@ pub fn play_on(
     spare: &mut [i32],
     answers: &mut [i32],
 )
-    requires { ⌜ Playing (now sheet) (now directory) (now st) × (length (now spare) ≡ length (now st)) × (length (now answers) ≡ 10 * (length (now events) / 9)) × CellTable (now sheet) (now cells) ⌝ }
+    requires { ⌜ Playing (now sheet) (now directory) (now st) × (length (now spare) ≡ length (now st)) × (length (now answers) ≡ wordsOfAnswer * (length (now events) / wordsOfEvent)) × CellTable (now sheet) (now cells) ⌝ }
     ensures { λ _. ⌜ Playing (now (sheet .entry)) (now (directory .entry)) (now (st .exit)) × (written (now (answers .exit)) (now (st .exit)) ≡ inWords (eventsOf (now (sheet .entry)) (limitOf (now (sheet .entry))) (now (st .entry)) (eventsIn (now (events .entry))))) ⌝ }
 {
-    let count = events.len() / 9;
+    let count = events.len() / EVENT_WORDS;
     let mut i: usize = 0;
     while i < count {
-        let from = 9 * i;
-        let to = from + 9;
+        let from = EVENT_WORDS * i;
+        let to = from + EVENT_WORDS;
         let a = engine::next(sheet, directory, cells, st, spare, &events[from..to]);
-        engine_answers::put_answer(answers, 10 * i, a);
+        engine_answers::put_answer(answers, ANSWER_WORDS * i, a);
         i += 1;
     }
 }

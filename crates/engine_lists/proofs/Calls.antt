@@ -2,23 +2,41 @@
 use Prim.Native.Nat.{ℕ, _*_, _/_, _%_}
 use mathlib.Core.Path.{_≡_, refl, sym, ap, _∙_}
 use mathlib.Core.List.{List, []}
-use mathlib.Core.Bool.{true, false}
+use mathlib.Core.Bool.{Bool, true, false}
 use lib.ListN.{length}
 use lib.Dec.{eqb}
 use lib.IntN.{ℤ}
-use borrow.Author.Tests.{eq-eqb, ne-eqb}
+use borrow.Author.Tests.{eqb-true, eq-eqb, ne-eqb}
 use Rattle.sheet.specs.All.{_and_}
-use Rattle.sheet.proofs.All.{and-true, false-and, and-false}
+use Rattle.sheet.proofs.All.{and-true, and-second, false-and, and-false}
 use Rattle.machine.specs.declared.Answer.{Answer}
 use Rattle.sheet_rules.specs.declared.Checked.the-variants.{Passed, Shape, Static}
 use Rattle.machine.specs.declared.Handed.the-variants.{Nothing}
 use Rattle.machine.specs.State.{stateLength}
-use Rattle.machine.specs.Play.{answer, limitOf}
+use Rattle.machine.specs.Play.{answer, wordsOfEvent, limitOf}
 use Rattle.sheet_rules.specs.Check.{checkOf}
 use Rattle.machine.specs.Lists.{Played, played, nowhere, afterAnswer, eventsOf, playOf, StartGives}
 use Rattle.machine_claim.proofs.Runs.{play-is}
-use Rattle.engine_answers.specs.Words.{eventsIn, answersWords, Written, written, unwritten, inWords}
+use Rattle.engine_answers.specs.Words.{wordsOfAnswer, eventsIn, answersWords, Written, written, unwritten, inWords}
 use Rattle.engine_lists.specs.ListCall.{Listed, listed, unlisted, turnedDown, wholeEvents, listOf, listCall}
+
+-- ---- the lengths of events and answers
+
+module _ (events answers : List ℤ) where
+  pub whole-events : length events % wordsOfEvent ≡ 0 → length answers ≡ wordsOfAnswer * (length events / wordsOfEvent) → wholeEvents events answers ≡ true
+  unfolding wholeEvents
+  whole-events u v = and-true _ _ (eq-eqb (length events % wordsOfEvent) 0 u) (eq-eqb (length answers) (wordsOfAnswer * (length events / wordsOfEvent)) v)
+
+  -- what a test of both lengths tells
+  pub whole-told : (b t : Bool) → b ≡ (eqb (length events % wordsOfEvent) 0 and eqb (length answers) (wordsOfAnswer * (length events / wordsOfEvent))) → b ≡ t → wholeEvents events answers ≡ t
+  unfolding wholeEvents
+  whole-told b t d h = sym d ∙ h
+
+  pub answers-room : wholeEvents events answers ≡ true → length answers ≡ wordsOfAnswer * (length events / wordsOfEvent)
+  unfolding wholeEvents
+  answers-room h = eqb-true _ _ (and-second _ _ h)
+
+-- ---- the call
 
 module _ (s : List ℕ) (events st spare answers : List ℤ) where
   abbrev called : Listed
@@ -35,35 +53,29 @@ module _ (s : List ℕ) (events st spare answers : List ℤ) where
   unfolding listCall
   static-list a e h = down 2 a e (rw (listCall, h) refl)
 
-  module _ (ok : checkOf s ≡ Passed) (n : ℕ) (l : n ≡ stateLength s) where
-    pub state-long : (a : Answer) → a ≡ answer 3 0 Nothing → (length st ≡ n → ⊥) → listed a st answers ≡ called
+  module _ (ok : checkOf s ≡ Passed) where
+    pub state-long : (a : Answer) → a ≡ answer 3 0 Nothing → eqb (length st) (stateLength s) ≡ false → listed a st answers ≡ called
     unfolding listCall
-    state-long a e h = down 3 a e (rw (listCall, ok, false-and _ (eqb (length spare) (stateLength s)) (ne-eqb (length st) (stateLength s) (λ q. h (q ∙ sym l)))) refl)
+    state-long a e h = down 3 a e (rw (listCall, ok, false-and _ (eqb (length spare) (stateLength s)) h) refl)
 
-    pub spare-long : (a : Answer) → a ≡ answer 3 0 Nothing → (length spare ≡ n → ⊥) → listed a st answers ≡ called
+    pub spare-long : (a : Answer) → a ≡ answer 3 0 Nothing → eqb (length spare) (stateLength s) ≡ false → listed a st answers ≡ called
     unfolding listCall
-    spare-long a e h = down 3 a e (rw (listCall, ok, and-false (eqb (length st) (stateLength s)) _ (ne-eqb (length spare) (stateLength s) (λ q. h (q ∙ sym l)))) refl)
+    spare-long a e h = down 3 a e (rw (listCall, ok, and-false (eqb (length st) (stateLength s)) _ h) refl)
 
-    module _ (h : length st ≡ n) (k : length spare ≡ n) where
+    module _ (h : eqb (length st) (stateLength s) ≡ true) (k : eqb (length spare) (stateLength s) ≡ true) where
       fitting : called ≡ elim (wholeEvents events answers) [ true ↦ listOf answers (playOf s (limitOf s) (eventsIn events)) | false ↦ turnedDown 4 st answers ]
       unfolding listCall
-      fitting = rw (listCall, ok, and-true _ _ (eq-eqb (length st) (stateLength s) (h ∙ l)) (eq-eqb (length spare) (stateLength s) (k ∙ l))) refl
+      fitting = rw (listCall, ok, and-true _ _ h k) refl
 
-      pub events-long : (a : Answer) → a ≡ answer 4 0 Nothing → (length events % 9 ≡ 0 → ⊥) → listed a st answers ≡ called
-      unfolding wholeEvents
-      events-long a e q = down 4 a e (fitting ∙ rw (wholeEvents, false-and _ (eqb (length answers) (10 * (length events / 9))) (ne-eqb (length events % 9) 0 q)) refl)
+      pub list-long : (a : Answer) → a ≡ answer 4 0 Nothing → wholeEvents events answers ≡ false → listed a st answers ≡ called
+      list-long a e q = down 4 a e (fitting ∙ rw q refl)
 
-      pub answers-long : (a : Answer) → a ≡ answer 4 0 Nothing → (length answers ≡ 10 * (length events / 9) → ⊥) → listed a st answers ≡ called
-      unfolding wholeEvents
-      answers-long a e q = down 4 a e (fitting ∙ rw (wholeEvents, and-false (eqb (length events % 9) 0) _ (ne-eqb (length answers) (10 * (length events / 9)) q)) refl)
+      pub whole-list : wholeEvents events answers ≡ true → called ≡ listOf answers (playOf s (limitOf s) (eventsIn events))
+      whole-list w = fitting ∙ rw w refl
 
-      pub whole-list : length events % 9 ≡ 0 → length answers ≡ 10 * (length events / 9) → called ≡ listOf answers (playOf s (limitOf s) (eventsIn events))
-      unfolding wholeEvents
-      whole-list u v = fitting ∙ rw (wholeEvents, and-true _ _ (eq-eqb (length events % 9) 0 u) (eq-eqb (length answers) (10 * (length events / 9)) v)) refl
-
-      module _ (u : length events % 9 ≡ 0) (v : length answers ≡ 10 * (length events / 9)) (a : Answer) (first : List ℤ) (g : StartGives s (limitOf s) st a first) where
+      module _ (w : wholeEvents events answers ≡ true) (a : Answer) (first : List ℤ) (g : StartGives s (limitOf s) st a first) where
         begun-list : called ≡ listOf answers (afterAnswer a (elim (eqb (a .number) 0) [ true ↦ eventsOf s (limitOf s) first (eventsIn events) | false ↦ played [] first ]))
-        begun-list = whole-list u v ∙ ap (listOf answers) (play-is s ok st (h ∙ l) a first g (eventsIn events))
+        begun-list = whole-list w ∙ ap (listOf answers) (play-is s ok st (eqb-true _ _ h) a first g (eventsIn events))
 
         pub refused-list : (a .number ≡ 0 → ⊥) → listed a first answers ≡ called
         unfolding listOf afterAnswer

@@ -10,10 +10,10 @@ use Rattle.sheet_rules.specs.declared.Checked.the-variants.{Passed, Shape, Stat
 use Rattle.machine.specs.declared.Handed.the-variants.{Nothing}
 use Rattle.machine.specs.declared.Answer.{Answer}
 use Rattle.machine.specs.State.{stateLength}
-use Rattle.machine.specs.Play.{answer}
+use Rattle.machine.specs.Play.{answer, wordsOfEvent}
 use Rattle.sheet_rules.specs.Check.{checkOf}
 use Rattle.machine.specs.Lists.{Played, played, nowhere, playOf}
-use Rattle.engine_answers.specs.Words.{eventsIn, answersWords}
+use Rattle.engine_answers.specs.Words.{wordsOfAnswer, eventsIn, answersWords}
 
 -- start's answer, and what the state and the answers then hold; or the machine is stuck
 pub data Listed : Type 0 where
@@ -24,9 +24,9 @@ pub data Listed : Type 0 where
 abbrev pub turnedDown : ℕ → List ℤ → List ℤ → Listed
 turnedDown n st answers = listed (answer n 0 Nothing) st answers
 
--- nine words for each event, and room for ten of each answer
+-- nine words for each event, and room for eleven of each answer
 unfoldable pub wholeEvents : List ℤ → List ℤ → Bool
-wholeEvents events answers = eqb (length events % 9) 0 and eqb (length answers) (10 * (length events / 9))
+wholeEvents events answers = eqb (length events % wordsOfEvent) 0 and eqb (length answers) (wordsOfAnswer * (length events / wordsOfEvent))
 
 -- a run as it is left: the state that the last accepted call left, and after a start of 0 every event's answer in words; after another start the answers are untouched
 unfoldable pub listOf : List ℤ → Played → Listed

@@ -10,7 +10,7 @@ ghost use Rattle.machine.specs.Play.{limitOf};
 ghost use Rattle.engine_lists.specs.ListCall.{listed, listCall};
 
 // Start and a whole list on any sheet and words: `events` has nine words for each event, `answers`
-// ten, `st` and `spare` are as long as the sheet's states. Gives start's answer; after 0 `answers` has
+// eleven, `st` and `spare` are as long as the sheet's states. Gives start's answer; after 0 `answers` has
 // every event's. `st` is left as the list leaves it, `spare` is room to work in.
 pub fn play(
     sheet: &[u8],
@@ -42,17 +42,13 @@ fn play_passed(
 {
     let mut cells = [0usize; 2176];
     let count = engine_cells::fill(sheet, directory, &mut cells);
-    let length = engine_valid_state::state_length(count);
-    if st.len() != length {
+    if !engine_lengths::is_state(count, st.len()) {
         return answered(3, 0);
     }
-    if spare.len() != length {
+    if !engine_lengths::is_state(count, spare.len()) {
         return answered(3, 0);
     }
-    if events.len() % 9 != 0 {
-        return answered(4, 0);
-    }
-    if answers.len() != 10 * (events.len() / 9) {
+    if !engine_lengths::is_list(events.len(), answers.len()) {
         return answered(4, 0);
     }
     let a = engine::begin(sheet, directory, &cells, st);

@@ -6,9 +6,12 @@ use native.Mathlib.Omega.{arith}
 use lib.ListN.{length, take}
 use lib.Seq.{length-take-le}
 use lib.IntN.{ℤ}
+use Rattle.machine.specs.Play.{wordsOfEvent}
+use Rattle.engine_answers.specs.Words.{wordsOfAnswer}
+use Rattle.program_events.specs.Room.{roomEvents, bytesOfEvent}
 
-pub words-room : (ws : List ℤ) (count bytes : ℕ) → length ws ≡ 9000 → count ≤ 1000 → 36 * count ≤ bytes → 0 + 4 * length (take (9 * count) ws) ≤ bytes
-words-room ws count bytes h l m = omega (arith, length-take-le (9 * count) ws (omega arith))
+pub words-room : (ws : List ℤ) (count bytes : ℕ) → length ws ≡ roomEvents * wordsOfEvent → count ≤ roomEvents → bytesOfEvent * count ≤ bytes → 0 + 4 * length (take (wordsOfEvent * count) ws) ≤ bytes
+words-room ws count bytes h l m = omega (arith, length-take-le (wordsOfEvent * count) ws (omega arith))
 
-pub answers-room : (ws rest : List ℤ) (count : ℕ) → 9 * count ≤ length ws → 10 * count ≤ length rest → length (take (10 * count) rest) ≡ 10 * (length (take (9 * count) ws) / 9)
-answers-room ws rest count h k = omega (arith, length-take-le (9 * count) ws h, length-take-le (10 * count) rest k)
+pub answers-room : (ws rest : List ℤ) (count : ℕ) → wordsOfEvent * count ≤ length ws → wordsOfAnswer * count ≤ length rest → length (take (wordsOfAnswer * count) rest) ≡ wordsOfAnswer * (length (take (wordsOfEvent * count) ws) / wordsOfEvent)
+answers-room ws rest count h k = omega (arith, length-take-le (wordsOfEvent * count) ws h, length-take-le (wordsOfAnswer * count) rest k)

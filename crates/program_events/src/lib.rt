@@ -1,31 +1,44 @@
 // Plays events as they come from a descriptor and lists their answers on standard output. An event is
 // nine little-endian signed 32-bit words; an incomplete last event is ignored.
 use libc::STDOUT_FILENO;
+use machine::ANSWER_WORDS;
+use machine::EVENT_WORDS;
+use program_listing::LONGEST_LINE;
 ghost use Prim.Native.Nat.{_+_, _*_, _<_, _≤_};
 ghost use mathlib.Core.Path.{_≡_};
 ghost use lib.ListN.{length};
+ghost use Rattle.machine.specs.Play.{wordsOfEvent};
 ghost use Rattle.machine_events.specs.Playing.{Playing};
 ghost use Rattle.engine_cells.specs.Cells.{CellTable};
+ghost use Rattle.engine_answers.specs.Words.{wordsOfAnswer};
+ghost use Rattle.program_events.specs.Room.{roomEvents, bytesOfEvent, roomText};
 
-// Lists `count` answers of ten words each, before which `done` were listed, and gives whether all were
-// written out. It stops at the first that can't be.
-fn list_events(answers: &[i32], count: usize, done: u64, out: &mut [u8]) -> bool
-    requires { ⌜ (10 * count ≤ length (now answers)) × (done + count < 18446744073709551616) × (length (now out) ≡ 32768) ⌝ }
+// How many events are taken at once, and the room for them in bytes and in words, for their answers
+// in words and for text.
+const EVENTS: usize = 1000;
+
+const EVENT_BYTES: usize = 4 * EVENT_WORDS;
+
+const BYTES: usize = EVENTS * EVENT_BYTES;
+
+const WORDS: usize = EVENTS * EVENT_WORDS;
+
+const ANSWERS: usize = EVENTS * ANSWER_WORDS;
+
+const TEXT: usize = 32768;
+
+// Lists the answers to `count` events, both in words, before which `done` were listed, and gives
+// whether all were written out. It stops at the first that can't be.
+fn list_events(words: &[i32], answers: &[i32], count: usize, done: u64, out: &mut [u8]) -> bool
+    requires { ⌜ (wordsOfEvent * count ≤ length (now words)) × (wordsOfAnswer * count ≤ length (now answers)) × (done + count < 18446744073709551616) × (length (now out) ≡ roomText) ⌝ }
 {
     let mut at: usize = 0;
     let mut i: usize = 0;
     while i < count {
-        let k = 10 * i;
-        let h = engine_answers::handed_at(answers, k + 2);
-        let end = program_listing::put_event(
-            out,
-            at,
-            done + i as u64 + 1,
-            answers[k],
-            answers[k + 1],
-            h,
-        );
-        let next = program_text::with_room(STDOUT_FILENO, out, end, 222);
+        let kind = words[EVENT_WORDS * i];
+        let a = engine_answers::answer_at(answers, ANSWER_WORDS * i);
+        let end = program_listing::put_event(out, at, done + i as u64 + 1, kind, a);
+        let next = program_text::with_room(STDOUT_FILENO, out, end, LONGEST_LINE);
         if !next.written {
             return false;
         }
@@ -50,11 +63,11 @@ fn round(
     done: u64,
     out: &mut [u8],
 ) -> bool
-    requires { ⌜ Playing (now sheet) (now directory) (now st) × (length (now spare) ≡ length (now st)) × (36 * count ≤ length (now events)) × (count ≤ 1000) × (length (now words) ≡ 9000) × (length (now answers) ≡ 10000) × (done + count < 18446744073709551616) × (length (now out) ≡ 32768) × CellTable (now sheet) (now cells) ⌝ }
+    requires { ⌜ Playing (now sheet) (now directory) (now st) × (length (now spare) ≡ length (now st)) × (bytesOfEvent * count ≤ length (now events)) × (count ≤ roomEvents) × (length (now words) ≡ roomEvents * wordsOfEvent) × (length (now answers) ≡ roomEvents * wordsOfAnswer) × (done + count < 18446744073709551616) × (length (now out) ≡ roomText) × CellTable (now sheet) (now cells) ⌝ }
     ensures { λ _. ⌜ Playing (now (sheet .entry)) (now (directory .entry)) (now (st .exit)) ⌝ }
 {
-    let n = 9 * count;
-    let m = 10 * count;
+    let n = EVENT_WORDS * count;
+    let m = ANSWER_WORDS * count;
     engine_words::words(events, 0, &mut words[..n]);
     engine_list_events::play_on(
         sheet,
@@ -65,7 +78,7 @@ fn round(
         spare,
         &mut answers[..m],
     );
-    list_events(answers, count, done, out)
+    list_events(words, answers, count, done, out)
 }
 
 // Plays events as they come, `most` at most: those that came whole are played and listed before more
@@ -82,10 +95,10 @@ pub fn play_events(
 ) -> bool
     requires { ⌜ Playing (now sheet) (now directory) (now st) × (length (now spare) ≡ length (now st)) × CellTable (now sheet) (now cells) ⌝ }
 {
-    let mut events = [0u8; 36000];
-    let mut words = [0i32; 9000];
-    let mut answers = [0i32; 10000];
-    let mut out = [0u8; 32768];
+    let mut events = [0u8; BYTES];
+    let mut words = [0i32; WORDS];
+    let mut answers = [0i32; ANSWERS];
+    let mut out = [0u8; TEXT];
     let mut have: usize = 0;
     let mut done: u64 = 0;
     while done < most {
@@ -94,7 +107,7 @@ pub fn play_events(
         if came == have {
             return !more.failed;
         }
-        let count = came / 36;
+        let count = came / EVENT_BYTES;
         let written = round(
             sheet,
             directory,

@@ -5,6 +5,7 @@ use lib.IntN.{ℤ}
 use Rattle.machine.specs.declared.Telegram.{Telegram}
 use Rattle.machine.specs.declared.Handed.{Handed}
 use Rattle.machine.specs.declared.Handed.the-variants.{Nothing, Outside}
+use Rattle.machine.specs.declared.Answer.{Answer}
 use Rattle.program_text.specs.Decimal.{decimal, signed}
 
 abbrev pub space : List ℕ
@@ -34,6 +35,10 @@ handedText (Outside t) = (32 ∷ 116 ∷ 111 ∷ 32 ∷ []) ++ telegramText 32 t
 unfoldable pub startLine : ℕ → ℕ → List ℕ
 startLine number steps = (115 ∷ 116 ∷ 97 ∷ 114 ∷ 116 ∷ 32 ∷ []) ++ countsText number steps ++ newline
 
--- "then for each event its number from 1, answer and steps, and after "to" the receiver, port, name and four data handed outside"
-unfoldable pub eventLine : ℕ → ℤ → ℤ → Handed → List ℕ
-eventLine k number steps h = decimal k ++ afterText 32 number ++ afterText 32 steps ++ handedText h ++ newline
+-- "then for each event its number from 1, answer and steps, and after "to" the receiver, port, name and four data handed outside": a line is made from the event's kind and its answer
+unfoldable pub eventLine : ℕ → ℤ → Answer → List ℕ
+eventLine k kind a = decimal k ++ space ++ countsText (a .number) (a .steps) ++ handedText (a .handed) ++ newline
+
+-- the most that such a line takes: a number of 20 digits, a space, answer and steps, what is handed, and the newline
+abbrev pub longestLine : ℕ
+longestLine = 220

@@ -1,10 +1,14 @@
 // Answers as text in a buffer, for the programs that print them.
+use machine::Answer;
 use machine::Handed;
 use machine::Telegram;
 ghost use Prim.Native.Nat.{_+_, _≤_};
 ghost use lib.ListN.{length};
 ghost use Rattle.program_text.specs.Decimal.{Put};
-ghost use Rattle.program_listing.specs.Listing.{countsText, afterText, telegramText, handedText, startLine, eventLine};
+ghost use Rattle.program_listing.specs.Listing.{countsText, afterText, telegramText, handedText, startLine, eventLine, longestLine};
+
+// The most bytes that an event's line takes.
+pub const LONGEST_LINE: usize = 220;
 
 pub fn put_counts(out: &mut [u8], at: usize, number: u8, steps: u32) -> usize
     requires { ⌜ at + 41 ≤ length (now out) ⌝ }
@@ -59,14 +63,15 @@ pub fn put_start(out: &mut [u8], at: usize, number: u8, steps: u32) -> usize
     program_text::put(out, b, b'\n')
 }
 
-// An event's line, from the words of its answer.
-pub fn put_event(out: &mut [u8], at: usize, k: u64, number: i32, steps: i32, h: Handed) -> usize
-    requires { ⌜ at + 222 ≤ length (now out) ⌝ }
-    ensures { λ r. ⌜ Put (now (out .entry)) at (eventLine k number steps h) (now (out .exit)) r × (r ≤ at + 222) ⌝ }
+// An event's line, from its kind and its answer; no kind has a form of its own.
+pub fn put_event(out: &mut [u8], at: usize, k: u64, kind: i32, a: Answer) -> usize
+    requires { ⌜ at + longestLine ≤ length (now out) ⌝ }
+    ensures { λ r. ⌜ Put (now (out .entry)) at (eventLine k kind a) (now (out .exit)) r × (r ≤ at + longestLine) ⌝ }
 {
     let b = program_text::put_decimal(out, at, k);
-    let c = put_after(out, b, b' ', number);
-    let d = put_after(out, c, b' ', steps);
+    let c = program_text::put(out, b, b' ');
+    let d = put_counts(out, c, a.number, a.steps);
+    let h = a.handed;
     let e = put_handed(out, d, h);
     program_text::put(out, e, b'\n')
 }

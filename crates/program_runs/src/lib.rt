@@ -1,4 +1,5 @@
 // Plays a sheet with events from a descriptor and writes the listing to standard output.
+use engine_store::LONGEST;
 use libc::STDOUT_FILENO;
 use sheet_rules::Checked;
 ghost use mathlib.Core.Path.{_≡_};
@@ -58,16 +59,16 @@ fn play_states(
     }
 }
 
-// A state has at most 512 cells of eight words, and 1,032 words besides.
+// There is room for the longest state.
 fn play_passed(fd: i32, sheet: &[u8], directory: &[usize; 16], most: u64) -> RunEnd
     requires { ⌜ (now directory ≡ directoryOf (now sheet)) × (checkOf (now sheet) ≡ Passed) ⌝ }
     ensures { λ r. ⌜ StartAnswers (now (sheet .entry)) (r .number) ⌝ }
 {
-    let mut st = [0i32; 5128];
-    let mut spare = [0i32; 5128];
+    let mut st = [0i32; LONGEST];
+    let mut spare = [0i32; LONGEST];
     let mut cells = [0usize; 2176];
     let count = engine_cells::fill(sheet, directory, &mut cells);
-    let n = engine_valid_state::state_length(count);
+    let n = engine_store::state_length(count);
     play_states(
         fd,
         sheet,

@@ -3,17 +3,17 @@ use mathlib.Core.Path.{_≡_, refl, sym, ap, _∙_}
 use native.Mathlib.Omega.{arith}
 use lib.ListN.{length, take, drop}
 use borrow.Author.Needs.{needs}
+use Rattle.machine.specs.Play.{wordsOfEvent, limitOf}
 use Rattle.machine.specs.Lists.{eventsOf}
 use Rattle.machine_events.specs.Playing.{Playing}
 use Rattle.machine_claim.proofs.Kept.{goes-on}
-use Rattle.engine_answers.specs.Words.{eventAt, eventsFrom, inWords}
+use Rattle.engine_answers.specs.Words.{wordsOfAnswer, eventAt, eventsFrom, inWords}
 use Rattle.engine_list_events.proofs.Laws.{steps-small, behind, rest, no-event-yet, event-more, all-events}
 use Rattle.engine_list_events.proofs.play_on.Statement.{statement}
 use Rattle.engine_list_events.proofs.play_on.Tie as tie
-use Rattle.machine.specs.Play.{limitOf}
 
 abbrev Inv-loop : tie.InvT-loop
-Inv-loop sheet directory cells events st₀ spare₀ answers₀ count i₀ st spare answers i = Playing sheet directory st × (length st ≡ length st₀) × (length spare ≡ length spare₀) × (length answers ≡ length answers₀) × (i ≤ count) × (count ≡ length events / 9) × (inWords (eventsOf sheet (limitOf sheet) st₀ (eventsFrom events count 0)) ≡ behind (take (10 * i) answers) (rest sheet directory events count i st))
+Inv-loop sheet directory cells events st₀ spare₀ answers₀ count i₀ st spare answers i = Playing sheet directory st × (length st ≡ length st₀) × (length spare ≡ length spare₀) × (length answers ≡ length answers₀) × (i ≤ count) × (count ≡ length events / wordsOfEvent) × (inWords (eventsOf sheet (limitOf sheet) st₀ (eventsFrom events count 0)) ≡ behind (take (wordsOfAnswer * i) answers) (rest sheet directory events count i st))
 
 abbrev μ-loop : tie.MeasureT-loop
 μ-loop sheet directory cells events st₀ spare₀ answers₀ count i₀ st spare answers i = count - i
@@ -70,10 +70,11 @@ loop-again c =
     let i = loop .i in
     let st = loop .st in
     let put = c .before .put-answer in
-    let nine : 9 * i + 9 - 9 * i ≡ 9 = omega arith in
-    let e : take (9 * i + 9 - 9 * i) (drop (9 * i) (s .args .events .now)) ≡ eventAt (s .args .events .now) i =
-    ap (λ n. take n (drop (9 * i) (s .args .events .now))) nine in
-    let room : length (loop .answers) ≡ 10 * (length (s .args .events .now) / 9) = v .3 ∙ s .pre .2 in (
+    let from = wordsOfEvent * i in
+    let one : from + wordsOfEvent - from ≡ wordsOfEvent = omega arith in
+    let e : take (from + wordsOfEvent - from) (drop from (s .args .events .now)) ≡ eventAt (s .args .events .now) i =
+    ap (λ n. take n (drop from (s .args .events .now))) one in
+    let room : length (loop .answers) ≡ wordsOfAnswer * (length (s .args .events .now) / wordsOfEvent) = v .3 ∙ s .pre .2 in (
       goes-on (s .args .sheet .now) (s .args .directory .now) st _ (next .result) (next .last .1 .1 .1 .0) (v .0) (next .ensures),
       next .kept .1 .1 .1 .0 ∙ v .1,
       next .kept .1 .1 .1 .1 .0 ∙ v .2,

@@ -4,88 +4,78 @@ use native.Mathlib.Omega.{arith}
 use lib.ListN.{length}
 use lib.Seq.{length-take-le}
 use borrow.Author.Needs.{needs}
+use Rattle.program_listing.specs.Listing.{longestLine}
+use Rattle.program_events.specs.Room.{roomText}
 use Rattle.program_events.proofs.list_events.Statement.{statement}
 use Rattle.program_events.proofs.list_events.Tie as tie
 
 abbrev Inv-loop : tie.InvT-loop
-Inv-loop answers count done out₀ at₀ i₀ out at i = (length out ≡ length out₀) × (at + 222 ≤ 32768) × (i ≤ count)
+Inv-loop words answers count done out₀ at₀ i₀ out at i = (length out ≡ length out₀) × (at + longestLine ≤ roomText) × (i ≤ count)
 
 abbrev μ-loop : tie.MeasureT-loop
-μ-loop answers count done out₀ at₀ i₀ out at i = count - i
+μ-loop words answers count done out₀ at₀ i₀ out at i = count - i
 
 loop-holds : tie.Need-loop-holds Inv-loop μ-loop
 loop-holds c = (refl, omega arith, omega arith)
 
-mul-k : tie.Need-mul-k Inv-loop μ-loop
-mul-k c =
+mul-kind : tie.Need-mul-kind Inv-loop μ-loop
+mul-kind c =
     let start = c .before .before .before in
     let turn = c .loop-test .taken in
-    search needs
+    omega arith
 
-add-handed-at : tie.Need-add-handed-at Inv-loop μ-loop
-add-handed-at c =
+mul-kind-2 : tie.Need-mul-kind-2 Inv-loop μ-loop
+mul-kind-2 c =
     let start = c .before .before .before in
     let turn = c .loop-test .taken in
-    search needs
+    omega arith
 
-handed-at-requires : tie.Need-handed-at-requires Inv-loop μ-loop
-handed-at-requires c κs =
+shared-slice-copy-out-kind : tie.Need-shared-slice-copy-out-kind Inv-loop μ-loop
+shared-slice-copy-out-kind c =
     let start = c .before .before .before in
     let turn = c .loop-test .taken in
+    omega arith
+
+mul-answer-at : tie.Need-mul-answer-at Inv-loop μ-loop
+mul-answer-at c =
+    let start = c .before .before .before .before in
+    let turn = c .before .loop-test .taken in
+    omega arith
+
+answer-at-requires : tie.Need-answer-at-requires Inv-loop μ-loop
+answer-at-requires c κs =
+    let start = c .before .before .before .before in
+    let turn = c .before .loop-test .taken in
     omega arith
 
 add-put-event : tie.Need-add-put-event Inv-loop μ-loop
 add-put-event c =
-    let start = c .before .before .before .before .before in
-    let turn = c .before .before .loop-test .taken in
-    search needs
+    let start = c .before .before .before .before .before .before in
+    let turn = c .before .before .before .loop-test .taken in
+    omega arith
 
 add-put-event-2 : tie.Need-add-put-event-2 Inv-loop μ-loop
 add-put-event-2 c =
-    let start = c .before .before .before .before .before in
-    let turn = c .before .before .loop-test .taken in
-    search needs
-
-mul-put-event : tie.Need-mul-put-event Inv-loop μ-loop
-mul-put-event c = search needs
-
-shared-slice-copy-out-put-event : tie.Need-shared-slice-copy-out-put-event Inv-loop μ-loop
-shared-slice-copy-out-put-event c =
-    let start = c .before .before .before .before .before in
-    let turn = c .before .before .loop-test .taken in
-    omega arith
-
-add-put-event-3 : tie.Need-add-put-event-3 Inv-loop μ-loop
-add-put-event-3 c =
-    let start = c .before .before .before .before .before .before in
-    let turn = c .before .before .before .loop-test .taken in
-    search needs
-
-mul-put-event-2 : tie.Need-mul-put-event-2 Inv-loop μ-loop
-mul-put-event-2 c = search needs
-
-shared-slice-copy-out-put-event-2 : tie.Need-shared-slice-copy-out-put-event-2 Inv-loop μ-loop
-shared-slice-copy-out-put-event-2 c =
     let start = c .before .before .before .before .before .before in
     let turn = c .before .before .before .loop-test .taken in
     omega arith
 
 put-event-requires : tie.Need-put-event-requires Inv-loop μ-loop
 put-event-requires c κs =
-    let start = c .before .before .before .before .before .before .before in
-    let loop = c .before .before .before .before .before .loop in
+    let start = c .before .before .before .before .before .before in
+    let loop = c .before .before .before .before .loop in
     omega arith
 
 with-room-requires : tie.Need-with-room-requires Inv-loop μ-loop
 with-room-requires c κs =
-    let start = c .before .before .before .before .before .before .before .before .before .before .before in
-    let loop = c .before .before .before .before .before .before .before .before .before .loop in
+    let start = c .before .before .before .before .before .before .before .before .before .before in
+    let loop = c .before .before .before .before .before .before .before .before .loop in
     let put-event = c .before .before .before .put-event in
     (omega arith, omega arith)
 
 same-length : tie.Need-same-length Inv-loop μ-loop
 same-length c =
-    let loop = c .before .before .before .before .before .before .before .before .before .before .before .before .loop in
+    let loop = c .before .before .before .before .before .before .before .before .before .before .before .loop in
     let put-event = c .before .before .before .before .before .before .put-event in
     put-event .kept .0 ∙ loop .inv .0
 
@@ -93,18 +83,20 @@ returns : tie.Need-returns Inv-loop μ-loop
 returns c = search needs
 
 add-i : tie.Need-add-i Inv-loop μ-loop
-add-i c = search needs
+add-i c =
+    let turn = c .before .before .before .before .before .before .before .before .before .before .loop-test .taken in
+    search needs
 
 loop-less : tie.Need-loop-less Inv-loop μ-loop
 loop-less c =
-    let turn = c .before .before .before .before .before .before .before .before .before .before .before .loop-test .taken in
+    let turn = c .before .before .before .before .before .before .before .before .before .before .loop-test .taken in
     omega arith
 
 loop-again : tie.Need-loop-again Inv-loop μ-loop
 loop-again c =
-    let start = c .before .before .before .before .before .before .before .before .before .before .before .before .before .before in
-    let loop = c .before .before .before .before .before .before .before .before .before .before .before .before .loop in
-    let turn = c .before .before .before .before .before .before .before .before .before .before .before .loop-test .taken in
+    let start = c .before .before .before .before .before .before .before .before .before .before .before .before .before in
+    let loop = c .before .before .before .before .before .before .before .before .before .before .before .loop in
+    let turn = c .before .before .before .before .before .before .before .before .before .before .loop-test .taken in
     let put-event = c .before .before .before .before .before .before .put-event in
     let room = c .before .before .with-room .ensures in
     (put-event .kept .0 ∙ loop .inv .0, omega arith, omega arith)
@@ -134,16 +126,13 @@ list-events-spec =
     Inv-loop
     μ-loop
     loop-holds
-    mul-k
-    add-handed-at
-    handed-at-requires
+    mul-kind
+    mul-kind-2
+    shared-slice-copy-out-kind
+    mul-answer-at
+    answer-at-requires
     add-put-event
     add-put-event-2
-    mul-put-event
-    shared-slice-copy-out-put-event
-    add-put-event-3
-    mul-put-event-2
-    shared-slice-copy-out-put-event-2
     put-event-requires
     with-room-requires
     same-length

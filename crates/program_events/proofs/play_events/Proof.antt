@@ -5,18 +5,21 @@ use mathlib.Core.Path.{_≡_, refl, sym, _∙_}
 use native.Mathlib.Omega.{arith}
 use lib.ListN.{length}
 use borrow.Author.Needs.{needs}
+use Rattle.machine.specs.Play.{wordsOfEvent}
 use Rattle.machine_events.specs.Playing.{Playing}
+use Rattle.engine_answers.specs.Words.{wordsOfAnswer}
+use Rattle.program_events.specs.Room.{roomEvents, bytesOfEvent, roomText}
 use Rattle.program_events.proofs.play_events.Statement.{statement}
 use Rattle.program_events.proofs.play_events.Tie as tie
 
 abbrev Inv-loop : tie.InvT-loop
 Inv-loop fd sheet directory cells st₀ spare₀ most events₀ words₀ answers₀ out₀ have₀ done₀ st spare events words answers out have done =
-    Playing sheet directory st × (length st ≡ length st₀) × (length spare ≡ length spare₀) × (length events ≡ 36000)
-    × (length words ≡ 9000) × (length answers ≡ 10000) × (length out ≡ 32768) × (have < 36) × (done ≤ most)
+    Playing sheet directory st × (length st ≡ length st₀) × (length spare ≡ length spare₀) × (length events ≡ roomEvents * bytesOfEvent)
+    × (length words ≡ roomEvents * wordsOfEvent) × (length answers ≡ roomEvents * wordsOfAnswer) × (length out ≡ roomText) × (have < bytesOfEvent) × (done ≤ most)
 
 abbrev μ-loop : tie.MeasureT-loop
 μ-loop fd sheet directory cells st₀ spare₀ most events₀ words₀ answers₀ out₀ have₀ done₀ st spare events words answers out have done =
-    36 * (most - done) - have
+    bytesOfEvent * (most - done) - have
 
 loop-holds : tie.Need-loop-holds Inv-loop μ-loop
 loop-holds c = (c .before .pre .0, refl, refl, refl, refl, refl, refl, omega arith, omega arith)
