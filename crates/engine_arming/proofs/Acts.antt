@@ -26,7 +26,7 @@ use Rattle.engine_ready.specs.Ready.{contextAt, Lies}
 use Rattle.engine_ready.specs.Words.{fourWords}
 use Rattle.engine_ready.proofs.Cells.{lies}
 use Rattle.engine_ready.proofs.Statements.{act-inside, act-clock, arm-inside, arm-clock, started-word, stopped-word}
-use Rattle.engine_sending.specs.Visit.{Visit}
+use Rattle.engine_data.specs.Visit.{Visit}
 use Rattle.engine_arming.specs.Armed.{armedValue}
 
 -- ---- clocks

@@ -11,7 +11,7 @@ use Rattle.machine.specs.State.{cellAt}
 use Rattle.machine.specs.Run.{World, armed}
 use Rattle.engine_context.specs.Context.{cellIn}
 use Rattle.engine_ready.specs.Words.{thenData}
-use Rattle.engine_sending.specs.Sent.{dataAt}
+use Rattle.engine_data.specs.Data.{dataAt}
 
 -- "Arming a Timeout sets its value to the period, a Cycler's to 0", as the machine says it
 abbrev pub armedValue : ℕ → ℤ → ℤ

@@ -14,7 +14,7 @@ ghost use Rattle.sheet_rules.specs.Forms.{arm, clockAct};
 ghost use Rattle.sheet_rules.specs.Types.{clockOf};
 ghost use Rattle.machine.specs.Run.{world, runOf};
 ghost use Rattle.engine_ready.specs.Ready.{contextAt, Lies};
-ghost use Rattle.engine_sending.specs.Visit.{Visit};
+ghost use Rattle.engine_data.specs.Visit.{Visit};
 ghost use Rattle.engine_arming.specs.Armed.{armedValue, armedWith};
 
 // "Arming a Timeout sets its value to the period, a Cycler's to 0"
@@ -45,7 +45,7 @@ fn arm_with(
         first: a.f0 as usize,
         count: a.f1 as usize,
     };
-    let o = engine_sending::gather(sheet, directory, context, st, lo, r, g, &mut d, left);
+    let o = engine_data::gather(sheet, directory, context, st, lo, r, g, &mut d, left);
     match o {
         Ran::Done { left } => {
             if period < 1 {

@@ -25,7 +25,7 @@ use Rattle.engine_context.specs.declared.Place.the-variants.{At, Outside}
 use Rattle.engine_ready.specs.Words.{putAt}
 use Rattle.engine_ready.proofs.Cells.{plain-is, lies, reaches}
 use Rattle.engine_ready.proofs.Statements.{assign-inside, assign-plain, element-below, index-operand, element-operand}
-use Rattle.engine_sending.specs.Visit.{Visit}
+use Rattle.engine_data.specs.Visit.{Visit}
 
 -- ---- a value to a variable
 

@@ -16,7 +16,7 @@ ghost use Rattle.machine.specs.Run.{world, assigned, runOf};
 ghost use Rattle.engine_context.specs.Context.{cellIn, leadsTo};
 ghost use Rattle.engine_ready.specs.Ready.{contextAt, Lies, Reaches};
 ghost use Rattle.engine_ready.specs.Words.{putAt};
-ghost use Rattle.engine_sending.specs.Visit.{Visit};
+ghost use Rattle.engine_data.specs.Visit.{Visit};
 
 // A value to a plain variable: place 1 of the chart, 2 of the body.
 fn put(

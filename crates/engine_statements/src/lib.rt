@@ -14,7 +14,7 @@ ghost use Rattle.sheet.specs.Sheet.{directoryOf};
 ghost use Rattle.sheet_rules.specs.Forms.{call, loop};
 ghost use Rattle.machine.specs.Run.{world, entered, runOf};
 ghost use Rattle.engine_ready.specs.Ready.{contextAt, Ready, IsStatement};
-ghost use Rattle.engine_sending.specs.Visit.{Visit};
+ghost use Rattle.engine_data.specs.Visit.{Visit};
 ghost use Rattle.engine_statements.specs.Callable.{Callable};
 
 // "a 17th open call": 9. The called body has variables of its own.
@@ -73,7 +73,7 @@ fn call(
         first: b.f3 as usize,
         count: b.f4 as usize,
     };
-    let o = engine_sending::gather(sheet, directory, context, st, lo, r, g, &mut d, left);
+    let o = engine_data::gather(sheet, directory, context, st, lo, r, g, &mut d, left);
     match o {
         Ran::Done { left } => enter(sheet, directory, context, st, depth, number, b, &d, left),
         Ran::Refused { number, left } => Ran::Refused { number, left },

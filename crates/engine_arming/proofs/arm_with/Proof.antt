@@ -8,7 +8,7 @@ use Rattle.machine.specs.Run.{world}
 use Rattle.engine_ints.proofs.Range.{back}
 use Rattle.sheet_rules.specs.Types.{clockOf}
 use Rattle.engine_ready.proofs.Statements.{arm-data}
-use Rattle.engine_sending.proofs.Sends.{four-data, data-given, on-given, data-ends-refused, data-ends-stuck}
+use Rattle.engine_data.proofs.Data.{four-data, data-given, on-given, data-ends-refused, data-ends-stuck}
 use Rattle.engine_arming.proofs.Acts.{armed-not, armed-so, value-back, arm-lies}
 use borrow.Author.Needs.{needs}
 use Rattle.engine_arming.proofs.arm_with.Statement.{statement}

@@ -3,7 +3,7 @@ use borrow.Author.Needs.{needs}
 use Rattle.engine_store.proofs.Laws.{given}
 use Rattle.engine_ready.specs.Ready.{contextAt}
 use Rattle.engine_ready.proofs.Statements.{assign-operand, assign-word}
-use Rattle.engine_sending.proofs.Sends.{on-word, on-refused, on-stuck}
+use Rattle.engine_data.proofs.Data.{on-word, on-refused, on-stuck}
 use Rattle.engine_assigning.proofs.Acts.{assign-lies, assign-at, assign-local}
 use Rattle.engine_assigning.proofs.assign.Statement.{statement}
 use Rattle.engine_assigning.proofs.assign.Tie as tie

@@ -1,7 +1,7 @@
 use mathlib.Core.Path.{sym, _∙_}
 use Rattle.engine_store.proofs.Laws.{given}
 use Rattle.engine_ready.proofs.Statements.{element-word}
-use Rattle.engine_sending.proofs.Sends.{on-word, on-refused, on-stuck}
+use Rattle.engine_data.proofs.Data.{on-word, on-refused, on-stuck}
 use Rattle.engine_assigning.proofs.Acts.{element-operands, element-reaches}
 use borrow.Author.Needs.{needs}
 use Rattle.engine_assigning.proofs.assign_element.Statement.{statement}

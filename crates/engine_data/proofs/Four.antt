@@ -15,7 +15,7 @@ use Rattle.engine_ints.specs.declared.Work.{Work}
 use Rattle.engine_ints.specs.declared.Work.the-variants as work
 use Rattle.engine_ready.specs.Ready.{contextAt}
 use Rattle.engine_ready.specs.Words.{Data, given, refused, stuck, before, thenDatum, dataFrom, ranData, fourWords}
-use Rattle.engine_sending.specs.Sent.{dataAt, workAt}
+use Rattle.engine_data.specs.Data.{dataAt, workAt}
 
 -- ---- words in front of what is to come
 

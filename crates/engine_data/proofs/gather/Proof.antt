@@ -4,9 +4,9 @@ use native.Mathlib.Omega.{arith}
 use lib.ListN.{length}
 use borrow.Author.Needs.{needs}
 use Rattle.engine_store.proofs.Laws.{given}
-use Rattle.engine_sending.proofs.Four.{SoFar, data-start, data-end, data-again, data-refused, data-stuck}
-use Rattle.engine_sending.proofs.gather.Statement.{statement}
-use Rattle.engine_sending.proofs.gather.Tie as tie
+use Rattle.engine_data.proofs.Four.{SoFar, data-start, data-end, data-again, data-refused, data-stuck}
+use Rattle.engine_data.proofs.gather.Statement.{statement}
+use Rattle.engine_data.proofs.gather.Tie as tie
 
 abbrev Inv-loop : tie.InvT-loop
 Inv-loop sheet directory context st lo r g into₀ left l₀ j₀ into l j = SoFar sheet context st lo r g left j l into
