@@ -1,4 +1,4 @@
-// Data worked out, and telegrams sent.
+// Telegrams sent.
 use engine_context::ELEMENT;
 use engine_ints::Work;
 use machine::Ran;
@@ -7,8 +7,8 @@ use sheet::Found;
 use sheet::Range;
 use sheet::Record;
 ghost use mathlib.Core.Path.{_≡_};
-ghost use mathlib.Core.List.{List, []};
-ghost use Prim.Native.Nat.{ℕ, suc, _+_, _<_, _≤_};
+ghost use mathlib.Core.List.{List};
+ghost use Prim.Native.Nat.{ℕ, suc};
 ghost use lib.ListN.{length};
 ghost use lib.IntN.{ℤ};
 ghost use Rattle.sheet.specs.declared.Found.the-variants.{Present};
@@ -19,53 +19,8 @@ ghost use Rattle.machine.specs.State.{stateLength};
 ghost use Rattle.machine.specs.Run.{world, append as appendOf, runOf};
 ghost use Rattle.engine_queue.specs.Laid.{Laid};
 ghost use Rattle.engine_ready.specs.Ready.{contextAt, Ready, HasData};
-ghost use Rattle.engine_ready.specs.Words.{given, ranData, fourWords};
-ghost use Rattle.engine_sending.specs.Visit.{Visit};
-ghost use Rattle.engine_sending.specs.Sent.{dataAt, sent, sentTo};
-
-// The data of a node, for the declarations of a range, into four words.
-pub fn gather(
-    sheet: &[u8],
-    directory: &[usize; 16],
-    context: &[usize; 38],
-    st: &[i32],
-    lo: &[i32; 16],
-    r: Record,
-    g: Range,
-    into: &mut [i32; 4],
-    left: u32,
-) -> Ran
-    requires { ⌜ (now directory ≡ directoryOf (now sheet)) × Ready (now sheet) (now context) (now st) (now lo) × HasData (now sheet) (now context) (now st) (now lo) r g × (g .count ≤ 4) × (now into ≡ fourWords []) ⌝ }
-    ensures { λ o. ⌜ (length (now (into .exit)) ≡ 4) × (o ≡ ranData (dataAt (now (sheet .entry)) (now (context .entry)) (now (st .entry)) (now (lo .entry)) r g left)) × ((zs : List ℤ) (m : ℕ) → dataAt (now (sheet .entry)) (now (context .entry)) (now (st .entry)) (now (lo .entry)) r g left ≡ given zs m → now (into .exit) ≡ fourWords zs) ⌝ }
-{
-    let mut l = left;
-    let mut j: usize = 0;
-    while j < g.count {
-        let x = engine_expressions::eval(
-            sheet,
-            directory,
-            context,
-            st,
-            lo,
-            sheet_fields::field(r, 4 + j),
-            l,
-        );
-        match x {
-            Work::Word { word, left } => {
-                into[j] = word;
-                l = left;
-            }
-            Work::Refused { number, left } => {
-                return Ran::Refused { number, left };
-            }
-            Work::Stuck => {
-                return Ran::Stuck;
-            }
-        }
-        j += 1;
-    }
-    Ran::Done { left: l }
-}
+ghost use Rattle.engine_data.specs.Visit.{Visit};
+ghost use Rattle.engine_sending.specs.Sent.{sent, sentTo};
 
 // "Sends append"
 fn append(st: &mut [i32], t: Telegram, left: u32) -> Ran
@@ -100,7 +55,7 @@ fn send(
         first: a.f0 as usize,
         count: a.f1 as usize,
     };
-    let o = gather(sheet, directory, context, st, lo, r, g, &mut d, left);
+    let o = engine_data::gather(sheet, directory, context, st, lo, r, g, &mut d, left);
     match o {
         Ran::Done { left } => append(
             st,

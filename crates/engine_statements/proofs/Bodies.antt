@@ -38,9 +38,9 @@ use Rattle.engine_context.specs.Context.{elementIn, firstBodyIn}
 use Rattle.engine_ready.specs.Ready.{recordOr0, contextAt, Running, Ready, IsStatement, HasData}
 use Rattle.engine_ready.specs.Words.{given, DataTold, ranData, fourWords}
 use Rattle.engine_ready.proofs.Statements.{called-there, call-data, call-told, call-word}
-use Rattle.engine_sending.specs.Visit.{Visit}
-use Rattle.engine_sending.specs.Sent.{dataAt}
-use Rattle.engine_sending.proofs.Sends.{on-given, data-ends-refused, data-ends-stuck}
+use Rattle.engine_data.specs.Visit.{Visit}
+use Rattle.engine_data.specs.Data.{dataAt}
+use Rattle.engine_data.proofs.Data.{on-given, data-ends-refused, data-ends-stuck}
 use Rattle.engine_statements.specs.Callable.{Callable}
 
 -- ---- parameters in four words

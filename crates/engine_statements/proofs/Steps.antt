@@ -30,9 +30,9 @@ use Rattle.engine_ints.specs.Work.{workOf}
 use Rattle.engine_ready.specs.Ready.{contextAt, Ready, IsStatement}
 use Rattle.engine_ready.specs.Words.{thenWord}
 use Rattle.engine_ready.proofs.Statements.{no-steps, absent, ready-after, skipped, choice-word, loop-word, loop-body, sequence-runs}
-use Rattle.engine_sending.specs.Visit.{Visit}
-use Rattle.engine_sending.specs.Sent.{workAt}
-use Rattle.engine_sending.proofs.Sends.{on-word, on-refused, on-stuck}
+use Rattle.engine_data.specs.Visit.{Visit}
+use Rattle.engine_data.specs.Data.{workAt}
+use Rattle.engine_data.proofs.Data.{on-word, on-refused, on-stuck}
 
 -- ---- fewer steps are left
 

@@ -14,7 +14,7 @@ ghost use Rattle.sheet.specs.Sheet.{directoryOf};
 ghost use Rattle.sheet_rules.specs.Forms.{call, loop};
 ghost use Rattle.machine.specs.Run.{world, entered, runOf};
 ghost use Rattle.engine_ready.specs.Ready.{contextAt, Ready, IsStatement};
-ghost use Rattle.engine_sending.specs.Visit.{Visit};
+ghost use Rattle.engine_data.specs.Visit.{Visit};
 ghost use Rattle.engine_statements.specs.Callable.{Callable};
 
 // "a 17th open call": 9. The called body has variables of its own.
@@ -73,7 +73,7 @@ fn call(
         first: b.f3 as usize,
         count: b.f4 as usize,
     };
-    let o = engine_sending::gather(sheet, directory, context, st, lo, r, g, &mut d, left);
+    let o = engine_data::gather(sheet, directory, context, st, lo, r, g, &mut d, left);
     match o {
         Ran::Done { left } => enter(sheet, directory, context, st, depth, number, b, &d, left),
         Ran::Refused { number, left } => Ran::Refused { number, left },
@@ -160,11 +160,11 @@ pub fn run(
     let op = r.f0;
     match op {
         32 => Ran::Done { left: rest },
-        33 => engine_acts::assign(sheet, directory, context, st, lo, n, r, rest),
+        33 => engine_assigning::assign(sheet, directory, context, st, lo, n, r, rest),
         34 => engine_sending::external_send(sheet, directory, context, st, lo, n, r, rest),
         35 => engine_sending::internal_send(sheet, directory, context, st, lo, n, r, rest),
-        36..=37 => engine_acts::arming(sheet, directory, context, st, lo, n, r, rest),
-        38..=39 => engine_acts::clock(context, st, r, rest),
+        36..=37 => engine_arming::arming(sheet, directory, context, st, lo, n, r, rest),
+        38..=39 => engine_arming::clock(context, st, r, rest),
         40 => call(sheet, directory, context, st, lo, depth, n, r, rest),
         41 => {
             let x = engine_expressions::eval(
@@ -226,7 +226,7 @@ pub fn run(
                 Ran::Stuck => Ran::Stuck,
             }
         }
-        44 => engine_acts::assign_element(sheet, directory, context, st, lo, n, r, rest),
+        44 => engine_assigning::assign_element(sheet, directory, context, st, lo, n, r, rest),
         _ => Ran::Stuck,
     }
 }

@@ -11,16 +11,17 @@ use Rattle.sheet_rules.proofs.Forms.{form-literal, form-binary, form-clock, for
 use Rattle.engine_ints.specs.declared.Work.the-variants.{Word}
 use Rattle.engine_ready.proofs.Expressions.{absent-stuck, other-stuck, unary-low, unary-operand}
 use Rattle.engine_ready.proofs.Expressions.{clock-lies}
-use Rattle.engine_expressions.proofs.Places.{form-read, from-9, form-element, form-unary, visit, refused-at, element-low, literal-at, running-at, value-at, index-at, reaches-at, element-at, not-at, operands-at, two-at, first-refused, first-stuck}
+use Rattle.engine_leaves.proofs.Places.{element-low}
+use Rattle.engine_expressions.proofs.Places.{form-read, from-9, form-element, form-unary, visit, refused-at, literal-at, running-at, value-at, index-at, reaches-at, element-at, not-at, operands-at, two-at, first-refused, first-stuck}
 use Rattle.engine_expressions.proofs.eval.Reads as eval
 use Rattle.engine_expressions.proofs.eval.Kinds as eval-kinds
 use Rattle.engine_expressions.proofs.+eval.Lts-eval as eval-lts
-use Rattle.engine_expressions.proofs.cell_word.Reads as cell-word-reads
-use Rattle.engine_expressions.proofs.combined.Reads as combined-reads
-use Rattle.engine_expressions.proofs.element.Reads as element-reads
-use Rattle.engine_expressions.proofs.literal.Reads as literal-reads
-use Rattle.engine_expressions.proofs.negated.Reads as negated-reads
-use Rattle.engine_expressions.proofs.variable.Reads as variable-reads
+use Rattle.engine_leaves.proofs.cell_word.Reads as cell-word-reads
+use Rattle.engine_leaves.proofs.combined.Reads as combined-reads
+use Rattle.engine_leaves.proofs.element.Reads as element-reads
+use Rattle.engine_leaves.proofs.literal.Reads as literal-reads
+use Rattle.engine_leaves.proofs.negated.Reads as negated-reads
+use Rattle.engine_leaves.proofs.variable.Reads as variable-reads
 use Rattle.sheet_reader.proofs.read.Reads as read-reads
 use Rattle.engine_expressions.proofs.+eval.{statement}
 use Rattle.engine_expressions.proofs.+eval.Tie.{close}

@@ -3,7 +3,7 @@ use borrow.Author.Needs.{needs}
 use Rattle.engine_store.proofs.Laws.{given}
 use Rattle.engine_ready.specs.Ready.{contextAt}
 use Rattle.engine_ready.proofs.Statements.{receiver-operand, external-name, external-word}
-use Rattle.engine_sending.proofs.Sends.{on-word, on-refused, on-stuck, no-record}
+use Rattle.engine_data.proofs.Data.{on-word, on-refused, on-stuck, no-record}
 use Rattle.engine_sending.proofs.external_send.Statement.{statement}
 use Rattle.engine_sending.proofs.external_send.Tie as tie
 

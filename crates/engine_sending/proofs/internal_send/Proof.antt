@@ -6,7 +6,8 @@ use borrow.Author.Needs.{needs}
 use Rattle.engine_store.proofs.Laws.{given}
 use Rattle.engine_ready.specs.Ready.{contextAt}
 use Rattle.engine_ready.proofs.Statements.{internal-there, internal-data, internal-word}
-use Rattle.engine_sending.proofs.Sends.{element-small, no-record}
+use Rattle.engine_data.proofs.Data.{no-record}
+use Rattle.engine_sending.proofs.Sends.{element-small}
 use Rattle.engine_sending.proofs.internal_send.Statement.{statement}
 use Rattle.engine_sending.proofs.internal_send.Tie as tie
 

@@ -3,7 +3,8 @@ use native.Mathlib.Omega.{arith}
 use borrow.Author.Needs.{needs}
 use Rattle.machine.specs.Run.{append}
 use Rattle.engine_queue.proofs.Laws.{laid}
-use Rattle.engine_sending.proofs.Sends.{element-small, telegram-made, four-data, data-given, on-given, data-ends-refused, data-ends-stuck}
+use Rattle.engine_data.proofs.Data.{four-data, data-given, on-given, data-ends-refused, data-ends-stuck}
+use Rattle.engine_sending.proofs.Sends.{element-small, telegram-made}
 use Rattle.engine_sending.proofs.send.Statement.{statement}
 use Rattle.engine_sending.proofs.send.Tie as tie
 

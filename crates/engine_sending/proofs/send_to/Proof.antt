@@ -3,7 +3,7 @@ use borrow.Author.Needs.{needs}
 use Rattle.engine_ints.proofs.Range.{back}
 use Rattle.engine_store.proofs.Laws.{given}
 use Rattle.engine_ready.proofs.Statements.{port-operand, external-data}
-use Rattle.engine_sending.proofs.Sends.{on-word, on-refused, on-stuck}
+use Rattle.engine_data.proofs.Data.{on-word, on-refused, on-stuck}
 use Rattle.engine_sending.proofs.send_to.Statement.{statement}
 use Rattle.engine_sending.proofs.send_to.Tie as tie
 

@@ -13,9 +13,9 @@ use Rattle.sheet_rules.proofs.Forms.{form-arm, form-clockAct}
 use Rattle.engine_ints.proofs.Range.{is-zero, not-zero}
 use Rattle.engine_ready.specs.Ready.{contextAt, Ready}
 use Rattle.engine_ready.proofs.Statements.{ready-after, choice-operand, choice-then, choice-else, loop-operand, loop-body, sequence-first, sequence-second}
-use Rattle.engine_sending.specs.Visit.{Visit}
-use Rattle.engine_sending.proofs.Sends.{data-given, no-record}
-use Rattle.engine_acts.proofs.Acts.{act-lies}
+use Rattle.engine_data.specs.Visit.{Visit}
+use Rattle.engine_data.proofs.Data.{data-given, no-record}
+use Rattle.engine_arming.proofs.Acts.{act-lies}
 use Rattle.engine_statements.proofs.Bodies.{body-called, number-small, has-data, four-parameters, callable, given-left, call-done, called-refused, called-stuck, too-deep, body-runs, inner-context, fresh-there, few-parameters, few-variables, inner-ready, inner-statement}
 use Rattle.engine_statements.proofs.Steps.{word-left, done-left, none-left, no-node, other-stuck, visit, skips, choice-no, choice-yes, choice-refused, choice-stuck, loop-ends, loop-refused, loop-stuck, turn-refused, turn-stuck, turn-visit, turn-none, turn-again, first-done, first-refused, first-stuck, with-ran, step-back, past-four, below-next, form-assign, form-external, form-internal, form-call, form-choice, form-loop, form-sequence, form-assign-element}
 use Rattle.engine_statements.proofs.call.Reads as call
@@ -30,13 +30,13 @@ use Rattle.engine_statements.proofs.+call+enter+repeat+run.Lts-repeat a
 use Rattle.engine_statements.proofs.run.Reads as run
 use Rattle.engine_statements.proofs.run.Kinds as run-kinds
 use Rattle.engine_statements.proofs.+call+enter+repeat+run.Lts-run as run-lts
-use Rattle.engine_acts.proofs.arming.Reads as arming-reads
-use Rattle.engine_acts.proofs.assign.Reads as assign-reads
-use Rattle.engine_acts.proofs.assign_element.Reads as assign-element-reads
+use Rattle.engine_arming.proofs.arming.Reads as arming-reads
+use Rattle.engine_assigning.proofs.assign.Reads as assign-reads
+use Rattle.engine_assigning.proofs.assign_element.Reads as assign-element-reads
 use Rattle.engine_context.proofs.inner.Reads as inner-reads
-use Rattle.engine_acts.proofs.clock.Reads as clock-reads
+use Rattle.engine_arming.proofs.clock.Reads as clock-reads
 use Rattle.engine_sending.proofs.external_send.Reads as external-send-reads
-use Rattle.engine_sending.proofs.gather.Reads as gather-reads
+use Rattle.engine_data.proofs.gather.Reads as gather-reads
 use Rattle.engine_sending.proofs.internal_send.Reads as internal-send-reads
 use Rattle.engine_defaults.proofs.fresh_locals.Reads as fresh-locals-reads
 use Rattle.engine_expressions.proofs.eval.Reads as eval-reads
