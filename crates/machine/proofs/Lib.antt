@@ -1,4 +1,5 @@
 pub mod Appending
 pub mod Samples
-pub mod NotPassed
-pub mod Arrays
+pub mod Expressions
+pub mod Statements
+pub mod Events
