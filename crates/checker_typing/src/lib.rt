@@ -79,22 +79,22 @@ pub fn type_of(
     let op = r.f0;
     match op {
         1..=6 => Typed::Expression(sheet_types::literal_type(r)),
-        7 => checker_forms::read_type(sheet, directory, c, b, r),
+        7 => checker_variables::read_type(sheet, directory, c, b, r),
         8 => checker_forms::not_type(operand_type(sheet, directory, table, c, b, n, r.f1)),
         9..=16 => {
             let x = operand_type(sheet, directory, table, c, b, n, r.f1);
             let y = operand_type(sheet, directory, table, c, b, n, r.f2);
             checker_forms::binary_type(op, x, y)
         }
-        17..=18 => checker_forms::clock_type(sheet, directory, c, r),
+        17..=18 => checker_variables::clock_type(sheet, directory, c, r),
         19 => {
             let x = operand_type(sheet, directory, table, c, b, n, r.f2);
-            checker_forms::read_element_type(sheet, directory, c, r, x)
+            checker_arrays::read_element_type(sheet, directory, c, r, x)
         }
         32 => Typed::Statement,
         33 => {
             let x = operand_type(sheet, directory, table, c, b, n, r.f3);
-            checker_forms::assign_type(sheet, directory, c, b, r, x)
+            checker_variables::assign_type(sheet, directory, c, b, r, x)
         }
         34 => {
             let x = operand_type(sheet, directory, table, c, b, n, r.f1);
@@ -114,7 +114,7 @@ pub fn type_of(
             let d = data_match(sheet, directory, table, c, b, n, g, r);
             checker_sends::arm_type(sheet, directory, table, c, r, x, d)
         }
-        38..=39 => checker_forms::clock_act_type(sheet, directory, c, r),
+        38..=39 => checker_variables::clock_act_type(sheet, directory, c, r),
         40 => {
             let g = sheet_types::called_range(sheet, directory, c, r);
             let d = data_match(sheet, directory, table, c, b, n, g, r);
@@ -139,7 +139,7 @@ pub fn type_of(
         44 => {
             let x = operand_type(sheet, directory, table, c, b, n, r.f2);
             let y = operand_type(sheet, directory, table, c, b, n, r.f3);
-            checker_forms::assign_element_type(sheet, directory, c, r, x, y)
+            checker_arrays::assign_element_type(sheet, directory, c, r, x, y)
         }
         _ => Typed::Wrong,
     }

@@ -1,5 +1,6 @@
 pub mod Appending
 pub mod Samples
-pub mod NotPassed
-pub mod Arrays
+pub mod Expressions
+pub mod Statements
+pub mod Events
 pub mod Limit

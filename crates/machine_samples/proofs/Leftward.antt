@@ -6,7 +6,8 @@ use lib.ListN.{replicate}
 use lib.IntN.{ℤ, pos}
 use Rattle.sheet_rules.proofs.Samples.{rec3, rec6, body, check}
 use Rattle.machine.specs.Play.{Outcome}
-use Rattle.machine.proofs.Samples.{event, answered, words, waits, sent}
+use Rattle.machine.proofs.Samples.{event, words, sent}
+use Rattle.machine_samples.proofs.Plays.{answered, waits}
 
 -- one bound element with a parameter Length and a variable Pointer; its panic body steps left
 leftward : ℕ → List (List ℕ)

@@ -6,7 +6,8 @@ use lib.ListN.{replicate}
 use lib.IntN.{pos}
 use Rattle.sheet_rules.proofs.Samples.{sheetOf, rec3, rec6}
 use Rattle.machine.specs.Play.{Outcome, eventCall, limitOf}
-use Rattle.machine.proofs.Samples.{start, answered, words, waits, sent}
+use Rattle.machine.proofs.Samples.{words, sent}
+use Rattle.machine_samples.proofs.Plays.{start, answered, waits}
 
 -- a body with one local
 counting : ℕ → ℕ → List ℕ

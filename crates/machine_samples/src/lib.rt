@@ -1,1 +1,1 @@
-// The paper's starred samples as one table, and stepping left round a list: theorems only. There is no code here.
+// The paper's starred samples as one table, and samples about whole sheets: theorems only. There is no code here.

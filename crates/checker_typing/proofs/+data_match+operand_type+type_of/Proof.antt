@@ -23,14 +23,14 @@ use Rattle.checker_typing.proofs.+data_match+operand_type+type_of.Lts-t
 use Rattle.sheet_fields.proofs.field.Reads as field-reads
 use Rattle.sheet_reader.proofs.read.Reads as read-reads
 use Rattle.checker_sends.proofs.arm_type.Reads as arm-type-reads
-use Rattle.checker_forms.proofs.assign_element_type.Reads as assign-element-type-reads
-use Rattle.checker_forms.proofs.assign_type.Reads as assign-type-reads
+use Rattle.checker_arrays.proofs.assign_element_type.Reads as assign-element-type-reads
+use Rattle.checker_variables.proofs.assign_type.Reads as assign-type-reads
 use Rattle.checker_forms.proofs.binary_type.Reads as binary-type-reads
 use Rattle.checker_sends.proofs.call_type.Reads as call-type-reads
 use Rattle.sheet_types.proofs.called_range.Reads as called-range-reads
 use Rattle.checker_forms.proofs.choice_type.Reads as choice-type-reads
-use Rattle.checker_forms.proofs.clock_act_type.Reads as clock-act-type-reads
-use Rattle.checker_forms.proofs.clock_type.Reads as clock-type-reads
+use Rattle.checker_variables.proofs.clock_act_type.Reads as clock-act-type-reads
+use Rattle.checker_variables.proofs.clock_type.Reads as clock-type-reads
 use Rattle.checker_sends.proofs.external_type.Reads as external-type-reads
 use Rattle.checker_sends.proofs.internal_type.Reads as internal-type-reads
 use Rattle.sheet_types.proofs.is_of.Reads as is-of-reads
@@ -38,8 +38,8 @@ use Rattle.sheet_types.proofs.literal_type.Reads as literal-type-reads
 use Rattle.checker_forms.proofs.loop_type.Reads as loop-type-reads
 use Rattle.sheet_types.proofs.name_range.Reads as name-range-reads
 use Rattle.checker_forms.proofs.not_type.Reads as not-type-reads
-use Rattle.checker_forms.proofs.read_element_type.Reads as read-element-type-reads
-use Rattle.checker_forms.proofs.read_type.Reads as read-type-reads
+use Rattle.checker_arrays.proofs.read_element_type.Reads as read-element-type-reads
+use Rattle.checker_variables.proofs.read_type.Reads as read-type-reads
 use Rattle.checker_forms.proofs.sequence_type.Reads as sequence-type-reads
 use Rattle.sheet_types.proofs.type_at.Reads as type-at-reads
 use Rattle.checker_typing.proofs.+data_match+operand_type+type_of.{statement}

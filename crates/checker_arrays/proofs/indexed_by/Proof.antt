@@ -10,9 +10,9 @@ use Rattle.sheet_rules.specs.declared.Typed.{Typed}
 use Rattle.sheet_rules.specs.Indices.{indexOf}
 use Rattle.sheet_rules.specs.Types.{indexedBy}
 use Rattle.sheet_indices.proofs.Laws.{index-none, index-enumerated, index-number, index-past}
-use Rattle.checker_forms.proofs.Laws.{indexed-absent, indexed}
-use Rattle.checker_forms.proofs.indexed_by.Statement.{statement}
-use Rattle.checker_forms.proofs.indexed_by.Tie as tie
+use Rattle.checker_arrays.proofs.Laws.{indexed-absent, indexed}
+use Rattle.checker_arrays.proofs.indexed_by.Statement.{statement}
+use Rattle.checker_arrays.proofs.indexed_by.Tie as tie
 
 -- 0 and 4 to 7
 no-type : (s : List ℕ) (i : ℕ) (x : Typed) → i < 8 → (i ≡ 1 → ⊥) → (i ≡ 2 → ⊥) → (i ≡ 3 → ⊥) → false ≡ indexedBy (indexOf s i) x

@@ -1,7 +1,7 @@
 use borrow.Author.Needs.{needs}
-use Rattle.checker_forms.proofs.Laws.{not-timer, timer-starts, not-stopped, stops}
-use Rattle.checker_forms.proofs.clock_act_type.Statement.{statement}
-use Rattle.checker_forms.proofs.clock_act_type.Tie as tie
+use Rattle.checker_variables.proofs.Laws.{not-timer, timer-starts, not-stopped, stops}
+use Rattle.checker_variables.proofs.clock_act_type.Statement.{statement}
+use Rattle.checker_variables.proofs.clock_act_type.Tie as tie
 
 chart-variable-type-requires : tie.Need-chart-variable-type-requires
 chart-variable-type-requires c κs = search needs

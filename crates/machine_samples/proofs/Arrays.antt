@@ -5,9 +5,9 @@ use mathlib.Core.Path.{_≡_, refl}
 use lib.ListN.{replicate}
 use lib.IntN.{ℤ, pos}
 use Rattle.sheet_rules.proofs.Samples.{rec3, rec6, body}
 use Rattle.machine.specs.Play.{stuck}
-use Rattle.machine.proofs.Samples.{answered}
-use Rattle.machine.proofs.NotPassed.{begun}
+use Rattle.machine.proofs.Samples.{begun}
+use Rattle.machine_samples.proofs.Plays.{answered}
 
 -- one bound element with an Int array of three and an Int behind it; the nodes of its initial body, whose root is the last
 yard : List ℕ → ℕ → List (List ℕ)

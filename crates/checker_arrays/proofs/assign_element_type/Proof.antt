@@ -1,7 +1,7 @@
 use borrow.Author.Needs.{needs}
-use Rattle.checker_forms.proofs.Laws.{no-element-assigned, not-its-element, assigns-element}
-use Rattle.checker_forms.proofs.assign_element_type.Statement.{statement}
-use Rattle.checker_forms.proofs.assign_element_type.Tie as tie
+use Rattle.checker_arrays.proofs.Laws.{no-element-assigned, not-its-element, assigns-element}
+use Rattle.checker_arrays.proofs.assign_element_type.Statement.{statement}
+use Rattle.checker_arrays.proofs.assign_element_type.Tie as tie
 
 indexed-by-requires : tie.Need-indexed-by-requires
 indexed-by-requires c κs = search needs

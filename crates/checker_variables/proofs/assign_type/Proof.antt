@@ -1,7 +1,7 @@
 use borrow.Author.Needs.{needs}
-use Rattle.checker_forms.proofs.Laws.{array-assigned, to-parameter, not-its-type, assigns}
-use Rattle.checker_forms.proofs.assign_type.Statement.{statement}
-use Rattle.checker_forms.proofs.assign_type.Tie as tie
+use Rattle.checker_variables.proofs.Laws.{array-assigned, to-parameter, not-its-type, assigns}
+use Rattle.checker_variables.proofs.assign_type.Statement.{statement}
+use Rattle.checker_variables.proofs.assign_type.Tie as tie
 
 returns : tie.Need-returns
 returns c = to-parameter _ _ _ _ _ (c .if1 .taken)

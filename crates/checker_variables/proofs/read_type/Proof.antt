@@ -1,7 +1,7 @@
 use borrow.Author.Needs.{needs}
-use Rattle.checker_forms.proofs.Laws.{array-read, clock-read, is-read}
-use Rattle.checker_forms.proofs.read_type.Statement.{statement}
-use Rattle.checker_forms.proofs.read_type.Tie as tie
+use Rattle.checker_variables.proofs.Laws.{array-read, clock-read, is-read}
+use Rattle.checker_variables.proofs.read_type.Statement.{statement}
+use Rattle.checker_variables.proofs.read_type.Tie as tie
 
 variable-at-requires : tie.Need-variable-at-requires
 variable-at-requires c κs = search needs
