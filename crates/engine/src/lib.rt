@@ -9,7 +9,8 @@ ghost use Rattle.sheet_rules.specs.declared.Checked.the-variants.{Passed};
 ghost use Rattle.machine.specs.State.{stateLength};
 ghost use Rattle.sheet_rules.specs.Check.{checkOf};
 ghost use Rattle.machine.specs.Lists.{StartGives, EventGives};
-ghost use Rattle.engine_cells.specs.Playing.{Opened, Playing};
+ghost use Rattle.engine_cells.specs.Lent.{Lent};
+ghost use Rattle.engine_cells.specs.Playing.{Playing};
 ghost use Rattle.machine.specs.Play.{limitOf};
 
 // The next event of a list: the sheet is passed, the state is of it and becomes the state that goes
@@ -77,7 +78,7 @@ fn on_passed(
 
 // Start on a passed sheet.
 pub fn begin(sheet: &[u8], directory: &[usize; 16], cells: &[usize; 2176], st: &mut [i32]) -> Answer
-    requires { ⌜ Opened (now sheet) (now directory) (now cells) × (length (now st) ≡ stateLength (now sheet)) ⌝ }
+    requires { ⌜ Lent (now sheet) (now directory) (now cells) (now st) ⌝ }
     ensures { λ a. ⌜ StartGives (now (sheet .entry)) (limitOf (now (sheet .entry))) (now (st .entry)) a (now (st .exit)) ⌝ }
 {
     engine_starts::from_defaults(sheet, directory, cells, st)

@@ -1,4 +1,4 @@
--- What an engine knows of its sheet, and between events of its state.
+-- What an engine knows between events.
 use Prim.Native.Nat.{ℕ}
 use mathlib.Core.Path.{_≡_}
 use mathlib.Core.List.{List}
@@ -9,13 +9,7 @@ use Rattle.sheet_rules.specs.Check.{checkOf}
 use Rattle.machine.specs.Valid.{OfSheet}
 use Rattle.engine_cells.specs.Cells.{CellTable}
 
--- the sheet is passed, its directory is read and its table of cells filled
-pub record Opened (s d t : List ℕ) : Type 0 where
-  pub directory : d ≡ directoryOf s
-  pub passed : checkOf s ≡ Passed
-  pub cells : CellTable s t
-
--- .. and the state is of the sheet
+-- the sheet is passed, its directory is read and its table of cells filled, and the state is of the sheet
 pub record Playing (s d t : List ℕ) (st : List ℤ) : Type 0 where
   pub directory : d ≡ directoryOf s
   pub passed : checkOf s ≡ Passed

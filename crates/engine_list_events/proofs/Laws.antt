@@ -16,7 +16,9 @@ use Rattle.sheet_rules.specs.Fields.{numberOr0}
 use Rattle.machine.specs.State.{putWords}
 use Rattle.machine.specs.Play.{defaultLimit, limitBy, limitOf}
 use Rattle.machine.specs.Lists.{Played, played, nowhere, thenPlayed, afterAnswer, goesOn, eventsOf, EventGives}
-use Rattle.machine_events.specs.Playing.{Playing}
+use Rattle.sheet_rules.specs.declared.Checked.the-variants.{Passed}
+use Rattle.sheet_rules.specs.Check.{checkOf}
+use Rattle.machine.specs.Valid.{OfSheet}
 use Rattle.machine_claim.proofs.Limit.{event-within}
 use Rattle.machine_claim.proofs.Kept.{goes-on-is}
 use Rattle.engine_answers.specs.Words.{eventAt, eventsFrom, wordsOfAnswer, answerWords, answersWords, Written, written, unwritten, inWords}
@@ -62,7 +64,7 @@ unfolding behind inWords afterAnswer answersWords
 behind-answer a (played answers st) = refl
 behind-answer a nowhere = refl
 
-module _ (s d : List ℕ) (events : List ℤ) where
+module _ (s : List ℕ) (events : List ℤ) where
   -- the run from event i of count on
   abbrev pub rest : ℕ → ℕ → List ℤ → Written
   rest count i st = inWords (eventsOf s (limitOf s) st (eventsFrom events (count - i) i))
@@ -72,17 +74,17 @@ module _ (s d : List ℕ) (events : List ℤ) where
       let e : count ≡ count - 0 = omega arith in
       sym (behind-none (inWords (eventsOf s (limitOf s) st (eventsFrom events count 0)))) ∙ ap (λ n. behind [] (inWords (eventsOf s (limitOf s) st (eventsFrom events n 0)))) e
 
-  one-event : (st ev : List ℤ) (evs : List (List ℤ)) (a : Answer) (new : List ℤ) → Playing s d st → EventGives s (limitOf s) st st ev a new → inWords (eventsOf s (limitOf s) st (ev ∷ evs)) ≡ behind (answerWords a) (inWords (eventsOf s (limitOf s) new evs))
+  one-event : checkOf s ≡ Passed → (st ev : List ℤ) (evs : List (List ℤ)) (a : Answer) (new : List ℤ) → OfSheet s st → EventGives s (limitOf s) st st ev a new → inWords (eventsOf s (limitOf s) st (ev ∷ evs)) ≡ behind (answerWords a) (inWords (eventsOf s (limitOf s) new evs))
   unfolding eventsOf thenPlayed
-  one-event st ev evs a new p g =
+  one-event ok st ev evs a new p g =
       ap (λ w. inWords (thenPlayed w (λ a new. afterAnswer a (eventsOf s (limitOf s) (goesOn a st new) evs)))) (sym g)
-      ∙ ap (λ st. inWords (afterAnswer a (eventsOf s (limitOf s) st evs))) (goes-on-is s d st ev a new p g)
+      ∙ ap (λ st. inWords (afterAnswer a (eventsOf s (limitOf s) st evs))) (goes-on-is s ok st ev a new p g)
       ∙ behind-answer a (eventsOf s (limitOf s) new evs)
 
   -- one event more
-  pub event-more : (count i : ℕ) (st answers : List ℤ) (w : Written) → i < count → length answers ≡ wordsOfAnswer * count → Playing s d st → w ≡ behind (take (wordsOfAnswer * i) answers) (rest count i st) → (ev : List ℤ) → ev ≡ eventAt events i → (a : Answer) (new : List ℤ) → EventGives s (limitOf s) st st ev a new → (answers′ : List ℤ) → answers′ ≡ putWords answers (wordsOfAnswer * i) (answerWords a) → w ≡ behind (take (wordsOfAnswer * (i + 1)) answers′) (rest count (i + 1) new)
+  pub event-more : checkOf s ≡ Passed → (count i : ℕ) (st answers : List ℤ) (w : Written) → i < count → length answers ≡ wordsOfAnswer * count → OfSheet s st → w ≡ behind (take (wordsOfAnswer * i) answers) (rest count i st) → (ev : List ℤ) → ev ≡ eventAt events i → (a : Answer) (new : List ℤ) → EventGives s (limitOf s) st st ev a new → (answers′ : List ℤ) → answers′ ≡ putWords answers (wordsOfAnswer * i) (answerWords a) → w ≡ behind (take (wordsOfAnswer * (i + 1)) answers′) (rest count (i + 1) new)
   unfolding eventsFrom
-  event-more count i st answers w l m p h ev q a new g answers′ e =
+  event-more ok count i st answers w l m p h ev q a new g answers′ e =
       let n : count - i ≡ suc (count - (i + 1)) = omega arith in
       let k : suc i ≡ i + 1 = omega arith in
       let front : take (wordsOfAnswer * (i + 1)) answers′ ≡ take (wordsOfAnswer * i) answers ++ answerWords a = ap (take (wordsOfAnswer * (i + 1))) e ∙ front-put answers (wordsOfAnswer * i) (answerWords a) (wordsOfAnswer * (i + 1)) (omega arith) (omega (arith, answer-length a)) in
@@ -90,7 +92,7 @@ module _ (s d : List ℕ) (events : List ℤ) where
       ∙ ap (λ n. behind (take (wordsOfAnswer * i) answers) (inWords (eventsOf s (limitOf s) st (eventsFrom events n i)))) n
       ∙ ap (λ k. behind (take (wordsOfAnswer * i) answers) (inWords (eventsOf s (limitOf s) st (eventAt events i ∷ eventsFrom events (count - (i + 1)) k)))) k
       ∙ ap (λ ev. behind (take (wordsOfAnswer * i) answers) (inWords (eventsOf s (limitOf s) st (ev ∷ eventsFrom events (count - (i + 1)) (i + 1))))) (sym q)
-      ∙ ap (behind (take (wordsOfAnswer * i) answers)) (one-event st ev (eventsFrom events (count - (i + 1)) (i + 1)) a new p g)
+      ∙ ap (behind (take (wordsOfAnswer * i) answers)) (one-event ok st ev (eventsFrom events (count - (i + 1)) (i + 1)) a new p g)
       ∙ behind-behind (take (wordsOfAnswer * i) answers) (answerWords a) (rest count (i + 1) new)
       ∙ ap (λ ws. behind ws (rest count (i + 1) new)) (sym front)
 

@@ -5,8 +5,7 @@ ghost use Prim.Native.Nat.{_*_, _/_};
 ghost use mathlib.Core.Path.{_≡_};
 ghost use lib.ListN.{length};
 ghost use Rattle.machine.specs.Lists.{eventsOf};
-ghost use Rattle.machine_events.specs.Playing.{Playing};
-ghost use Rattle.engine_cells.specs.Cells.{CellTable};
+ghost use Rattle.engine_cells.specs.Playing.{Playing};
 ghost use Rattle.engine_answers.specs.Words.{wordsOfAnswer, eventsIn, written, inWords};
 ghost use Rattle.machine.specs.Play.{wordsOfEvent, limitOf};
 
@@ -22,8 +21,8 @@ pub fn play_on(
     spare: &mut [i32],
     answers: &mut [i32],
 )
-    requires { ⌜ Playing (now sheet) (now directory) (now st) × (length (now spare) ≡ length (now st)) × (length (now answers) ≡ wordsOfAnswer * (length (now events) / wordsOfEvent)) × CellTable (now sheet) (now cells) ⌝ }
-    ensures { λ _. ⌜ Playing (now (sheet .entry)) (now (directory .entry)) (now (st .exit)) × (written (now (answers .exit)) (now (st .exit)) ≡ inWords (eventsOf (now (sheet .entry)) (limitOf (now (sheet .entry))) (now (st .entry)) (eventsIn (now (events .entry))))) ⌝ }
+    requires { ⌜ Playing (now sheet) (now directory) (now cells) (now st) × (length (now spare) ≡ length (now st)) × (length (now answers) ≡ wordsOfAnswer * (length (now events) / wordsOfEvent)) ⌝ }
+    ensures { λ _. ⌜ Playing (now (sheet .entry)) (now (directory .entry)) (now (cells .entry)) (now (st .exit)) × (written (now (answers .exit)) (now (st .exit)) ≡ inWords (eventsOf (now (sheet .entry)) (limitOf (now (sheet .entry))) (now (st .entry)) (eventsIn (now (events .entry))))) ⌝ }
 {
     let count = events.len() / EVENT_WORDS;
     let mut i: usize = 0;

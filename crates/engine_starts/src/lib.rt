@@ -12,7 +12,8 @@ ghost use Rattle.machine.specs.declared.Handed.the-variants.{Nothing};
 ghost use Rattle.machine.specs.Values.{isBound};
 ghost use Rattle.machine.specs.State.{stateLength};
 ghost use Rattle.machine.specs.Play.{ended, answer, limitOf, isInitial, elementBody, alone, ranBody, started};
-ghost use Rattle.engine_cells.specs.Playing.{Opened, Playing};
+ghost use Rattle.engine_cells.specs.Lent.{Lent};
+ghost use Rattle.engine_cells.specs.Playing.{Playing};
 
 // The initial body of element e.
 fn initial(
@@ -62,7 +63,7 @@ pub fn from_defaults(
     cells: &[usize; 2176],
     st: &mut [i32],
 ) -> Answer
-    requires { ⌜ Opened (now sheet) (now directory) (now cells) × (length (now st) ≡ stateLength (now sheet)) ⌝ }
+    requires { ⌜ Lent (now sheet) (now directory) (now cells) (now st) ⌝ }
     ensures { λ a. ⌜ ended a (now (st .exit)) ≡ started (now (sheet .entry)) (limitOf (now (sheet .entry))) ⌝ }
 {
     engine_defaults::default_state(sheet, directory, st);

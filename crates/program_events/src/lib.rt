@@ -8,8 +8,7 @@ ghost use Prim.Native.Nat.{_+_, _*_, _<_, _≤_};
 ghost use mathlib.Core.Path.{_≡_};
 ghost use lib.ListN.{length};
 ghost use Rattle.machine.specs.Play.{wordsOfEvent};
-ghost use Rattle.machine_events.specs.Playing.{Playing};
-ghost use Rattle.engine_cells.specs.Cells.{CellTable};
+ghost use Rattle.engine_cells.specs.Playing.{Playing};
 ghost use Rattle.engine_answers.specs.Words.{wordsOfAnswer};
 ghost use Rattle.program_events.specs.Room.{roomEvents, bytesOfEvent, roomText};
 
@@ -63,8 +62,8 @@ fn round(
     done: u64,
     out: &mut [u8],
 ) -> bool
-    requires { ⌜ Playing (now sheet) (now directory) (now st) × (length (now spare) ≡ length (now st)) × (bytesOfEvent * count ≤ length (now events)) × (count ≤ roomEvents) × (length (now words) ≡ roomEvents * wordsOfEvent) × (length (now answers) ≡ roomEvents * wordsOfAnswer) × (done + count < 18446744073709551616) × (length (now out) ≡ roomText) × CellTable (now sheet) (now cells) ⌝ }
-    ensures { λ _. ⌜ Playing (now (sheet .entry)) (now (directory .entry)) (now (st .exit)) ⌝ }
+    requires { ⌜ Playing (now sheet) (now directory) (now cells) (now st) × (length (now spare) ≡ length (now st)) × (bytesOfEvent * count ≤ length (now events)) × (count ≤ roomEvents) × (length (now words) ≡ roomEvents * wordsOfEvent) × (length (now answers) ≡ roomEvents * wordsOfAnswer) × (done + count < 18446744073709551616) × (length (now out) ≡ roomText) ⌝ }
+    ensures { λ _. ⌜ Playing (now (sheet .entry)) (now (directory .entry)) (now (cells .entry)) (now (st .exit)) ⌝ }
 {
     let n = EVENT_WORDS * count;
     let m = ANSWER_WORDS * count;
@@ -93,7 +92,7 @@ pub fn play_events(
     spare: &mut [i32],
     most: u64,
 ) -> bool
-    requires { ⌜ Playing (now sheet) (now directory) (now st) × (length (now spare) ≡ length (now st)) × CellTable (now sheet) (now cells) ⌝ }
+    requires { ⌜ Playing (now sheet) (now directory) (now cells) (now st) × (length (now spare) ≡ length (now st)) ⌝ }
 {
     let mut events = [0u8; BYTES];
     let mut words = [0i32; WORDS];

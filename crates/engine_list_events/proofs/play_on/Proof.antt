@@ -5,7 +5,7 @@ use lib.ListN.{length, take, drop}
 use borrow.Author.Needs.{needs}
 use Rattle.machine.specs.Play.{wordsOfEvent, limitOf}
 use Rattle.machine.specs.Lists.{eventsOf}
-use Rattle.machine_events.specs.Playing.{Playing}
+use Rattle.engine_cells.specs.Playing.{Playing}
 use Rattle.machine_claim.proofs.Kept.{goes-on}
 use Rattle.engine_answers.specs.Words.{wordsOfAnswer, eventAt, eventsFrom, inWords}
 use Rattle.engine_list_events.proofs.Laws.{steps-small, behind, rest, no-event-yet, event-more, all-events}
@@ -13,13 +13,13 @@ use Rattle.engine_list_events.proofs.play_on.Statement.{statement}
 use Rattle.engine_list_events.proofs.play_on.Tie as tie
 
 abbrev Inv-loop : tie.InvT-loop
-Inv-loop sheet directory cells events st₀ spare₀ answers₀ count i₀ st spare answers i = Playing sheet directory st × (length st ≡ length st₀) × (length spare ≡ length spare₀) × (length answers ≡ length answers₀) × (i ≤ count) × (count ≡ length events / wordsOfEvent) × (inWords (eventsOf sheet (limitOf sheet) st₀ (eventsFrom events count 0)) ≡ behind (take (wordsOfAnswer * i) answers) (rest sheet directory events count i st))
+Inv-loop sheet directory cells events st₀ spare₀ answers₀ count i₀ st spare answers i = Playing sheet directory cells st × (length st ≡ length st₀) × (length spare ≡ length spare₀) × (length answers ≡ length answers₀) × (i ≤ count) × (count ≡ length events / wordsOfEvent) × (inWords (eventsOf sheet (limitOf sheet) st₀ (eventsFrom events count 0)) ≡ behind (take (wordsOfAnswer * i) answers) (rest sheet events count i st))
 
 abbrev μ-loop : tie.MeasureT-loop
 μ-loop sheet directory cells events st₀ spare₀ answers₀ count i₀ st spare answers i = count - i
 
 loop-holds : tie.Need-loop-holds Inv-loop μ-loop
-loop-holds c = (c .before .pre .0, refl, refl, refl, omega arith, refl, no-event-yet (c .before .args .sheet .now) (c .before .args .directory .now) (c .before .args .events .now) _ (c .before .args .st .now) (c .before .args .answers .now))
+loop-holds c = (c .before .pre .0, refl, refl, refl, omega arith, refl, no-event-yet (c .before .args .sheet .now) (c .before .args .events .now) _ (c .before .args .st .now) (c .before .args .answers .now))
 
 mul-from : tie.Need-mul-from Inv-loop μ-loop
 mul-from c = omega arith
@@ -40,7 +40,7 @@ part-next-end : tie.Need-part-next-end Inv-loop μ-loop
 part-next-end c = omega arith
 
 next-requires : tie.Need-next-requires Inv-loop μ-loop
-next-requires c κs = let v = c .before .before .before .before .loop .inv in (v .0, v .2 ∙ c .before .before .before .before .before .before .pre .1 ∙ sym (v .1), c .before .before .before .before .before .before .pre .3)
+next-requires c κs = let v = c .before .before .before .before .loop .inv in (v .0, v .2 ∙ c .before .before .before .before .before .before .pre .1 ∙ sym (v .1))
 
 mul-put-answer : tie.Need-mul-put-answer Inv-loop μ-loop
 mul-put-answer c = omega arith
@@ -75,13 +75,13 @@ loop-again c =
     let e : take (from + wordsOfEvent - from) (drop from (s .args .events .now)) ≡ eventAt (s .args .events .now) i =
     ap (λ n. take n (drop from (s .args .events .now))) one in
     let room : length (loop .answers) ≡ wordsOfAnswer * (length (s .args .events .now) / wordsOfEvent) = v .3 ∙ s .pre .2 in (
-      goes-on (s .args .sheet .now) (s .args .directory .now) st _ (next .result) (next .last .1 .1 .1 .0) (v .0) (next .ensures),
+      record { directory = v .0 .directory; passed = v .0 .passed; cells = v .0 .cells; state = goes-on (s .args .sheet .now) (v .0 .passed) st _ (next .result) (next .last .1 .1 .1 .0) (v .0 .state) (next .ensures) },
       next .kept .1 .1 .1 .0 ∙ v .1,
       next .kept .1 .1 .1 .1 .0 ∙ v .2,
       put .kept .0 ∙ v .3,
       omega arith,
       v .5,
-      event-more (s .args .sheet .now) (s .args .directory .now) (s .args .events .now) _ i st (loop .answers) _ l room (v .0) (v .6) _ e (next .result)
+      event-more (s .args .sheet .now) (s .args .events .now) (v .0 .passed) _ i st (loop .answers) _ l room (v .0 .state) (v .6) _ e (next .result)
           (next .last .1 .1 .1 .0) (next .ensures) (put .last .0) (put .ensures),
     )
 
@@ -95,7 +95,7 @@ same-length-3 : tie.Need-same-length-3 Inv-loop μ-loop
 same-length-3 c = search needs
 
 returns : tie.Need-returns Inv-loop μ-loop
-returns c = let v = c .before .loop .inv in (v .0, all-events (c .before .before .before .args .sheet .now) (c .before .before .before .args .directory .now) (c .before .before .before .args .events .now) _ (c .before .loop .i) (c .before .loop .st) (c .before .loop .answers) _ (v .4) (c .loop-test .left) (v .3 ∙ c .before .before .before .pre .2) (v .6))
+returns c = let v = c .before .loop .inv in (v .0, all-events (c .before .before .before .args .sheet .now) (c .before .before .before .args .events .now) _ (c .before .loop .i) (c .before .loop .st) (c .before .loop .answers) _ (v .4) (c .loop-test .left) (v .3 ∙ c .before .before .before .pre .2) (v .6))
 
 pub play-on-spec : {M : Type 1} → statement M
 play-on-spec =

@@ -30,7 +30,7 @@ limit-requires c κs = search needs
 
 loop-holds : tie.Need-loop-holds Inv-loop μ-loop
 loop-holds c =
-    let ok = c .before .before .before .before .before .before .before .pre .0 .passed in
+    let ok = c .before .before .before .before .before .before .before .pre .passed in
     let p = c .before .before .externals .ensures .0 in
     let q = c .before .elements .ensures .0 in
     let defaults = c .before .before .before .before .default-state .ensures in
@@ -43,7 +43,7 @@ add-initial c =
     let q = c .before .before .before .before .elements .ensures .0 in
     let m = c .before .before .before .limit .ensures .0 in
     let l = c .before .loop-test .taken in
-    let f = few _ (c .before .before .before .before .before .before .before .before .before .before .pre .0 .passed) _ _ _ _ p q m l in
+    let f = few _ (c .before .before .before .before .before .before .before .before .before .before .pre .passed) _ _ _ _ p q m l in
     record { fits = omega arith }
 
 initial-requires : tie.Need-initial-requires Inv-loop μ-loop
@@ -54,14 +54,14 @@ initial-requires c κs =
     let m = c .before .before .before .limit .ensures .0 in
     let l = c .before .loop-test .taken in
     let o = c .before .before .loop .inv .1 in
-    (record { directory = pre .0 .directory; passed = pre .0 .passed; cells = pre .0 .cells; state = o }, here-bound _ (pre .0 .passed) _ _ _ _ p q m l, m)
+    (record { directory = pre .directory; passed = pre .passed; cells = pre .cells; state = o }, here-bound _ (pre .passed) _ _ _ _ p q m l, m)
 
 enum-known-r : tie.Need-enum-known-r Inv-loop μ-loop
 enum-known-r c = search needs
 
 sub-steps : tie.Need-sub-steps Inv-loop μ-loop
 sub-steps c =
-    let ok = c .before .before .before .before .before .before .before .before .before .before .before .before .before .before .before .pre .0 .passed in
+    let ok = c .before .before .before .before .before .before .before .before .before .before .before .before .before .before .before .pre .passed in
     let p = c .before .before .before .before .before .before .before .before .before .before .externals .ensures .0 in
     let q = c .before .before .before .before .before .before .before .before .before .elements .ensures .0 in
     let m = c .before .before .before .before .before .before .before .before .limit .ensures .0 in
@@ -73,7 +73,7 @@ sub-steps c =
 
 add-steps : tie.Need-add-steps Inv-loop μ-loop
 add-steps c =
-    let ok = c .before .before .before .before .before .before .before .before .before .before .before .before .before .before .before .pre .0 .passed in
+    let ok = c .before .before .before .before .before .before .before .before .before .before .before .before .before .before .before .pre .passed in
     let p = c .before .before .before .before .before .before .before .before .before .before .externals .ensures .0 in
     let q = c .before .before .before .before .before .before .before .before .before .elements .ensures .0 in
     let m = c .before .before .before .before .before .before .before .before .limit .ensures .0 in
@@ -91,7 +91,7 @@ enum-known-r-2 c = search needs
 
 sub-refused : tie.Need-sub-refused Inv-loop μ-loop
 sub-refused c =
-    let ok = c .before .before .before .before .before .before .before .before .before .before .before .before .before .before .before .before .pre .0 .passed in
+    let ok = c .before .before .before .before .before .before .before .before .before .before .before .before .before .before .before .before .pre .passed in
     let p = c .before .before .before .before .before .before .before .before .before .before .before .externals .ensures .0 in
     let q = c .before .before .before .before .before .before .before .before .before .before .elements .ensures .0 in
     let m = c .before .before .before .before .before .before .before .before .before .limit .ensures .0 in
@@ -103,7 +103,7 @@ sub-refused c =
 
 add-refused : tie.Need-add-refused Inv-loop μ-loop
 add-refused c =
-    let ok = c .before .before .before .before .before .before .before .before .before .before .before .before .before .before .before .before .pre .0 .passed in
+    let ok = c .before .before .before .before .before .before .before .before .before .before .before .before .before .before .before .before .pre .passed in
     let p = c .before .before .before .before .before .before .before .before .before .before .before .externals .ensures .0 in
     let q = c .before .before .before .before .before .before .before .before .before .before .elements .ensures .0 in
     let m = c .before .before .before .before .before .before .before .before .before .limit .ensures .0 in
@@ -122,12 +122,12 @@ refused-requires c κs = search needs
 same-length : tie.Need-same-length Inv-loop μ-loop
 same-length c =
     let whole = c .before .before .before .before .before .before .before .before .before .before .loop .inv .1 .whole in
-    let long = sym (c .before .before .before .before .before .before .before .before .before .before .before .before .before .before .before .before .before .before .pre .1) in
+    let long = sym (c .before .before .before .before .before .before .before .before .before .before .before .before .before .before .before .before .before .before .pre .whole) in
     c .st3 .given ∙ c .before .before .before .before .before .before .st2 .given ∙ whole ∙ long
 
 returns : tie.Need-returns Inv-loop μ-loop
 returns c =
-    let ok = c .before .before .before .before .before .before .before .before .before .before .before .before .before .before .before .before .before .before .pre .0 .passed in
+    let ok = c .before .before .before .before .before .before .before .before .before .before .before .before .before .before .before .before .before .before .pre .passed in
     let p = c .before .before .before .before .before .before .before .before .before .before .before .before .before .externals .ensures .0 in
     let q = c .before .before .before .before .before .before .before .before .before .before .before .before .elements .ensures .0 in
     let m = c .before .before .before .before .before .before .before .before .before .before .before .limit .ensures .0 in
@@ -144,7 +144,7 @@ enum-told c = search needs
 
 never-taken-requires : tie.Need-never-taken-requires Inv-loop μ-loop
 never-taken-requires c κs =
-    let ok = c .before .before .before .before .before .before .before .before .before .before .before .before .before .before .pre .0 .passed in
+    let ok = c .before .before .before .before .before .before .before .before .before .before .before .before .before .before .pre .passed in
     let p = c .before .before .before .before .before .before .before .before .before .externals .ensures .0 in
     let q = c .before .before .before .before .before .before .before .before .elements .ensures .0 in
     let m = c .before .before .before .before .before .before .before .limit .ensures .0 in
@@ -170,7 +170,7 @@ loop-less c = search needs
 
 loop-again : tie.Need-loop-again Inv-loop μ-loop
 loop-again c =
-    let ok = c .before .before .before .before .before .before .before .before .before .before .before .before .before .before .before .pre .0 .passed in
+    let ok = c .before .before .before .before .before .before .before .before .before .before .before .before .before .before .before .pre .passed in
     let p = c .before .before .before .before .before .before .before .before .before .before .externals .ensures .0 in
     let q = c .before .before .before .before .before .before .before .before .before .elements .ensures .0 in
     let m = c .before .before .before .before .before .before .before .before .limit .ensures .0 in
@@ -189,7 +189,7 @@ answered-requires-2 : tie.Need-answered-requires-2 Inv-loop μ-loop
 answered-requires-2 c κs = search needs
 
 same-length-3 : tie.Need-same-length-3 Inv-loop μ-loop
-same-length-3 c = c .before .before .loop .inv .1 .whole ∙ sym (c .before .before .before .before .before .before .before .before .before .before .pre .1)
+same-length-3 c = c .before .before .loop .inv .1 .whole ∙ sym (c .before .before .before .before .before .before .before .before .before .before .pre .whole)
 
 returns-3 : tie.Need-returns-3 Inv-loop μ-loop
 returns-3 c =
