@@ -4,7 +4,9 @@ use mathlib.Core.Path.{_≡_, sym, ap, subst, _∙_}
 use mathlib.Core.List.{List}
 use mathlib.Core.Bool.{Bool, true, false, not}
 use lib.ListN.{length}
+use lib.Dec.{eqb}
 use lib.IntN.{ℤ}
+use borrow.Author.Tests.{eqb-false}
 use Rattle.sheet.specs.Sheet.{directoryOf}
 use Rattle.machine.specs.declared.Answer.{Answer}
 use Rattle.sheet_rules.specs.declared.Checked.the-variants.{Passed, Shape, Static}
@@ -34,16 +36,16 @@ not-of : (a b : Bool) → not a ≡ b → a ≡ not b
 not-of true b e = ap not e
 not-of false b e = ap not e
 
-module _ (s : List ℕ) (old result ev : List ℤ) (ok : checkOf s ≡ Passed) (n : ℕ) (l : n ≡ stateLength s) where
-  pub old-long : (a : Answer) → a ≡ answer 3 0 Nothing → (length old ≡ n → ⊥) → EventGives s (limitOf s) old result ev a result
-  old-long a e h = down a 3 0 result _ e (event-old-length s old result ev ok (λ q. h (q ∙ sym l)))
+module _ (s : List ℕ) (old result ev : List ℤ) (ok : checkOf s ≡ Passed) where
+  pub old-long : eqb (length old) (stateLength s) ≡ false → (a : Answer) → a ≡ answer 3 0 Nothing → EventGives s (limitOf s) old result ev a result
+  old-long h a e = down a 3 0 result _ e (event-old-length s old result ev ok (eqb-false _ _ h))
 
-  pub result-long : (a : Answer) → a ≡ answer 3 0 Nothing → (length result ≡ n → ⊥) → EventGives s (limitOf s) old result ev a result
-  result-long a e h = down a 3 0 result _ e (event-result-length s old result ev ok (λ q. h (q ∙ sym l)))
+  pub result-long : eqb (length result) (stateLength s) ≡ false → (a : Answer) → a ≡ answer 3 0 Nothing → EventGives s (limitOf s) old result ev a result
+  result-long h a e = down a 3 0 result _ e (event-result-length s old result ev ok (eqb-false _ _ h))
 
-  module _ (h : length old ≡ n) (k : length result ≡ n) where
+  module _ (h : length old ≡ stateLength s) (k : length result ≡ stateLength s) where
     pub other-content : (a : Answer) → a ≡ answer 3 0 Nothing → contentFits s old ≡ false → EventGives s (limitOf s) old result ev a result
-    other-content a e c = down a 3 0 result _ e (event-content s old result ev ok (h ∙ l) (k ∙ l) c)
+    other-content a e c = down a 3 0 result _ e (event-content s old result ev ok h k c)
 
     -- the event taken apart
     module _ (c : contentFits s old ≡ true) (e : Event) (q : e ≡ eventOf s ev) where
@@ -51,17 +53,17 @@ module _ (s : List ℕ) (old result ev : List ℤ) (ok : checkOf s ≡ Passed) (
       formed b m = not-of (isEvent s ev) b (sym (malformed-is s ev) ∙ ap isMalformed (sym q) ∙ m)
 
       pub malformed-event : isMalformed e ≡ true → (a : Answer) → a ≡ answer 4 0 Nothing → EventGives s (limitOf s) old result ev a result
-      malformed-event m a g = down a 4 0 result _ g (event-malformed s old result ev ok (h ∙ l) (k ∙ l) c (formed true m))
+      malformed-event m a g = down a 4 0 result _ g (event-malformed s old result ev ok h k c (formed true m))
 
       pub happened-event : isMalformed e ≡ false → (st : List ℤ) → st ≡ old → (a : Answer) (new : List ℤ) → ended a new ≡ happensBy s (limitOf s) st e → EventGives s (limitOf s) old result ev a new
       happened-event m st o a new g =
           g
           ∙ ap (λ o. happensBy s (limitOf s) o e) o
           ∙ ap (happensBy s (limitOf s) old) q
-          ∙ sym (event-happens s old result ev ok (h ∙ l) (k ∙ l) c (formed false m) ∙ happens-by s ev (limitOf s) old (formed false m))
+          ∙ sym (event-happens s old result ev ok h k c (formed false m) ∙ happens-by s ev (limitOf s) old (formed false m))
 
     pub copy-plays : (d t : List ℕ) → d ≡ directoryOf s → CellTable s t → contentFits s old ≡ true → (st : List ℤ) → st ≡ old → Playing s d t st
-    copy-plays d t q w c st o = record { directory = q; passed = ok; cells = w; state = subst (OfSheet s) (sym o) (content-of s old (h ∙ l) c) }
+    copy-plays d t q w c st o = record { directory = q; passed = ok; cells = w; state = subst (OfSheet s) (sym o) (content-of s old h c) }
 
 -- ---- any sheet
 
