@@ -1,61 +1,10 @@
-// The shape of bindings and their literals.
+// The shape of bindings.
 use sheet::Found;
 use sheet::Record;
 ghost use mathlib.Core.Path.{_≡_};
 ghost use Prim.Native.Nat.{_≤_, _<_};
 ghost use Rattle.sheet.specs.Sheet.{directoryOf};
-ghost use Rattle.sheet_rules.specs.Shape.{literalShape, constantShape, constantsShape, secondShape, recordsShape, bindingShape, bindingsShape};
-
-pub fn literal_fits(sheet: &[u8], directory: &[usize; 16], r: Record) -> bool
-    requires { ⌜ now directory ≡ directoryOf (now sheet) ⌝ }
-    ensures { λ b. ⌜ b ≡ literalShape (now (sheet .entry)) r ⌝ }
-{
-    let op = r.f0;
-    match op {
-        1 => {
-            if 1 < r.f1 {
-                return false;
-            }
-            sheet_fields::zero_from(r, 2)
-        }
-        2 => sheet_fields::zero_from(r, 3),
-        3 => {
-            if sheet_fields::field_at(sheet, directory, 1, r.f1 as usize, 0) <= r.f2 as usize {
-                return false;
-            }
-            sheet_fields::zero_from(r, 3)
-        }
-        4 => {
-            if sheet_fields::field_at(sheet, directory, 0, 0, 0) <= r.f1 as usize {
-                return false;
-            }
-            sheet_fields::zero_from(r, 2)
-        }
-        5 => {
-            if sheet_fields::field_at(sheet, directory, 0, 0, 2) <= r.f1 as usize {
-                return false;
-            }
-            sheet_fields::zero_from(r, 2)
-        }
-        _ => sheet_fields::zero_from(r, 1),
-    }
-}
-
-fn constant_fits(sheet: &[u8], directory: &[usize; 16], n: usize) -> bool
-    requires { ⌜ now directory ≡ directoryOf (now sheet) ⌝ }
-    ensures { λ b. ⌜ b ≡ constantShape (now (sheet .entry)) n ⌝ }
-{
-    let Found::Present(r) = sheet_reader::read(sheet, directory, 6, n) else {
-        return false;
-    };
-    if r.f0 < 1 {
-        return false;
-    }
-    if 6 < r.f0 {
-        return false;
-    }
-    literal_fits(sheet, directory, r)
-}
+ghost use Rattle.sheet_rules.specs.Shape.{constantsShape, secondShape, recordsShape, bindingShape, bindingsShape};
 
 // The constants of the element bound to chart c whose first record is k.
 fn constants_fit(sheet: &[u8], directory: &[usize; 16], k: usize, c: Record) -> bool
@@ -74,7 +23,7 @@ fn constants_fit(sheet: &[u8], directory: &[usize; 16], k: usize, c: Record) -> 
             return false;
         };
         let n = sheet_fields::field(b, sheet_bindings::constant_field(j));
-        if !constant_fits(sheet, directory, n) {
+        if !checker_literals::constant_fits(sheet, directory, n) {
             return false;
         }
         j += 1;

@@ -55,10 +55,10 @@ fn bodies_static(
         if !body_static(sheet, directory, table, c, b) {
             return false;
         }
-        if !checker_reactions::no_twin(sheet, directory, last, previous, c, j, b) {
+        if !checker_twins::no_twin(sheet, directory, last, previous, c, j, b) {
             return false;
         }
-        checker_reactions::link(last, previous, i, b);
+        checker_twins::link(last, previous, i, b);
         j += 1;
     }
     true

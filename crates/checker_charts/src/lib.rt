@@ -1,9 +1,9 @@
-// The shape of charts and their bodies.
+// The shape of charts.
 use sheet::Found;
 use sheet::Record;
 ghost use mathlib.Core.Path.{_≡_};
 ghost use Rattle.sheet.specs.Sheet.{directoryOf};
-ghost use Rattle.sheet_rules.specs.Shape.{bodiesUpTo, chartShape, bodiesCovered, reactionShape, bodyShape};
+ghost use Rattle.sheet_rules.specs.Shape.{bodiesUpTo, chartShape, bodiesCovered};
 
 // Where the bodies of the charts before chart k end.
 fn bodies_up_to(sheet: &[u8], directory: &[usize; 16], k: usize) -> usize
@@ -47,58 +47,4 @@ pub fn bodies_covered(sheet: &[u8], directory: &[usize; 16]) -> bool
 {
     bodies_up_to(sheet, directory, sheet_reader::count_in(directory, 4))
         == sheet_reader::count_in(directory, 5)
-}
-
-// The port and the name of a reaction are there, and 0 in another body.
-fn reaction_fits(sheet: &[u8], directory: &[usize; 16], r: Record) -> bool
-    requires { ⌜ now directory ≡ directoryOf (now sheet) ⌝ }
-    ensures { λ b. ⌜ b ≡ reactionShape (now (sheet .entry)) r ⌝ }
-{
-    let role = r.f0;
-    match role {
-        2 => {
-            let ports = sheet_fields::field_at(sheet, directory, 0, 0, 2);
-            if ports <= r.f1 as usize {
-                return false;
-            }
-            (r.f2 as usize) < sheet_reader::count_in(directory, 3)
-        }
-        3 => {
-            if r.f1 != 0 {
-                return false;
-            }
-            (r.f2 as usize) < sheet_reader::count_in(directory, 3)
-        }
-        _ => {
-            if r.f1 != 0 {
-                return false;
-            }
-            r.f2 == 0
-        }
-    }
-}
-
-pub fn body_fits(sheet: &[u8], directory: &[usize; 16], r: Record) -> bool
-    requires { ⌜ now directory ≡ directoryOf (now sheet) ⌝ }
-    ensures { λ b. ⌜ b ≡ bodyShape (now (sheet .entry)) r ⌝ }
-{
-    if 4 < r.f0 {
-        return false;
-    }
-    if !reaction_fits(sheet, directory, r) {
-        return false;
-    }
-    if !sheet_fields::in_section(sheet, directory, 2, r.f3, r.f4) {
-        return false;
-    }
-    if 4 < r.f4 {
-        return false;
-    }
-    if !sheet_fields::in_section(sheet, directory, 2, r.f5, r.f6) {
-        return false;
-    }
-    if 16 < r.f4 as usize + r.f6 as usize {
-        return false;
-    }
-    (r.f7 as usize) < sheet_reader::count_in(directory, 6)
 }

@@ -16,7 +16,7 @@ fn record_fits(sheet: &[u8], directory: &[usize; 16], k: usize, i: usize, r: Rec
         2 => checker_declarations::declaration_fits(sheet, directory, r),
         3 => checker_declarations::name_fits(sheet, directory, r),
         4 => checker_charts::chart_fits(sheet, directory, i, r),
-        5 => checker_charts::body_fits(sheet, directory, r),
+        5 => checker_bodies::body_fits(sheet, directory, r),
         _ => true,
     }
 }

@@ -14,7 +14,7 @@ fn fields_fit(sheet: &[u8], directory: &[usize; 16], c: Record, b: Record, r: Re
 {
     let op = r.f0;
     match op {
-        1..=6 => checker_bindings::literal_fits(sheet, directory, r),
+        1..=6 => checker_literals::literal_fits(sheet, directory, r),
         7 => checker_nodes::variable_fits(c, b, r, 3),
         8 => sheet_fields::zero_from(r, 2),
         9..=16 => sheet_fields::zero_from(r, 3),

@@ -16,8 +16,9 @@ use Rattle.machine.specs.Valid.{contentFits, OfSheet}
 use Rattle.machine.specs.Play.{ended, answer, isEvent, limitOf}
 use Rattle.sheet_rules.specs.Check.{checkOf}
 use Rattle.machine.specs.Lists.{EventGives}
+use Rattle.machine.proofs.Calls.{event-played}
 use Rattle.machine_states.proofs.Parts.{of-content, content-of}
-use Rattle.machine_events.proofs.Laws.{event-shape, event-static, event-old-length, event-result-length, event-content, event-malformed, event-happens}
+use Rattle.machine_events.proofs.Laws.{event-shape, event-static, event-old-length, event-result-length, event-content, event-malformed}
 use Rattle.machine_events.specs.declared.Event.{Event}
 use Rattle.machine_events.specs.Event.{eventOf, isMalformed, happensBy}
 use Rattle.machine_events.proofs.Apart.{malformed-is, happens-by, event-by}
@@ -60,7 +61,7 @@ module _ (s : List ℕ) (old result ev : List ℤ) (ok : checkOf s ≡ Passed) w
           g
           ∙ ap (λ o. happensBy s (limitOf s) o e) o
           ∙ ap (happensBy s (limitOf s) old) q
-          ∙ sym (event-happens s old result ev ok h k c (formed false m) ∙ happens-by s ev (limitOf s) old (formed false m))
+          ∙ sym (event-played s (limitOf s) old result ev ok h k c (formed false m) ∙ happens-by s ev (limitOf s) old (formed false m))
 
     pub copy-plays : (d t : List ℕ) → d ≡ directoryOf s → CellTable s t → contentFits s old ≡ true → (st : List ℤ) → st ≡ old → Playing s d t st
     copy-plays d t q w c st o = record { directory = q; passed = ok; cells = w; state = subst (OfSheet s) (sym o) (content-of s old h c) }

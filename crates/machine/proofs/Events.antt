@@ -73,7 +73,7 @@ limit-given : limitOf (sheetOf (onlyHead 1)) ≡ 1
 unfolding begun onlyHead
 limit-given = refl
 
--- 2 Deliver to Log of the oldest of 128, or of 16 of its class: it is removed, whatever there was no room for before
+-- 2 Deliver to Log of the oldest of 128, and of 16 of its class: it is removed before anything is tested for room
 deliver-full : told (event (onlyHead 0) (waits (pos 128) (sent 2 0)) (words 2 2 0)) ≡ row 0 0 127
 unfolding told row event words sent onlyHead
 deliver-full = refl

@@ -1,4 +1,5 @@
 pub mod Appending
+pub mod Calls
 pub mod Samples
 pub mod Expressions
 pub mod Statements

@@ -21,7 +21,8 @@ use Rattle.machine_events.specs.declared.Event.{Event}
 use Rattle.machine_events.specs.declared.Event.the-variants.{Malformed}
 use Rattle.machine_events.specs.Event.{eventAs, eventOf, isMalformed, happensBy}
 use Rattle.machine_events.specs.Sought.{receiverBound}
-use Rattle.machine_events.proofs.Laws.{event-malformed, event-happens}
+use Rattle.machine.proofs.Calls.{event-played}
+use Rattle.machine_events.proofs.Laws.{event-malformed}
 
 module _ (s : List ℕ) (ev : List ℤ) where
   formed : isEvent s ev ≡ true → wellFormed s ev (kindOf (wordOf ev 0)) ≡ true
@@ -91,5 +92,5 @@ module _ (s : List ℕ) (ev : List ℤ) where
   event-by ok st l c = go (isEvent s ev) refl
     where
       go : (b : Bool) → isEvent s ev ≡ b → happensBy s (limitOf s) st (eventOf s ev) ≡ eventCall s (limitOf s) st st ev
-      go true q = sym (event-happens s st st ev ok l l c q ∙ happens-by (limitOf s) st q)
+      go true q = sym (event-played s (limitOf s) st st ev ok l l c q ∙ happens-by (limitOf s) st q)
       go false q = ap (happensBy s (limitOf s) st) (event-none q) ∙ sym (event-malformed s st st ev ok l l c q)

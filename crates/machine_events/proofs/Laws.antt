@@ -164,9 +164,6 @@ module _ (s : List ℕ) (old result ev : List ℤ) where
       pub event-malformed : contentFits s old ≡ true → isEvent s ev ≡ false → eventCall s (limitOf s) old result ev ≡ turnedDown 4 result
       event-malformed c e = whole ∙ rw (c, e) refl
 
-      pub event-happens : contentFits s old ≡ true → isEvent s ev ≡ true → eventCall s (limitOf s) old result ev ≡ happens s (limitOf s) old ev
-      event-happens c e = whole ∙ rw (c, e) refl
-
 -- ---- 5 Slice
 
 -- a slice goes over the bound elements

@@ -6,4 +6,3 @@ pub mod NotPassed
 pub mod Arrays
 pub mod Classes
 pub mod Limits
-pub mod Parameters

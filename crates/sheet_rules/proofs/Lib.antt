@@ -5,8 +5,5 @@ pub mod Sums
 pub mod Bindings
 pub mod Types
 pub mod Samples
-pub mod Arrays
-pub mod Uses
-pub mod Parameters
 pub mod Shape
 pub mod Records

@@ -1,12 +1,15 @@
--- The paper's starred samples about the static rules, and what samples are made of: sheets by their records, with every definition open.
-use Prim.Native.Nat.{ℕ, _+_, _*_, _/_, _%_}
+-- What samples are made of, sheets by their records, with every definition open; and samples by which the edits of the definitions are refused, on sheets that have no more than the sample needs. What check gives to whole sheets is in `sheet_samples` and, for the paper's starred samples, in `machine_samples`.
+use Prim.Native.Nat.{ℕ, zero, suc, _+_, _*_, _/_, _%_}
 use mathlib.Core.List.{List, [], _∷_, _++_}
+use mathlib.Core.Bool.{false}
 use mathlib.Core.Path.{_≡_, refl}
 use lib.ListN.{length}
 use Rattle.sheet.specs.All.{_and_, allBelow}
 use Rattle.sheet.specs.Table.{lookUp}
 use Rattle.sheet.specs.Names.{isClock, isLiteral}
+use Rattle.sheet.specs.declared.Record.{Record}
 use Rattle.sheet.specs.Sheet.{startOf, pairRight, directoryRight, countOf, recordAt, recordOf}
+use Rattle.sheet_rules.specs.declared.Typed.the-variants.{Expression, Statement, Wrong}
 use Rattle.sheet_rules.specs.Fields.{fieldOf, zeroFrom, holds, numberOr0, sumBelow, countBelow, componentsOf, externalsOf, portsOf, membersOf, elementsOf, declaredSo, typeAt, inSection}
 use Rattle.sheet_rules.specs.Forms.{formOf, literalOf, less, plus, modulo, binaryOf, nameData, calledBody, callData, operandsIn, operandsOf, operandAt}
 use Rattle.sheet_rules.specs.DataTypes.{enumeratedType, noData, dataTypeOf}
@@ -63,7 +66,7 @@ unfolding _and_ allBelow isClock isLiteral startOf pairRight directoryRight coun
     sheetOf rec3 rec6 body
 check ss = checkNumber (checkOf (sheetOf ss))
 
--- ---- static rules
+-- ---- two sheets of the starred samples
 
 -- one bound element with a variable of type 0, Bool; its initial body assigns it the literal of an operator; with a step limit
 unfoldable pub assigning : ℕ → ℕ → List (List ℕ)
@@ -78,14 +81,6 @@ assigning op limit =
     ∷ rec3 0 0 0
     ∷ []
 
-pub bool-assigned-to-bool : check (assigning 1 0) ≡ 0
-unfolding check assigning
-bool-assigned-to-bool = refl
-
-pub int-assigned-to-bool : check (assigning 2 0) ≡ 2
-unfolding check assigning
-int-assigned-to-bool = refl
-
 -- one bound element whose initial body sends internal name 0; its third body is of a role, 3 being a reaction to it
 unfoldable pub sending : ℕ → List (List ℕ)
 sending role =
@@ -99,13 +94,86 @@ sending role =
     ∷ rec3 0 0 0
     ∷ []
 
-pub internal-send-with-a-reaction : check (sending 3) ≡ 0
-unfolding check sending
-internal-send-with-a-reaction = refl
+-- ---- a record by its fields; a sheet of which some sections are there: declarations, names, charts, bodies, nodes, bindings
 
-pub internal-send-without-a-reaction : check (sending 4) ≡ 2
-unfolding check sending
-internal-send-without-a-reaction = refl
+abbrev fields : ℕ → ℕ → ℕ → ℕ → ℕ → ℕ → ℕ → ℕ → Record
+fields a b c d e f g h = record { f0 = a; f1 = b; f2 = c; f3 = d; f4 = e; f5 = f; f6 = g; f7 = h }
+
+abbrev some : List ℕ → List ℕ → List ℕ → List ℕ → List ℕ → List ℕ → List ℕ
+some declarations names charts bodies nodes bindings = sheetOf ([] ∷ [] ∷ declarations ∷ names ∷ charts ∷ bodies ∷ nodes ∷ bindings ∷ [])
+
+-- ---- static rules
+
+-- 33 assign to a chart's only variable, a Bool: "an assignment keeps its variable's type"
+bool-to-bool : assignType (some (rec3 0 0 0) [] [] [] [] []) (fields 0 0 0 1 0 0 0 0) (fields 0 0 0 0 0 0 0 0) (fields 33 1 0 0 0 0 0 0) (Expression 0) ≡ Statement
+unfolding check
+bool-to-bool = refl
+
+int-to-bool : assignType (some (rec3 0 0 0) [] [] [] [] []) (fields 0 0 0 1 0 0 0 0) (fields 0 0 0 0 0 0 0 0) (fields 33 1 0 0 0 0 0 0) (Expression 1) ≡ Wrong
+unfolding check
+int-to-bool = refl
+
+-- 44 assign to an array of Bools over Component: a Port is no index of it
+port-index : assignElementType (some (rec3 0 2 0) [] [] [] [] []) (fields 0 0 0 1 0 0 0 0) (fields 44 0 0 0 0 0 0 0) (Expression 3) (Expression 0) ≡ Wrong
+unfolding check
+port-index = refl
+
+-- an array of Timers over Component
+array-of-clocks : declarationStatic [] (fields 4 2 0 0 0 0 0 0) ≡ false
+unfolding check
+array-of-clocks = refl
+
+-- operator 1 is a Bool
+one-bool : literalType (fields 1 1 0 0 0 0 0 0) ≡ 0
+unfolding check
+one-bool = refl
+
+-- internal name 0, and a chart whose only body is a procedure: no reaction to it
+no-reaction : internalName (some [] (rec3 0 0 1) [] (body 4 0 0) [] []) (fields 0 0 0 0 0 1 0 0) 0 ≡ false
+unfolding check
+no-reaction = refl
+
+-- ---- shape
+
+-- "a whole number n from 1 to 64": an Int array over 65
+number-65 : declarationShape [] (fields 1 60065 0 0 0 0 0 0) ≡ false
+unfolding check
+number-65 = refl
+
+-- "the 512 counts cells": one array of 64 Ints
+cells-64 : cellsOf (sheetOf (rec3 3 2 2 ∷ [] ∷ rec3 1 60064 0 ∷ [] ∷ rec6 0 0 0 1 0 0 ∷ [] ∷ [] ∷ rec3 0 0 0 ∷ [])) ≡ 64
+unfolding check
+cells-64 = refl
+
+-- "up to 14 parameters": 15 Bools
+bools : ℕ → List ℕ
+bools zero = []
+bools (suc n) = rec3 0 0 0 ++ bools n
+
+fifteen : chartShape (some (bools 15) [] [] [] [] []) 0 (fields 0 15 0 0 0 0 0 0) ≡ false
+unfolding check bools
+fifteen = refl
+
+-- a second record with one constant: "without that f0 is also 1", be it the number of a chart; an unused field of it
+unmarked : secondShape (some [] [] [] [] [] (rec3 0 1 0)) 0 1 ≡ false
+unfolding check
+unmarked = refl
+
+unused-second : secondShape (some [] [] [] [] [] (rec3 65535 1 1)) 0 1 ≡ false
+unfolding check
+unused-second = refl
+
+-- ---- uses of nodes
+
+-- a body, a node, two bindings
+gone-over : goneOver (some [] [] (rec6 0 0 0 0 0 1) (body 0 0 0) (rec3 32 0 0) (rec3 0 0 0 ++ rec3 0 0 0)) ≡ 4
+unfolding check
+gone-over = refl
+
+-- node 0 is the constant of a chart's one parameter
+constant-used : constantUses (some [] [] (rec6 0 1 0 0 0 0) [] [] (rec3 0 0 0)) 0 0 ≡ 1
+unfolding check
+constant-used = refl
 
 -- ---- the head says how many elements are bound, however many bindings there are
 

@@ -1,9 +1,37 @@
--- The rest of the samples about elements bound by one record and by two. In `sheet_rules` are their sheets, and those samples by which edits of the definitions are refused.
-use mathlib.Core.List.{[], _++_}
+-- Samples about elements bound by one record and by two: what check gives to their sheets.
+use Prim.Native.Nat.{ℕ, zero, suc}
+use mathlib.Core.List.{List, [], _∷_, _++_}
 use mathlib.Core.Path.{_≡_, refl}
 use Rattle.sheet_rules.specs.Bindings.{firstBinding}
-use Rattle.sheet_rules.proofs.Samples.{sheetOf, check}
-use Rattle.sheet_rules.proofs.Parameters.{binding, sheet}
+use Rattle.sheet_rules.proofs.Samples.{sheetOf, rec3, rec6, body, check}
+
+-- n records alike
+times : ℕ → List ℕ → List ℕ
+times zero r = []
+times (suc n) r = r ++ times n r
+
+from : ℕ → ℕ → List ℕ
+from zero k = []
+from (suc n) k = k ∷ from n (suc k)
+
+-- a binding record with f0, then nodes from k on, as many as n, then so many zeros
+binding : ℕ → ℕ → ℕ → ℕ → List ℕ
+unfolding from times
+binding f0 n k rest = f0 ∷ from n k ++ times rest (0 ∷ [])
+
+-- so many elements; a chart with n Bool parameters; its bodies skip, nodes 0 and 1, and those from 2 on are k literals
+sheet : ℕ → ℕ → ℕ → List ℕ → List (List ℕ)
+unfolding check times
+sheet elements n k bindings =
+    rec3 (suc (suc elements)) 2 2
+    ∷ []
+    ∷ times n (rec3 0 0 0)
+    ∷ []
+    ∷ rec6 0 n 0 0 0 2
+    ∷ (body 0 0 0 ++ body 1 0 1)
+    ∷ (times 2 (rec3 32 0 0) ++ times k (rec3 1 0 0))
+    ∷ bindings
+    ∷ []
 
 -- "the first as today"; "the second with f0 = 65,535 and the eighth parameter onward"
 seven : check (sheet 1 7 7 (binding 0 7 2 0)) ≡ 0
@@ -22,6 +50,10 @@ fourteen = refl
 fourteen-unbound : check (sheet 0 14 0 []) ≡ 0
 unfolding check sheet
 fourteen-unbound = refl
+
+fifteen-unbound : check (sheet 0 15 0 []) ≡ 1
+unfolding check sheet
+fifteen-unbound = refl
 
 -- two elements: the second one's records stand behind both of the first
 two-elements : check (sheet 2 8 16 (binding 0 7 2 0 ++ binding 65535 1 9 6 ++ binding 0 7 10 0 ++ binding 65535 1 17 6)) ≡ 0
@@ -44,3 +76,13 @@ none-last = refl
 needless : check (sheet 1 7 7 (binding 0 7 2 0 ++ binding 65535 0 0 7)) ≡ 1
 unfolding check sheet binding
 needless = refl
+
+-- "a second record without that f0 is also 1", be it the number of a chart
+unmarked : check (sheet 1 8 8 (binding 0 7 2 0 ++ binding 0 1 9 6)) ≡ 1
+unfolding check sheet binding
+unmarked = refl
+
+-- an unused field of it
+unused-second : check (sheet 1 8 8 (binding 0 7 2 0 ++ binding 65535 1 9 5 ++ (1 ∷ []))) ≡ 1
+unfolding check sheet binding
+unused-second = refl

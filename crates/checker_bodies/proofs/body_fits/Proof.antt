@@ -5,8 +5,8 @@ use lib.Dec.{ltb}
 use Rattle.sheet.proofs.Sheet.{count-opened}
 use Rattle.sheet.proofs.All.{first-fails, rest-fails, first-holds}
 use Rattle.sheet_rules.specs.Shape.{bodyShape}
-use Rattle.checker_charts.proofs.body_fits.Statement.{statement}
-use Rattle.checker_charts.proofs.body_fits.Tie as tie
+use Rattle.checker_bodies.proofs.body_fits.Statement.{statement}
+use Rattle.checker_bodies.proofs.body_fits.Tie as tie
 
 returns : tie.Need-returns
 unfolding bodyShape

@@ -5,8 +5,8 @@ use Rattle.sheet.proofs.All.{first-fails, rest-fails, first-holds}
 use Rattle.sheet.proofs.All.{and-true}
 use Rattle.sheet_rules.specs.Static.{sameReaction}
 use Rattle.sheet_rules.specs.Shape.{isReaction}
-use Rattle.checker_reactions.proofs.same_reaction.Statement.{statement}
-use Rattle.checker_reactions.proofs.same_reaction.Tie as tie
+use Rattle.checker_twins.proofs.same_reaction.Statement.{statement}
+use Rattle.checker_twins.proofs.same_reaction.Tie as tie
 
 returns : tie.Need-returns
 unfolding sameReaction isReaction

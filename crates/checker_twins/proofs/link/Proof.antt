@@ -2,9 +2,9 @@ use native.Mathlib.Omega.{arith}
 use mathlib.Core.Path.{sym, _∙_}
 use borrow.Author.Tests.{not-true, not-false}
 use borrow.Author.Needs.{needs}
 use Rattle.checker_reactions.proofs.Entries.{not-linked, linked}
-use Rattle.checker_reactions.proofs.link.Statement.{statement}
-use Rattle.checker_reactions.proofs.link.Tie as tie
+use Rattle.checker_twins.proofs.link.Statement.{statement}
+use Rattle.checker_twins.proofs.link.Tie as tie
 
 is-reaction-requires : tie.Need-is-reaction-requires
 is-reaction-requires c κs = search needs

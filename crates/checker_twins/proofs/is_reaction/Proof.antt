@@ -2,8 +2,8 @@ use mathlib.Core.Path.{sym}
 use borrow.Author.Tests.{le-leb, lt-leb}
 use Rattle.sheet.proofs.All.{true-and, false-and}
 use Rattle.sheet_rules.specs.Shape.{isReaction}
-use Rattle.checker_reactions.proofs.is_reaction.Statement.{statement}
-use Rattle.checker_reactions.proofs.is_reaction.Tie as tie
+use Rattle.checker_twins.proofs.is_reaction.Statement.{statement}
+use Rattle.checker_twins.proofs.is_reaction.Tie as tie
 
 returns : tie.Need-returns
 unfolding isReaction

@@ -14,8 +14,8 @@ use Rattle.sheet.specs.All.{_and_}
 use Rattle.sheet.specs.Sheet.{countOf}
 use Rattle.sheet_rules.specs.Fields.{fieldOf, fieldAt, portsOf}
 use Rattle.sheet_rules.specs.Shape.{isReaction, reactionShape}
-use Rattle.checker_charts.proofs.reaction_fits.Statement.{statement}
-use Rattle.checker_charts.proofs.reaction_fits.Tie as tie
+use Rattle.checker_bodies.proofs.reaction_fits.Statement.{statement}
+use Rattle.checker_bodies.proofs.reaction_fits.Tie as tie
 
 not-reaction : (n : ℕ) → (n ≡ 2 → ⊥) → (n ≡ 3 → ⊥) → isReaction n ≡ false
 unfolding isReaction

@@ -5,9 +5,9 @@ use borrow.Author.Tests.{not-true, not-false}
 use mathlib.Core.Bool.{not}
 use borrow.Author.Needs.{needs}
 use Rattle.sheet_rules.proofs.Fields.{holds-present, holds-absent}
 use Rattle.checker_reactions.proofs.Entries.{no-twins, a-twin, twin-less, Walked, walk-start, walk-more}
-use Rattle.checker_reactions.proofs.no_twin.Statement.{statement}
-use Rattle.checker_reactions.proofs.no_twin.Tie as tie
+use Rattle.checker_twins.proofs.no_twin.Statement.{statement}
+use Rattle.checker_twins.proofs.no_twin.Tie as tie
 
 abbrev Inv-loop : tie.InvT-loop
 Inv-loop sheet directory last previous j b first e₀ e = Walked sheet first (first + j) b e

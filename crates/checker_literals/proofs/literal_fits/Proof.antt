@@ -12,8 +12,8 @@ use Rattle.sheet_rules.specs.Fields.{fieldOf, fieldAt, zeroFrom, componentsOf, 
 use Rattle.sheet_rules.specs.Forms.{literalOf}
 use Rattle.sheet_rules.specs.Shape.{literalFields, literalShape}
 use Rattle.sheet_rules.proofs.Forms.{literal-self}
-use Rattle.checker_bindings.proofs.literal_fits.Statement.{statement}
-use Rattle.checker_bindings.proofs.literal_fits.Tie as tie
+use Rattle.checker_literals.proofs.literal_fits.Statement.{statement}
+use Rattle.checker_literals.proofs.literal_fits.Tie as tie
 
 module _ (s : List ℕ) (r : Record) where
   bool-literal : r .f0 ≡ 1 → literalShape s r ≡ leb (r .f1) 1 and zeroFrom 2 r

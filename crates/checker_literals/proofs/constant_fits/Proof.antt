@@ -6,8 +6,8 @@ use Rattle.sheet.specs.Names.{isLiteral}
 use Rattle.sheet.proofs.All.{and-true}
 use Rattle.sheet_rules.proofs.Fields.{holds-present, holds-absent}
 use Rattle.sheet_rules.specs.Shape.{constantShape}
-use Rattle.checker_bindings.proofs.constant_fits.Statement.{statement}
-use Rattle.checker_bindings.proofs.constant_fits.Tie as tie
+use Rattle.checker_literals.proofs.constant_fits.Statement.{statement}
+use Rattle.checker_literals.proofs.constant_fits.Tie as tie
 
 read-requires : tie.Need-read-requires
 read-requires c κs = search needs

@@ -1,8 +1,8 @@
 use native.Mathlib.Omega.{arith}
 use mathlib.Core.Path.{sym}
 use Rattle.checker_reactions.proofs.Entries.{up-past, up-in}
-use Rattle.checker_reactions.proofs.earlier.Statement.{statement}
-use Rattle.checker_reactions.proofs.earlier.Tie as tie
+use Rattle.checker_twins.proofs.earlier.Statement.{statement}
+use Rattle.checker_twins.proofs.earlier.Tie as tie
 
 returns : tie.Need-returns
 returns c = (sym (up-past _ _ (c .if1 .taken)), omega arith)
