@@ -10,10 +10,9 @@ use lib.IntN.{ℤ}
 use Rattle.sheet.specs.declared.Record.{Record}
 use Rattle.sheet.specs.declared.Found.the-variants.{Present, Absent}
 use Rattle.sheet.specs.All.{allBelow}
-use Rattle.sheet.specs.Names.{declarations, declaredType, chartVariables}
-use Rattle.sheet.specs.Sheet.{recordOf}
+use Rattle.sheet.specs.Names.{chartVariables}
 use Rattle.sheet_rules.specs.declared.Checked.the-variants.{Passed}
-use Rattle.sheet_rules.specs.Fields.{declaredSo, externalsOf, elementsOf}
+use Rattle.sheet_rules.specs.Fields.{typeAt, externalsOf, elementsOf}
 use Rattle.sheet_rules.specs.Indices.{cellsTaken, cellsBefore}
 use Rattle.sheet_rules.specs.Check.{checkOf}
 use Rattle.sheet_rules.proofs.Fields.{holds-present, holds-absent}
@@ -22,7 +21,8 @@ use Rattle.machine.specs.State.{cellAt, cellOf, placeAt, stateLength}
 use Rattle.machine.specs.Valid.{cellFits, variableFits, elementFits, cellsFit}
 use Rattle.machine_passed.proofs.Records.{cells-limit}
 use Rattle.machine_passed.proofs.Charts.{number-bound}
-use Rattle.machine_states.proofs.Elements.{cells-next, variable-cells, element-from, element-number, element-cells}
+use Rattle.machine_passed.proofs.Declared.{declared-so, element-declared}
+use Rattle.machine_states.proofs.Elements.{cells-next, variable-cells, element-number, element-cells}
 use Rattle.engine_cells.specs.Cells.{CellTable}
 use Rattle.engine_cells.specs.Lent.{CellsIn}
 use Rattle.engine_cells.proofs.Laws.{bound-below, chart-variables}
@@ -34,13 +34,12 @@ module _ (s : List ℕ) (st : List ℤ) (e : ℕ) (c : Record) (p : chartOf s e 
   unfolding elementFits
   element-is = sym (holds-present (chartOf s e) c _ p)
 
-  pub variable-absent : (j : ℕ) → recordOf s declarations (c .f2 + j) ≡ Absent → variableFits s st e c j ≡ false
-  unfolding variableFits declaredSo
-  variable-absent j r = holds-absent _ _ r
-
-  pub variable-here : (j : ℕ) (d : Record) → recordOf s declarations (c .f2 + j) ≡ Present d → (cell n : ℕ) → cell ≡ firstCell s e + cellsBefore s c j → n ≡ cellsTaken s (chartVariables c .first + j) → (b : Bool) → b ≡ allBelow n (λ k. cellFits s e (declaredType d) st (cellAt (cell + k))) → b ≡ variableFits s st e c j
-  unfolding variableFits declaredSo cellOf
-  variable-here j d r cell n q u b h = h ∙ rw (q, u) (sym (holds-present _ d _ r))
+  pub variable-here : (ok : checkOf s ≡ Passed) (j t cell n : ℕ) → j < c .f3 → t ≡ typeAt s (chartVariables c .first + j) → cell ≡ firstCell s e + cellsBefore s c j → n ≡ cellsTaken s (chartVariables c .first + j) → (b : Bool) → b ≡ allBelow n (λ k. cellFits s e t st (cellAt (cell + k))) → b ≡ variableFits s st e c j
+  unfolding variableFits cellOf
+  variable-here ok j t cell n l a q u b h =
+      let d : ℕ = chartVariables c .first + j in
+      let declared = declared-so s d (λ t. allBelow (cellsTaken s d) (λ k. cellFits s e t st (cellOf s e c j k))) (element-declared s ok e c p j l) in
+      h ∙ rw (a, q, u) (sym declared)
 
 -- its row of the table
 module _ (s t : List ℕ) (ok : checkOf s ≡ Passed) (table : CellTable s t) (e : ℕ) (c : Record) (p : chartOf s e ≡ Present c) (row : ℕ) (at : row ≡ 34 * (e - externalsOf s)) where

@@ -53,12 +53,10 @@ fn element_fits(
     let count = c.f3 as usize;
     let mut j: usize = 0;
     while j < count {
-        let Found::Present(d) = sheet_reader::read(sheet, directory, 2, c.f2 as usize + j) else {
-            return false;
-        };
+        let t = sheet_types::type_at(sheet, directory, c.f2 as usize + j);
         let cell = cells[row + j];
         let n = cells[row + (j + 1)] - cell;
-        if !variable_fits(sheet, directory, c, d.f0 as usize, cell, n, st) {
+        if !variable_fits(sheet, directory, c, t, cell, n, st) {
             return false;
         }
         j += 1;
