@@ -9,7 +9,7 @@ use Rattle.sheet_rules.specs.Fields.{externalsOf}
 use Rattle.sheet_types.proofs.Laws.{no, so}
 use Rattle.machine.specs.Valid.{variableFits}
 use Rattle.machine_states.proofs.Elements.{element-from}
-use Rattle.engine_valid_elements.proofs.Laws.{element-is, variable-here, row-inside, cell-is, cell-rises, cells-are-taken, cells-in}
+use Rattle.engine_valid_elements.proofs.Laws.{element-is, row-inside, cell-rises, cells-in, variable-judged}
 use Rattle.engine_valid_elements.proofs.element_fits.Statement.{statement}
 use Rattle.engine_valid_elements.proofs.element_fits.Tie as tie
 
@@ -29,7 +29,7 @@ mul-row : tie.Need-mul-row Inv-loop μ-loop
 mul-row c =
     let start = c .before .before in
     let row = ap (λ (n : ℕ). 34 * (start .args .e - n)) (c .externals .ensures .0) in
-    let l = row-inside _ _ (start .pre .0 .passed) (start .pre .0 .cells) _ _ (start .pre .1) _ row 0 (omega arith) in
+    let l = row-inside _ _ _ _ (start .pre .0) _ _ (start .pre .1) _ row 0 (omega arith) in
     omega arith
 
 cast-count : tie.Need-cast-count Inv-loop μ-loop
@@ -40,7 +40,7 @@ unfolding allBelow
 loop-holds c =
     let start = c .before .before .before in
     let row = ap (λ (n : ℕ). 34 * (start .args .e - n)) (c .before .externals .ensures .0) in
-    (omega arith, row-inside _ _ (start .pre .0 .passed) (start .pre .0 .cells) _ _ (start .pre .1) _ row _ (omega arith), row, refl)
+    (omega arith, row-inside _ _ _ _ (start .pre .0) _ _ (start .pre .1) _ row _ (omega arith), row, refl)
 
 cast-type-at : tie.Need-cast-type-at Inv-loop μ-loop
 cast-type-at c = search needs
@@ -76,26 +76,21 @@ sub-n : tie.Need-sub-n Inv-loop μ-loop
 sub-n c =
     let start = c .before .before .before .before .before .before .before .before .before in
     let turn = c .before .before .before .before .before .loop in
-    cell-rises _ _ (start .pre .0 .passed) (start .pre .0 .cells) _ _ (start .pre .1) _ (turn .inv .2) (turn .j) (c .before .before .before .before .loop-test .taken)
+    cell-rises _ _ _ _ (start .pre .0) _ _ (start .pre .1) _ (turn .inv .2) (turn .j) (c .before .before .before .before .loop-test .taken)
 
 variable-fits-requires : tie.Need-variable-fits-requires Inv-loop μ-loop
 variable-fits-requires c κs =
     let start = c .before .before .before .before .before .before .before .before .before in
     let turn = c .before .before .before .before .before .loop in
-    let lent = start .pre .0 in
-    (lent .directory, cells-in _ _ (lent .passed) (lent .cells) _ _ (start .pre .1) _ (turn .inv .2) (turn .j) (c .before .before .before .before .loop-test .taken) _ (lent .whole))
+    (start .pre .0 .directory, cells-in _ _ _ _ (start .pre .0) _ _ (start .pre .1) _ (turn .inv .2) (turn .j) (c .before .before .before .before .loop-test .taken))
 
 returns : tie.Need-returns Inv-loop μ-loop
 returns c =
     let start = c .before .before .before .before .before .before .before .before .before .before .before in
     let turn = c .before .before .before .before .before .before .before .loop in
     let below = c .before .before .before .before .before .before .loop-test .taken in
-    let lent = start .pre .0 in
-    let chart = start .pre .1 in
-    let cell = cell-is _ _ (lent .passed) (lent .cells) _ _ chart _ (turn .inv .2) (turn .j) below in
-    let taken = cells-are-taken _ _ (lent .passed) (lent .cells) _ _ chart _ (turn .inv .2) (turn .j) below in
-    let judged = variable-here _ _ _ _ chart (lent .passed) (turn .j) _ _ _ below (c .before .before .before .before .type-at .ensures) cell taken _ (c .before .variable-fits .ensures _ chart) in
-    loop-fails _ _ _ _ refl below (no judged (c .if1 .taken)) ∙ element-is _ _ _ _ chart
+    let judged = variable-judged _ _ _ _ (start .pre .0) _ _ (start .pre .1) _ (turn .inv .2) (turn .j) below _ (c .before .before .before .before .type-at .ensures) _ (c .before .variable-fits .ensures _ (start .pre .1)) in
+    loop-fails _ _ _ _ refl below (no judged (c .if1 .taken)) ∙ element-is _ _ _ _ (start .pre .1)
 
 add-j : tie.Need-add-j Inv-loop μ-loop
 add-j c = search needs
@@ -108,11 +103,7 @@ loop-again c =
     let start = c .before .before .before .before .before .before .before .before .before .before .before in
     let turn = c .before .before .before .before .before .before .before .loop in
     let below = c .before .before .before .before .before .before .loop-test .taken in
-    let lent = start .pre .0 in
-    let chart = start .pre .1 in
-    let cell = cell-is _ _ (lent .passed) (lent .cells) _ _ chart _ (turn .inv .2) (turn .j) below in
-    let taken = cells-are-taken _ _ (lent .passed) (lent .cells) _ _ chart _ (turn .inv .2) (turn .j) below in
-    let judged = variable-here _ _ _ _ chart (lent .passed) (turn .j) _ _ _ below (c .before .before .before .before .type-at .ensures) cell taken _ (c .before .variable-fits .ensures _ chart) in
+    let judged = variable-judged _ _ _ _ (start .pre .0) _ _ (start .pre .1) _ (turn .inv .2) (turn .j) below _ (c .before .before .before .before .type-at .ensures) _ (c .before .variable-fits .ensures _ (start .pre .1)) in
     (omega arith, turn .inv .1, turn .inv .2, all-more (turn .j) _ (turn .inv .3) (so judged (c .if1 .left)))
 
 returns-2 : tie.Need-returns-2 Inv-loop μ-loop
