@@ -1,24 +1,23 @@
 -- Laws of the tests of cells, one for a path of the code.
 use Prim.Native.Nat.{ℕ, _+_, _*_, _-_, _≤_, _<_}
-use mathlib.Core.Path.{_≡_, refl, sym, ap, _∙_}
+use mathlib.Core.Path.{_≡_, sym, ap, _∙_}
 use mathlib.Core.List.{List}
-use mathlib.Core.Bool.{Bool, true, false}
+use mathlib.Core.Bool.{Bool}
 use native.Mathlib.Omega.{arith}
 use native.Mathlib.Numerals.{add-one}
 use lib.ListN.{length, getD}
 use lib.IntN.{ℤ}
 use Rattle.sheet.specs.declared.Record.{Record}
-use Rattle.sheet.specs.declared.Found.the-variants.{Present, Absent}
+use Rattle.sheet.specs.declared.Found.the-variants.{Present}
 use Rattle.sheet.specs.All.{allBelow}
 use Rattle.sheet.specs.Names.{chartVariables}
-use Rattle.sheet_rules.specs.Fields.{typeAt, externalsOf, elementsOf}
+use Rattle.sheet_rules.specs.Fields.{typeAt, externalsOf}
 use Rattle.sheet_rules.specs.Indices.{cellsTaken, cellsBefore}
-use Rattle.sheet_rules.proofs.Fields.{holds-present, holds-absent}
-use Rattle.machine.specs.Values.{isBound, chartOf, firstCell}
+use Rattle.sheet_rules.proofs.Fields.{holds-present}
+use Rattle.machine.specs.Values.{chartOf, firstCell}
 use Rattle.machine.specs.State.{cellAt, cellOf, placeAt, stateLength}
-use Rattle.machine.specs.Valid.{cellFits, variableFits, elementFits, cellsFit}
+use Rattle.machine.specs.Valid.{cellFits, variableFits, elementFits}
 use Rattle.machine_passed.proofs.Records.{cells-limit}
-use Rattle.machine_passed.proofs.Charts.{number-bound}
 use Rattle.machine_passed.proofs.Declared.{declared-so, element-declared}
 use Rattle.machine_states.proofs.Elements.{cells-next, variable-cells, element-number, element-cells}
 use Rattle.engine_cells.specs.Lent.{Lent, CellsIn}
@@ -81,16 +80,3 @@ module _ (s d t : List ℕ) (st : List ℤ) (lent : Lent s d t st) (e : ℕ) (c 
     variable-judged k a b h =
         let declared = declared-so s own (λ k. allBelow (cellsTaken s own) (λ i. cellFits s e k st (cellOf s e c j i))) (element-declared s (lent .passed) e c p j l) in
         h ∙ rw (a, taken-is, cell-is) (sym declared)
-
--- ---- the cells of all elements
-
-pub element-in : (s : List ℕ) (from count i : ℕ) → from ≡ externalsOf s → count ≡ elementsOf s → i < count → isBound s (from + i) ≡ true
-element-in s from count i p q l = rw p (number-bound s i (rw q at l))
-
-pub cells-are : (s : List ℕ) (st : List ℤ) (from : ℕ) → from ≡ externalsOf s → allBelow (elementsOf s) (λ i. elementFits s st (from + i)) ≡ cellsFit s st
-unfolding cellsFit
-cells-are s st from p = rw p refl
-
-pub no-element : (s : List ℕ) (st : List ℤ) (e : ℕ) → chartOf s e ≡ Absent → elementFits s st e ≡ false
-unfolding elementFits
-no-element s st e p = holds-absent (chartOf s e) _ p
