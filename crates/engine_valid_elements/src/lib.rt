@@ -1,6 +1,4 @@
-// Whether the cells of every element's variables fit, "elements in order, variables in order, each per index
-// in order".
-use sheet::Found;
+// Whether the cells of an element fit, "variables in order, each per index in order".
 use sheet::Record;
 ghost use mathlib.Core.Path.{_≡_};
 ghost use Prim.Native.Nat.{ℕ, _+_};
@@ -9,7 +7,7 @@ ghost use Rattle.sheet.specs.All.{allBelow};
 ghost use Rattle.sheet.specs.Sheet.{directoryOf};
 ghost use Rattle.machine.specs.Values.{chartOf};
 ghost use Rattle.machine.specs.State.{cellAt};
-ghost use Rattle.machine.specs.Valid.{cellFits, elementFits, cellsFit};
+ghost use Rattle.machine.specs.Valid.{cellFits, elementFits};
 ghost use Rattle.engine_cells.specs.Lent.{Lent, CellsIn};
 
 // The n cells, from a cell on, of a variable of type t of an element that is bound to chart c.
@@ -38,7 +36,7 @@ fn variable_fits(
 
 // The cells of element e, which is bound to chart c. Its row of the table has where those of each variable
 // begin, and where the last ones end.
-fn element_fits(
+pub fn element_fits(
     sheet: &[u8],
     directory: &[usize; 16],
     cells: &[usize; 2176],
@@ -53,35 +51,13 @@ fn element_fits(
     let count = c.f3 as usize;
     let mut j: usize = 0;
     while j < count {
-        let Found::Present(d) = sheet_reader::read(sheet, directory, 2, c.f2 as usize + j) else {
-            return false;
-        };
+        let t = sheet_types::type_at(sheet, directory, c.f2 as usize + j);
         let cell = cells[row + j];
         let n = cells[row + (j + 1)] - cell;
-        if !variable_fits(sheet, directory, c, d.f0 as usize, cell, n, st) {
+        if !variable_fits(sheet, directory, c, t, cell, n, st) {
             return false;
         }
         j += 1;
-    }
-    true
-}
-
-pub fn cells_fit(sheet: &[u8], directory: &[usize; 16], cells: &[usize; 2176], st: &[i32]) -> bool
-    requires { ⌜ Lent (now sheet) (now directory) (now cells) (now st) ⌝ }
-    ensures { λ b. ⌜ b ≡ cellsFit (now (sheet .entry)) (now (st .entry)) ⌝ }
-{
-    let from = engine_valid_values::externals(sheet, directory);
-    let count = engine_cells::elements(sheet, directory);
-    let mut i: usize = 0;
-    while i < count {
-        let e = from + i;
-        let Found::Present(c) = engine_cells::chart_of(sheet, directory, cells, e) else {
-            return false;
-        };
-        if !element_fits(sheet, directory, cells, c, e, st) {
-            return false;
-        }
-        i += 1;
     }
     true
 }

@@ -1,16 +1,21 @@
--- What is known of the waiting telegrams once the tests before are passed.
+-- Laws of the tests of a state, and what is known of the waiting telegrams once the tests before are passed.
 use Prim.Native.Nat.{ℕ, _+_, _≤_, _<_}
-use mathlib.Core.Path.{_≡_, _∙_}
+use mathlib.Core.Path.{_≡_, refl, _∙_}
 use mathlib.Core.List.{List}
-use mathlib.Core.Bool.{true}
+use mathlib.Core.Bool.{true, false}
 use native.Mathlib.Omega.{arith}
 use lib.ListN.{length}
 use lib.IntN.{ℤ, pos, natAbs}
 use lib.Signed.{leZ}
+use Rattle.sheet.specs.declared.Found.the-variants.{Absent}
+use Rattle.sheet.specs.All.{allBelow}
 use Rattle.sheet.proofs.All.{and-first, and-second, all-at}
-use Rattle.sheet_rules.specs.Fields.{componentsOf}
+use Rattle.sheet_rules.specs.Fields.{componentsOf, externalsOf, elementsOf}
+use Rattle.sheet_rules.proofs.Fields.{holds-absent}
+use Rattle.machine.specs.Values.{isBound, chartOf}
 use Rattle.machine.specs.State.{places, stateLength, wordOf, waiting, telegramIn}
-use Rattle.machine.specs.Valid.{internalFits, telegramFits, headFits, waitingFit}
+use Rattle.machine.specs.Valid.{elementFits, internalFits, telegramFits, headFits, cellsFit, waitingFit}
+use Rattle.machine_passed.proofs.Charts.{number-bound}
 use Rattle.machine_states.proofs.Parts.{below-abs, below-more, same-word}
 use Rattle.machine_states.proofs.Telegrams.{internal-part}
 use Rattle.engine_store.specs.Layout.{placeIn}
@@ -19,6 +24,19 @@ use Rattle.engine_valid_words.proofs.Laws.{below-from}
 use Rattle.engine_valid_telegrams.specs.Waits.{Waits}
 use Rattle.engine_valid_waiting.proofs.Laws.{waiting-is}
 use Rattle.engine_valid_classes.specs.Classes.{EndsFit}
+
+-- ---- the cells of all elements
+
+pub element-in : (s : List ℕ) (from count i : ℕ) → from ≡ externalsOf s → count ≡ elementsOf s → i < count → isBound s (from + i) ≡ true
+element-in s from count i p q l = rw p (number-bound s i (rw q at l))
+
+pub cells-are : (s : List ℕ) (st : List ℤ) (from : ℕ) → from ≡ externalsOf s → allBelow (elementsOf s) (λ i. elementFits s st (from + i)) ≡ cellsFit s st
+unfolding cellsFit
+cells-are s st from p = rw p refl
+
+pub no-element : (s : List ℕ) (st : List ℤ) (e : ℕ) → chartOf s e ≡ Absent → elementFits s st e ≡ false
+unfolding elementFits
+no-element s st e p = holds-absent (chartOf s e) _ p
 
 -- ---- how many wait, by the head
 

@@ -1,19 +1,23 @@
 -- The places of telegrams, by where they lie in a state of so many words.
-use Prim.Native.Nat.{ℕ, _+_, _-_, _≤_, _<_}
+use Prim.Native.Nat.{ℕ, _+_, _-_}
 use mathlib.Core.Path.{_≡_, ap, _∙_}
 use mathlib.Core.List.{List}
-use native.Mathlib.Omega.{arith}
+use mathlib.Core.Bool.{Bool}
 use lib.ListN.{length}
 use lib.IntN.{ℤ}
 use Rattle.sheet.specs.All.{allBelow}
 use Rattle.sheet.proofs.All.{all-same}
 use Rattle.machine.specs.State.{places, placeAt, stateLength, waiting, telegramIn, telegramOf}
 use Rattle.machine.specs.Valid.{zeroWords, telegramFits, waitingFit, unusedZero}
-use Rattle.engine_store.specs.Layout.{shortest, placeIn}
+use Rattle.engine_store.specs.Layout.{placeIn}
 use Rattle.engine_store.proofs.Lies.{place-in}
 
-pub place-inside : (n j : ℕ) → shortest ≤ n → j < places → placeIn n j + 8 ≤ n
-place-inside n j l m = omega arith
+-- a telegram and a place, by where they lie
+pub telegram-judged : (s : List ℕ) (st : List ℤ) (at i : ℕ) (b : Bool) → at ≡ i → b ≡ telegramFits s (telegramIn st at) → b ≡ telegramFits s (telegramIn st i)
+telegram-judged s st at i b q h = h ∙ ap (λ (at : ℕ). telegramFits s (telegramIn st at)) q
+
+pub place-judged : (st : List ℤ) (at i : ℕ) (b : Bool) → at ≡ i → b ≡ zeroWords st at 0 → b ≡ zeroWords st i 0
+place-judged st at i b q h = h ∙ ap (λ (at : ℕ). zeroWords st at 0) q
 
 module _ (s : List ℕ) (st : List ℤ) (l : length st ≡ stateLength s) (n : ℕ) (p : n ≡ waiting st) where
   pub waiting-is : allBelow n (λ j. telegramFits s (telegramIn st (placeIn (length st) j))) ≡ waitingFit s st

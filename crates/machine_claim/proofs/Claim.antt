@@ -18,7 +18,8 @@ use Rattle.machine.specs.Lists.{Played, played, nowhere, thenPlayed, afterAnswe
 use Rattle.machine_states.proofs.Parts.{of-content}
 use Rattle.machine_words.specs.Words.{Bytes}
 use Rattle.machine_words.proofs.Words.{of-sheet-words}
-use Rattle.machine_events.proofs.Laws.{event-malformed, event-happens}
+use Rattle.machine.proofs.Calls.{event-played}
+use Rattle.machine_events.proofs.Laws.{event-malformed}
 use Rattle.machine_promise.specs.Promise.{StartKept, EventKept, ListKept}
 use Rattle.machine_promise.proofs.Promise.{on-kept, list-kept, promise}
 use Rattle.machine_claim.specs.Claim.{Engine, Meets, Call, AllLent, AllWords, eventsCalled, calledFrom, runOfEngine, Claim, EveryList}
@@ -53,7 +54,7 @@ module _ (s : List ℕ) (ok : checkOf s ≡ Passed) where
     lent-same = go (isEvent s ev) refl
       where
         go : (b : Bool) → isEvent s ev ≡ b → (new : List ℤ) × (ended a new ≡ eventCall s (limitOf s) st st ev) × (_≡_ {A = List ℤ} (elim (eqb (a .number) 0) [ true ↦ result | false ↦ st ]) (elim (eqb (a .number) 0) [ true ↦ new | false ↦ st ]))
-        go true q = (result, g ∙ event-happens s st lent ev ok (o .whole) l (of-content s st o) q ∙ sym (event-happens s st st ev ok (o .whole) (o .whole) (of-content s st o) q), refl)
+        go true q = (result, g ∙ event-played s (limitOf s) st lent ev ok (o .whole) l (of-content s st o) q ∙ sym (event-played s (limitOf s) st st ev ok (o .whole) (o .whole) (of-content s st o) q), refl)
         go false q =
             let down = g ∙ event-malformed s st lent ev ok (o .whole) l (of-content s st o) q in
             let four = same-answer _ _ _ _ down in

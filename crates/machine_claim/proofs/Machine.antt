@@ -16,7 +16,8 @@ use Rattle.machine.specs.Play.{Outcome, ended, stuck, answer, isEvent, turnedDo
 use Rattle.machine.specs.Lists.{StartGives, EventGives}
 use Rattle.sheet_rules.specs.Check.{checkOf}
 use Rattle.machine_states.proofs.Parts.{content-of}
-use Rattle.machine_events.proofs.Laws.{start-shape, start-static, start-length, event-shape, event-static, event-old-length, event-result-length, event-content, event-malformed, event-happens}
+use Rattle.machine.proofs.Calls.{event-played}
+use Rattle.machine_events.proofs.Laws.{start-shape, start-static, start-length, event-shape, event-static, event-old-length, event-result-length, event-content, event-malformed}
 use Rattle.machine_promise.specs.Promise.{StartKept, EventKept}
 use Rattle.machine_promise.proofs.Promise.{promise}
 use Rattle.machine_claim.specs.Claim.{Returned, Engine, SomeEngine}
@@ -56,7 +57,7 @@ module _ (P : Outcome → Type 0) (s : List ℕ) where
     module _ (ok : checkOf s ≡ Passed) where
       module _ (h : length old ≡ stateLength s) (l : length lent ≡ stateLength s) where
         formed : contentFits s old ≡ true → (b : Bool) → isEvent s ev ≡ b → P (eventCall s (limitOf s) old lent ev)
-        formed c true q = subst P (event-happens s old old ev ok h h c q ∙ sym (event-happens s old lent ev ok h l c q)) (on ok (content-of s old h c))
+        formed c true q = subst P (event-played s (limitOf s) old old ev ok h h c q ∙ sym (event-played s (limitOf s) old lent ev ok h l c q)) (on ok (content-of s old h c))
         formed c false q = subst P (sym (event-malformed s old lent ev ok h l c q)) (down 3)
 
         fits : (b : Bool) → contentFits s old ≡ b → P (eventCall s (limitOf s) old lent ev)

@@ -1,5 +1,5 @@
 use native.Mathlib.Omega.{arith}
-use mathlib.Core.Path.{_≡_, refl, sym, ap, _∙_}
+use mathlib.Core.Path.{_≡_, refl, ap, _∙_}
 use mathlib.Core.Bool.{true}
 use Prim.Native.Nat.{ℕ, _+_, _*_, _-_, _<_, _≤_}
 use borrow.Author.Needs.{needs}
@@ -9,7 +9,7 @@ use Rattle.sheet_rules.specs.Fields.{externalsOf}
 use Rattle.sheet_types.proofs.Laws.{no, so}
 use Rattle.machine.specs.Valid.{variableFits}
 use Rattle.machine_states.proofs.Elements.{element-from}
-use Rattle.engine_valid_elements.proofs.Laws.{element-is, variable-absent, variable-here, row-inside, cell-is, cell-rises, cells-are-taken, cells-in}
+use Rattle.engine_valid_elements.proofs.Laws.{element-is, row-inside, cell-rises, cells-in, variable-judged}
 use Rattle.engine_valid_elements.proofs.element_fits.Statement.{statement}
 use Rattle.engine_valid_elements.proofs.element_fits.Tie as tie
 
@@ -29,7 +29,7 @@ mul-row : tie.Need-mul-row Inv-loop μ-loop
 mul-row c =
     let start = c .before .before in
     let row = ap (λ (n : ℕ). 34 * (start .args .e - n)) (c .externals .ensures .0) in
-    let l = row-inside _ _ (start .pre .0 .passed) (start .pre .0 .cells) _ _ (start .pre .1) _ row 0 (omega arith) in
+    let l = row-inside _ _ _ _ (start .pre .0) _ _ (start .pre .1) _ row 0 (omega arith) in
     omega arith
 
 cast-count : tie.Need-cast-count Inv-loop μ-loop
@@ -40,28 +40,16 @@ unfolding allBelow
 loop-holds c =
     let start = c .before .before .before in
     let row = ap (λ (n : ℕ). 34 * (start .args .e - n)) (c .before .externals .ensures .0) in
-    (omega arith, row-inside _ _ (start .pre .0 .passed) (start .pre .0 .cells) _ _ (start .pre .1) _ row _ (omega arith), row, refl)
+    (omega arith, row-inside _ _ _ _ (start .pre .0) _ _ (start .pre .1) _ row _ (omega arith), row, refl)
 
-cast-read : tie.Need-cast-read Inv-loop μ-loop
-cast-read c = search needs
+cast-type-at : tie.Need-cast-type-at Inv-loop μ-loop
+cast-type-at c = search needs
 
-add-read : tie.Need-add-read Inv-loop μ-loop
-add-read c = search needs
+add-type-at : tie.Need-add-type-at Inv-loop μ-loop
+add-type-at c = search needs
 
-read-requires : tie.Need-read-requires Inv-loop μ-loop
-read-requires c κs = search needs
-
-enum-known-d : tie.Need-enum-known-d Inv-loop μ-loop
-enum-known-d c = search needs
-
-enum-told : tie.Need-enum-told Inv-loop μ-loop
-enum-told c = search needs
-
-returns : tie.Need-returns Inv-loop μ-loop
-returns c =
-    let start = c .before .before .before .before .before .before .before .before .before in
-    let absent = sym (c .before .before .read .ensures) ∙ c .enum-told .given .1 in
-    loop-fails _ _ _ _ refl (c .before .before .before .before .loop-test .taken) (variable-absent _ _ _ _ (start .pre .1) _ absent) ∙ element-is _ _ _ _ (start .pre .1)
+type-at-requires : tie.Need-type-at-requires Inv-loop μ-loop
+type-at-requires c κs = search needs
 
 add-cell : tie.Need-add-cell Inv-loop μ-loop
 add-cell c = search needs
@@ -86,32 +74,23 @@ element-copy-out-n c = search needs
 
 sub-n : tie.Need-sub-n Inv-loop μ-loop
 sub-n c =
-    let start = c .before .before .before .before .before .before .before .before .before .before .before .before in
-    let turn = c .before .before .before .before .before .before .before .before .loop in
-    cell-rises _ _ (start .pre .0 .passed) (start .pre .0 .cells) _ _ (start .pre .1) _ (turn .inv .2) (turn .j) (c .before .before .before .before .before .before .before .loop-test .taken)
-
-cast-variable-fits : tie.Need-cast-variable-fits Inv-loop μ-loop
-cast-variable-fits c = search needs
+    let start = c .before .before .before .before .before .before .before .before .before in
+    let turn = c .before .before .before .before .before .loop in
+    cell-rises _ _ _ _ (start .pre .0) _ _ (start .pre .1) _ (turn .inv .2) (turn .j) (c .before .before .before .before .loop-test .taken)
 
 variable-fits-requires : tie.Need-variable-fits-requires Inv-loop μ-loop
 variable-fits-requires c κs =
-    let start = c .before .before .before .before .before .before .before .before .before .before .before .before .before in
-    let turn = c .before .before .before .before .before .before .before .before .before .loop in
-    let lent = start .pre .0 in
-    (lent .directory, cells-in _ _ (lent .passed) (lent .cells) _ _ (start .pre .1) _ (turn .inv .2) (turn .j) (c .before .before .before .before .before .before .before .before .loop-test .taken) _ (lent .whole))
+    let start = c .before .before .before .before .before .before .before .before .before in
+    let turn = c .before .before .before .before .before .loop in
+    (start .pre .0 .directory, cells-in _ _ _ _ (start .pre .0) _ _ (start .pre .1) _ (turn .inv .2) (turn .j) (c .before .before .before .before .loop-test .taken))
 
-returns-2 : tie.Need-returns-2 Inv-loop μ-loop
-returns-2 c =
-    let start = c .before .before .before .before .before .before .before .before .before .before .before .before .before .before .before in
-    let turn = c .before .before .before .before .before .before .before .before .before .before .before .loop in
-    let below = c .before .before .before .before .before .before .before .before .before .before .loop-test .taken in
-    let lent = start .pre .0 in
-    let chart = start .pre .1 in
-    let present = sym (c .before .before .before .before .before .before .before .before .read .ensures) ∙ c .before .before .before .before .before .before .d .given .1 in
-    let cell = cell-is _ _ (lent .passed) (lent .cells) _ _ chart _ (turn .inv .2) (turn .j) below in
-    let taken = cells-are-taken _ _ (lent .passed) (lent .cells) _ _ chart _ (turn .inv .2) (turn .j) below in
-    let judged = variable-here _ _ _ _ chart (turn .j) _ present _ _ cell taken _ (c .before .variable-fits .ensures _ chart) in
-    loop-fails _ _ _ _ refl below (no judged (c .if1 .taken)) ∙ element-is _ _ _ _ chart
+returns : tie.Need-returns Inv-loop μ-loop
+returns c =
+    let start = c .before .before .before .before .before .before .before .before .before .before .before in
+    let turn = c .before .before .before .before .before .before .before .loop in
+    let below = c .before .before .before .before .before .before .loop-test .taken in
+    let judged = variable-judged _ _ _ _ (start .pre .0) _ _ (start .pre .1) _ (turn .inv .2) (turn .j) below _ (c .before .before .before .before .type-at .ensures) _ (c .before .variable-fits .ensures _ (start .pre .1)) in
+    loop-fails _ _ _ _ refl below (no judged (c .if1 .taken)) ∙ element-is _ _ _ _ (start .pre .1)
 
 add-j : tie.Need-add-j Inv-loop μ-loop
 add-j c = search needs
@@ -121,19 +100,14 @@ loop-less c = search needs
 
 loop-again : tie.Need-loop-again Inv-loop μ-loop
 loop-again c =
-    let start = c .before .before .before .before .before .before .before .before .before .before .before .before .before .before .before in
-    let turn = c .before .before .before .before .before .before .before .before .before .before .before .loop in
-    let below = c .before .before .before .before .before .before .before .before .before .before .loop-test .taken in
-    let lent = start .pre .0 in
-    let chart = start .pre .1 in
-    let present = sym (c .before .before .before .before .before .before .before .before .read .ensures) ∙ c .before .before .before .before .before .before .d .given .1 in
-    let cell = cell-is _ _ (lent .passed) (lent .cells) _ _ chart _ (turn .inv .2) (turn .j) below in
-    let taken = cells-are-taken _ _ (lent .passed) (lent .cells) _ _ chart _ (turn .inv .2) (turn .j) below in
-    let judged = variable-here _ _ _ _ chart (turn .j) _ present _ _ cell taken _ (c .before .variable-fits .ensures _ chart) in
+    let start = c .before .before .before .before .before .before .before .before .before .before .before in
+    let turn = c .before .before .before .before .before .before .before .loop in
+    let below = c .before .before .before .before .before .before .loop-test .taken in
+    let judged = variable-judged _ _ _ _ (start .pre .0) _ _ (start .pre .1) _ (turn .inv .2) (turn .j) below _ (c .before .before .before .before .type-at .ensures) _ (c .before .variable-fits .ensures _ (start .pre .1)) in
     (omega arith, turn .inv .1, turn .inv .2, all-more (turn .j) _ (turn .inv .3) (so judged (c .if1 .left)))
 
-returns-3 : tie.Need-returns-3 Inv-loop μ-loop
-returns-3 c =
+returns-2 : tie.Need-returns-2 Inv-loop μ-loop
+returns-2 c =
     let turn = c .before .loop in
     loop-ends _ _ _ _ refl (turn .inv .0) (c .loop-test .left) (turn .inv .3) ∙ element-is _ _ _ _ (c .before .before .before .before .before .pre .1)
 
@@ -148,12 +122,9 @@ element-fits-spec =
     mul-row
     cast-count
     loop-holds
-    cast-read
-    add-read
-    read-requires
-    enum-known-d
-    enum-told
-    returns
+    cast-type-at
+    add-type-at
+    type-at-requires
     add-cell
     mul-cell
     element-copy-out-cell
@@ -162,10 +133,9 @@ element-fits-spec =
     mul-n
     element-copy-out-n
     sub-n
-    cast-variable-fits
     variable-fits-requires
-    returns-2
+    returns
     add-j
     loop-less
     loop-again
-    returns-3)
+    returns-2)

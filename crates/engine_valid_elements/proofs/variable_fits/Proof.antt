@@ -1,5 +1,5 @@
 use native.Mathlib.Omega.{arith}
-use mathlib.Core.Path.{_≡_, refl, ap, _∙_}
+use mathlib.Core.Path.{_≡_, refl}
 use mathlib.Core.List.{List}
 use mathlib.Core.Bool.{Bool, true}
 use Prim.Native.Nat.{ℕ, _+_, _-_, _≤_}
@@ -12,6 +12,7 @@ use Rattle.sheet_types.proofs.Laws.{no, so}
 use Rattle.machine.specs.Values.{chartOf}
 use Rattle.machine.specs.State.{cellAt}
 use Rattle.machine.specs.Valid.{cellFits}
+use Rattle.engine_valid_elements.proofs.Laws.{cell-judged}
 use Rattle.engine_valid_elements.proofs.variable_fits.Statement.{statement}
 use Rattle.engine_valid_elements.proofs.variable_fits.Tie as tie
 
@@ -46,8 +47,7 @@ cell-fits-requires c κs =
 
 returns : tie.Need-returns Inv-loop μ-loop
 returns c e p =
-    let start = c .before .before .before .before .before .before in
-    let judged = c .before .cell-fits .ensures e p ∙ ap (cellFits (start .args .sheet .now) e (start .args .t) (start .args .st .now)) (c .before .before .cell-at .ensures) in
+    let judged = cell-judged _ _ _ _ _ _ _ (c .before .before .cell-at .ensures) (c .before .cell-fits .ensures e p) in
     loop-fails _ _ (c .before .before .before .before .loop .k) _ refl (c .before .before .before .loop-test .taken) (no judged (c .if1 .taken))
 
 add-k : tie.Need-add-k Inv-loop μ-loop
@@ -59,9 +59,7 @@ loop-less c = search needs
 loop-again : tie.Need-loop-again Inv-loop μ-loop
 loop-again c =
     let turn = c .before .before .before .before .loop in
-    let start = c .before .before .before .before .before .before in
-    let at = c .before .before .cell-at .ensures in
-    (omega arith, λ e p. all-more (turn .k) _ (turn .inv .1 e p) (so (c .before .cell-fits .ensures e p ∙ ap (cellFits (start .args .sheet .now) e (start .args .t) (start .args .st .now)) at) (c .if1 .left)))
+    (omega arith, λ e p. all-more (turn .k) _ (turn .inv .1 e p) (so (cell-judged _ _ _ _ _ _ _ (c .before .before .cell-at .ensures) (c .before .cell-fits .ensures e p)) (c .if1 .left)))
 
 returns-2 : tie.Need-returns-2 Inv-loop μ-loop
 returns-2 c e p = loop-ends _ _ _ _ refl (c .before .loop .inv .0) (c .loop-test .left) (c .before .loop .inv .1 e p)

@@ -1,5 +1,5 @@
 use native.Mathlib.Omega.{arith}
-use mathlib.Core.Path.{_≡_, refl, ap, _∙_}
+use mathlib.Core.Path.{_≡_, refl, _∙_}
 use mathlib.Core.List.{List}
 use mathlib.Core.Bool.{Bool, true}
 use Prim.Native.Nat.{ℕ, _+_, _-_, _≤_}
@@ -11,7 +11,7 @@ use Rattle.sheet.proofs.All.{all-more, loop-fails, loop-ends}
 use Rattle.machine.specs.Valid.{zeroWords}
 use Rattle.sheet_types.proofs.Laws.{no, so}
 use Rattle.engine_store.specs.Layout.{placeIn}
-use Rattle.engine_valid_waiting.proofs.Laws.{unused-is}
+use Rattle.engine_valid_waiting.proofs.Laws.{place-judged, unused-is}
 use Rattle.engine_valid_waiting.proofs.unused_zero.Statement.{statement}
 use Rattle.engine_valid_waiting.proofs.unused_zero.Tie as tie
 
@@ -43,7 +43,7 @@ zero-words-requires c κs = search needs
 returns : tie.Need-returns Inv-loop μ-loop
 returns c s l =
     let start = c .before .before .before .before .before in
-    let judged = c .before .zero-words .ensures ∙ ap (λ (at : ℕ). zeroWords (start .args .st .now) at 0) (c .before .before .place-at .ensures) in
+    let judged = place-judged _ _ _ _ (c .before .before .place-at .ensures) (c .before .zero-words .ensures) in
     loop-fails _ _ _ _ refl (c .before .before .before .loop-test .taken) (no judged (c .if1 .taken)) ∙ unused-is s _ l _ (start .pre .number)
 
 add-k : tie.Need-add-k Inv-loop μ-loop
@@ -54,9 +54,8 @@ loop-less c = search needs
 
 loop-again : tie.Need-loop-again Inv-loop μ-loop
 loop-again c =
-    let start = c .before .before .before .before .before in
     let turn = c .before .before .before .before .loop in
-    let judged = c .before .zero-words .ensures ∙ ap (λ (at : ℕ). zeroWords (start .args .st .now) at 0) (c .before .before .place-at .ensures) in
+    let judged = place-judged _ _ _ _ (c .before .before .place-at .ensures) (c .before .zero-words .ensures) in
     (omega arith, all-more (turn .k) _ (turn .inv .1) (so judged (c .if1 .left)))
 
 returns-2 : tie.Need-returns-2 Inv-loop μ-loop

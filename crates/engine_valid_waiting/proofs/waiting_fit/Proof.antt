@@ -1,5 +1,5 @@
 use native.Mathlib.Omega.{arith}
-use mathlib.Core.Path.{_≡_, refl, ap, _∙_}
+use mathlib.Core.Path.{_≡_, refl, _∙_}
 use mathlib.Core.List.{List}
 use mathlib.Core.Bool.{Bool, true}
 use Prim.Native.Nat.{ℕ, _-_, _≤_}
@@ -12,7 +12,7 @@ use Rattle.machine.specs.State.{telegramIn}
 use Rattle.machine.specs.Valid.{telegramFits}
 use Rattle.sheet_types.proofs.Laws.{no, so}
 use Rattle.engine_store.specs.Layout.{placeIn}
-use Rattle.engine_valid_waiting.proofs.Laws.{waiting-is}
+use Rattle.engine_valid_waiting.proofs.Laws.{telegram-judged, waiting-is}
 use Rattle.engine_valid_waiting.proofs.waiting_fit.Statement.{statement}
 use Rattle.engine_valid_waiting.proofs.waiting_fit.Tie as tie
 
@@ -43,7 +43,7 @@ telegram-fits-requires c κs =
 returns : tie.Need-returns Inv-loop μ-loop
 returns c =
     let start = c .before .before .before .before .before .before in
-    let judged = c .before .telegram-fits .ensures ∙ ap (λ (at : ℕ). telegramFits (start .args .sheet .now) (telegramIn (start .args .st .now) at)) (c .before .before .place-at .ensures) in
+    let judged = telegram-judged _ _ _ _ _ (c .before .before .place-at .ensures) (c .before .telegram-fits .ensures) in
     loop-fails _ _ _ _ refl (c .before .before .before .loop-test .taken) (no judged (c .if1 .taken)) ∙ waiting-is _ _ (start .pre .0 .whole) _ (start .pre .1 .number)
 
 add-j : tie.Need-add-j Inv-loop μ-loop
@@ -54,9 +54,8 @@ loop-less c = search needs
 
 loop-again : tie.Need-loop-again Inv-loop μ-loop
 loop-again c =
-    let start = c .before .before .before .before .before .before in
     let turn = c .before .before .before .before .loop in
-    let judged = c .before .telegram-fits .ensures ∙ ap (λ (at : ℕ). telegramFits (start .args .sheet .now) (telegramIn (start .args .st .now) at)) (c .before .before .place-at .ensures) in
+    let judged = telegram-judged _ _ _ _ _ (c .before .before .place-at .ensures) (c .before .telegram-fits .ensures) in
     (omega arith, all-more (turn .j) _ (turn .inv .1) (so judged (c .if1 .left)))
 
 returns-2 : tie.Need-returns-2 Inv-loop μ-loop

@@ -9,9 +9,9 @@ use Rattle.sheet.specs.All.{allBelow}
 use Rattle.sheet.proofs.All.{all-more, loop-fails, loop-ends}
 use Rattle.machine.specs.Valid.{elementFits}
 use Rattle.sheet_types.proofs.Laws.{no, so}
-use Rattle.engine_valid_elements.proofs.Laws.{element-in, cells-are, no-element}
-use Rattle.engine_valid_elements.proofs.cells_fit.Statement.{statement}
-use Rattle.engine_valid_elements.proofs.cells_fit.Tie as tie
+use Rattle.engine_valid_state.proofs.Laws.{element-in, cells-are, no-element}
+use Rattle.engine_valid_state.proofs.cells_fit.Statement.{statement}
+use Rattle.engine_valid_state.proofs.cells_fit.Tie as tie
 
 abbrev fits : List ℕ → List ℤ → ℕ → ℕ → Bool
 fits s st from i = elementFits s st (from + i)
