@@ -1,4 +1,7 @@
 // Which sheets pass.
+use sheet::Directory;
+use sheet::HEAD;
+use sheet::RECORDS;
 use sheet_rules::Checked;
 ghost use mathlib.Core.Path.{_≡_};
 ghost use Prim.Native.Nat.{_≤_};
@@ -7,7 +10,7 @@ ghost use Rattle.sheet.specs.Sheet.{countOf, directoryOf};
 ghost use Rattle.sheet_rules.specs.Check.{shape, checkOf, checkNumber, checkCall};
 
 // Whether the sheet has the shape. A mark is lent for each node.
-fn shape_holds(sheet: &[u8], directory: &[usize; 16], marks: &mut [u16]) -> bool
+fn shape_holds(sheet: &[u8], directory: &Directory, marks: &mut [u16]) -> bool
     requires { ⌜ now directory ≡ directoryOf (now sheet) ⌝ }
     requires { ⌜ countOf (now sheet) 6 ≤ length (now marks) ⌝ }
     ensures { λ b. ⌜ b ≡ shape (now (sheet .entry)) ⌝ }
@@ -21,8 +24,8 @@ fn shape_holds(sheet: &[u8], directory: &[usize; 16], marks: &mut [u16]) -> bool
     if !checker_charts::bodies_covered(sheet, directory) {
         return false;
     }
-    let components = sheet_fields::field_at(sheet, directory, 0, 0, 0);
-    let externals = sheet_fields::field_at(sheet, directory, 0, 0, 1);
+    let components = sheet_fields::field_at(sheet, directory, HEAD, 0, 0);
+    let externals = sheet_fields::field_at(sheet, directory, HEAD, 0, 1);
     if externals + sheet_bindings::elements_bound(sheet, directory) != components {
         return false;
     }
@@ -37,7 +40,7 @@ fn shape_holds(sheet: &[u8], directory: &[usize; 16], marks: &mut [u16]) -> bool
 }
 
 // The same with marks of its own. An array is cleared when it is made, so a sheet of few nodes gets a short one.
-fn shaped(sheet: &[u8], directory: &[usize; 16]) -> bool
+fn shaped(sheet: &[u8], directory: &Directory) -> bool
     requires { ⌜ now directory ≡ directoryOf (now sheet) ⌝ }
     ensures { λ b. ⌜ b ≡ shape (now (sheet .entry)) ⌝ }
 {
@@ -46,12 +49,12 @@ fn shaped(sheet: &[u8], directory: &[usize; 16]) -> bool
         let mut few = [0u16; 512];
         return shape_holds(sheet, directory, &mut few[..count]);
     }
-    let mut marks = [0u16; 4096];
+    let mut marks = [0u16; RECORDS];
     shape_holds(sheet, directory, &mut marks[..count])
 }
 
 // What check answers, and with it the paper's number, for a caller who has opened the directory.
-pub fn check_opened(sheet: &[u8], directory: &[usize; 16]) -> Checked
+pub fn check_opened(sheet: &[u8], directory: &Directory) -> Checked
     requires { ⌜ now directory ≡ directoryOf (now sheet) ⌝ }
     ensures { λ r. ⌜ (r ≡ checkOf (now (sheet .entry))) × (checkNumber r ≡ checkCall (now (sheet .entry))) ⌝ }
 {

@@ -1,4 +1,6 @@
 // What a node that reads or assigns an element of an array is: an expression of a type, a statement, or wrong.
+use sheet::DECLARATIONS;
+use sheet::Directory;
 use sheet::Found;
 use sheet::Record;
 use sheet_rules::Typed;
@@ -7,12 +9,16 @@ ghost use Rattle.sheet.specs.Sheet.{directoryOf};
 ghost use Rattle.sheet_rules.specs.Types.{chartVariableIndex, indexedBy, readElementType, assignElementType};
 
 // "19 and 44 take nothing else, with an index of the array's index type (Int for a number)"
-fn indexed_by(sheet: &[u8], directory: &[usize; 16], c: Record, n: u16, x: Typed) -> bool
+fn indexed_by(sheet: &[u8], directory: &Directory, c: Record, n: u16, x: Typed) -> bool
     requires { ⌜ now directory ≡ directoryOf (now sheet) ⌝ }
     ensures { λ b. ⌜ b ≡ indexedBy (chartVariableIndex (now (sheet .entry)) c n) x ⌝ }
 {
-    let Found::Present(r) = sheet_reader::read(sheet, directory, 2, c.f2 as usize + n as usize)
-    else {
+    let Found::Present(r) = sheet_reader::read(
+        sheet,
+        directory,
+        DECLARATIONS,
+        c.f2 as usize + n as usize,
+    ) else {
         return false;
     };
     let i = r.f1;
@@ -28,7 +34,7 @@ fn indexed_by(sheet: &[u8], directory: &[usize; 16], c: Record, n: u16, x: Typed
 
 pub fn read_element_type(
     sheet: &[u8],
-    directory: &[usize; 16],
+    directory: &Directory,
     c: Record,
     r: Record,
     x: Typed,
@@ -45,7 +51,7 @@ pub fn read_element_type(
 // The value that is assigned is of the type of the array's elements.
 pub fn assign_element_type(
     sheet: &[u8],
-    directory: &[usize; 16],
+    directory: &Directory,
     c: Record,
     r: Record,
     x: Typed,

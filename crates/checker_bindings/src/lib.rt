@@ -1,4 +1,7 @@
 // The shape of bindings.
+use sheet::BINDINGS;
+use sheet::CHARTS;
+use sheet::Directory;
 use sheet::Found;
 use sheet::Record;
 ghost use mathlib.Core.Path.{_≡_};
@@ -7,7 +10,7 @@ ghost use Rattle.sheet.specs.Sheet.{directoryOf};
 ghost use Rattle.sheet_rules.specs.Shape.{constantsShape, secondShape, recordsShape, bindingShape, bindingsShape};
 
 // The constants of the element bound to chart c whose first record is k.
-fn constants_fit(sheet: &[u8], directory: &[usize; 16], k: usize, c: Record) -> bool
+fn constants_fit(sheet: &[u8], directory: &Directory, k: usize, c: Record) -> bool
     requires { ⌜ (now directory ≡ directoryOf (now sheet)) × (k ≤ 131072) ⌝ }
     ensures { λ b. ⌜ b ≡ constantsShape (now (sheet .entry)) k c ⌝ }
 {
@@ -17,7 +20,7 @@ fn constants_fit(sheet: &[u8], directory: &[usize; 16], k: usize, c: Record) -> 
         let Found::Present(b) = sheet_reader::read(
             sheet,
             directory,
-            7,
+            BINDINGS,
             sheet_bindings::constant_record(k, j),
         ) else {
             return false;
@@ -32,11 +35,11 @@ fn constants_fit(sheet: &[u8], directory: &[usize; 16], k: usize, c: Record) -> 
 }
 
 // Whether record k is a second one, with n constants.
-fn second_fits(sheet: &[u8], directory: &[usize; 16], k: usize, n: usize) -> bool
+fn second_fits(sheet: &[u8], directory: &Directory, k: usize, n: usize) -> bool
     requires { ⌜ (now directory ≡ directoryOf (now sheet)) × (n < 65536) ⌝ }
     ensures { λ b. ⌜ b ≡ secondShape (now (sheet .entry)) k n ⌝ }
 {
-    let Found::Present(r) = sheet_reader::read(sheet, directory, 7, k) else {
+    let Found::Present(r) = sheet_reader::read(sheet, directory, BINDINGS, k) else {
         return false;
     };
     if r.f0 != 65535 {
@@ -46,7 +49,7 @@ fn second_fits(sheet: &[u8], directory: &[usize; 16], k: usize, n: usize) -> boo
 }
 
 // The records from k on, the first one being r, of an element bound to chart c.
-fn records_fit(sheet: &[u8], directory: &[usize; 16], k: usize, r: Record, c: Record) -> bool
+fn records_fit(sheet: &[u8], directory: &Directory, k: usize, r: Record, c: Record) -> bool
     requires { ⌜ (now directory ≡ directoryOf (now sheet)) × (k ≤ 131072) ⌝ }
     ensures { λ b. ⌜ b ≡ recordsShape (now (sheet .entry)) k r c ⌝ }
 {
@@ -64,21 +67,21 @@ fn records_fit(sheet: &[u8], directory: &[usize; 16], k: usize, r: Record, c: Re
 }
 
 // The records of the element whose first one is k.
-fn binding_fits(sheet: &[u8], directory: &[usize; 16], k: usize) -> bool
+fn binding_fits(sheet: &[u8], directory: &Directory, k: usize) -> bool
     requires { ⌜ (now directory ≡ directoryOf (now sheet)) × (k ≤ 131072) ⌝ }
     ensures { λ b. ⌜ b ≡ bindingShape (now (sheet .entry)) k ⌝ }
 {
-    let Found::Present(r) = sheet_reader::read(sheet, directory, 7, k) else {
+    let Found::Present(r) = sheet_reader::read(sheet, directory, BINDINGS, k) else {
         return false;
     };
-    let Found::Present(c) = sheet_reader::read(sheet, directory, 4, r.f0 as usize) else {
+    let Found::Present(c) = sheet_reader::read(sheet, directory, CHARTS, r.f0 as usize) else {
         return false;
     };
     records_fit(sheet, directory, k, r, c)
 }
 
 // The whole section, element by element.
-pub fn bindings_fit(sheet: &[u8], directory: &[usize; 16]) -> bool
+pub fn bindings_fit(sheet: &[u8], directory: &Directory) -> bool
     requires { ⌜ now directory ≡ directoryOf (now sheet) ⌝ }
     ensures { λ b. ⌜ b ≡ bindingsShape (now (sheet .entry)) ⌝ }
 {

@@ -1,18 +1,21 @@
 // The shape of bodies.
+use sheet::DECLARATIONS;
+use sheet::Directory;
+use sheet::HEAD;
 use sheet::Record;
 ghost use mathlib.Core.Path.{_≡_};
 ghost use Rattle.sheet.specs.Sheet.{directoryOf};
 ghost use Rattle.sheet_rules.specs.Shape.{reactionShape, bodyShape};
 
 // The port and the name of a reaction are there, and 0 in another body.
-fn reaction_fits(sheet: &[u8], directory: &[usize; 16], r: Record) -> bool
+fn reaction_fits(sheet: &[u8], directory: &Directory, r: Record) -> bool
     requires { ⌜ now directory ≡ directoryOf (now sheet) ⌝ }
     ensures { λ b. ⌜ b ≡ reactionShape (now (sheet .entry)) r ⌝ }
 {
     let role = r.f0;
     match role {
         2 => {
-            let ports = sheet_fields::field_at(sheet, directory, 0, 0, 2);
+            let ports = sheet_fields::field_at(sheet, directory, HEAD, 0, 2);
             if ports <= r.f1 as usize {
                 return false;
             }
@@ -33,7 +36,7 @@ fn reaction_fits(sheet: &[u8], directory: &[usize; 16], r: Record) -> bool
     }
 }
 
-pub fn body_fits(sheet: &[u8], directory: &[usize; 16], r: Record) -> bool
+pub fn body_fits(sheet: &[u8], directory: &Directory, r: Record) -> bool
     requires { ⌜ now directory ≡ directoryOf (now sheet) ⌝ }
     ensures { λ b. ⌜ b ≡ bodyShape (now (sheet .entry)) r ⌝ }
 {
@@ -43,13 +46,13 @@ pub fn body_fits(sheet: &[u8], directory: &[usize; 16], r: Record) -> bool
     if !reaction_fits(sheet, directory, r) {
         return false;
     }
-    if !sheet_fields::in_section(sheet, directory, 2, r.f3, r.f4) {
+    if !sheet_fields::in_section(sheet, directory, DECLARATIONS, r.f3, r.f4) {
         return false;
     }
     if 4 < r.f4 {
         return false;
     }
-    if !sheet_fields::in_section(sheet, directory, 2, r.f5, r.f6) {
+    if !sheet_fields::in_section(sheet, directory, DECLARATIONS, r.f5, r.f6) {
         return false;
     }
     if 16 < r.f4 as usize + r.f6 as usize {

@@ -1,4 +1,7 @@
 // The static rules of a chart and its bodies.
+use sheet::BODIES;
+use sheet::ByRecord;
+use sheet::Directory;
 use sheet::Found;
 use sheet::Range;
 use sheet::Record;
@@ -8,13 +11,7 @@ ghost use Rattle.sheet_rules.specs.Static.{bodyStatic, bodiesStatic, chartStati
 ghost use Rattle.sheet_types.specs.Table.{Table};
 ghost use Rattle.checker_reactions.specs.Entries.{Ready};
 
-fn body_static(
-    sheet: &[u8],
-    directory: &[usize; 16],
-    table: &[u16; 4096],
-    c: Record,
-    b: Record,
-) -> bool
+fn body_static(sheet: &[u8], directory: &Directory, table: &ByRecord, c: Record, b: Record) -> bool
     requires { ⌜ now directory ≡ directoryOf (now sheet) ⌝ }
     requires { ⌜ Table (now sheet) c (now table) ⌝ }
     ensures { λ x. ⌜ x ≡ bodyStatic (now (sheet .entry)) c b ⌝ }
@@ -33,10 +30,10 @@ fn body_static(
 
 fn bodies_static(
     sheet: &[u8],
-    directory: &[usize; 16],
-    table: &mut [u16; 4096],
-    last: &mut [u16; 4096],
-    previous: &mut [u16; 4096],
+    directory: &Directory,
+    table: &mut ByRecord,
+    last: &mut ByRecord,
+    previous: &mut ByRecord,
     c: Record,
 ) -> bool
     requires { ⌜ now directory ≡ directoryOf (now sheet) ⌝ }
@@ -49,7 +46,7 @@ fn bodies_static(
     let mut j: usize = 0;
     while j < count {
         let i = first + j;
-        let Found::Present(b) = sheet_reader::read(sheet, directory, 5, i) else {
+        let Found::Present(b) = sheet_reader::read(sheet, directory, BODIES, i) else {
             return false;
         };
         if !body_static(sheet, directory, table, c, b) {
@@ -66,10 +63,10 @@ fn bodies_static(
 
 pub fn chart_static(
     sheet: &[u8],
-    directory: &[usize; 16],
-    table: &mut [u16; 4096],
-    last: &mut [u16; 4096],
-    previous: &mut [u16; 4096],
+    directory: &Directory,
+    table: &mut ByRecord,
+    last: &mut ByRecord,
+    previous: &mut ByRecord,
     c: Record,
 ) -> bool
     requires { ⌜ now directory ≡ directoryOf (now sheet) ⌝ }

@@ -1,4 +1,7 @@
 // Marks of nodes: what a binding adds to the marks of its constants.
+use sheet::BINDINGS;
+use sheet::CHARTS;
+use sheet::Directory;
 use sheet::Found;
 use sheet::Record;
 ghost use mathlib.Core.Path.{_≡_};
@@ -26,7 +29,7 @@ fn mark_constants(marks: &mut [u16], count: usize, b: Record, n: usize)
 // A second record names n constants. How many records were gone over: one, if it is there.
 fn mark_second(
     sheet: &[u8],
-    directory: &[usize; 16],
+    directory: &Directory,
     marks: &mut [u16],
     count: usize,
     k: usize,
@@ -37,7 +40,7 @@ fn mark_second(
     requires { ⌜ n < 65536 ⌝ }
     ensures { λ x. ⌜ (x ≡ numberOr0 (recordOf (now (sheet .entry)) 7 k) (λ b. 1)) × (x ≤ 1) × Marked count 0 (now (marks .entry)) (now (marks .exit)) (λ m. numberOr0 (recordOf (now (sheet .entry)) 7 k) (λ b. constantsNamed b n m)) ⌝ }
 {
-    let Found::Present(b) = sheet_reader::read(sheet, directory, 7, k) else {
+    let Found::Present(b) = sheet_reader::read(sheet, directory, BINDINGS, k) else {
         return 0;
     };
     mark_constants(marks, count, b, n);
@@ -47,7 +50,7 @@ fn mark_second(
 // The element whose first binding record is k names its constants. How many records were gone over.
 pub fn mark_binding(
     sheet: &[u8],
-    directory: &[usize; 16],
+    directory: &Directory,
     marks: &mut [u16],
     count: usize,
     k: usize,
@@ -57,11 +60,11 @@ pub fn mark_binding(
     requires { ⌜ k < countOf (now sheet) 7 ⌝ }
     ensures { λ x. ⌜ (k + x ≡ goneTo (now (sheet .entry)) k) × (x ≤ 2) × Marked count 0 (now (marks .entry)) (now (marks .exit)) (λ n. constantUses (now (sheet .entry)) n k) ⌝ }
 {
-    let Found::Present(b) = sheet_reader::read(sheet, directory, 7, k) else {
+    let Found::Present(b) = sheet_reader::read(sheet, directory, BINDINGS, k) else {
         sheet_branches::never_taken();
         return 0;
     };
-    let total = sheet_fields::field_at(sheet, directory, 4, b.f0 as usize, 1);
+    let total = sheet_fields::field_at(sheet, directory, CHARTS, b.f0 as usize, 1);
     if total <= 7 {
         mark_constants(marks, count, b, total);
         return 1;

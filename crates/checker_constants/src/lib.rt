@@ -1,23 +1,26 @@
 // The constants of bindings have their parameters' types.
+use sheet::BINDINGS;
+use sheet::Directory;
 use sheet::Found;
+use sheet::NODES;
 use sheet::Record;
 ghost use mathlib.Core.Path.{_≡_};
 ghost use Prim.Native.Nat.{_≤_};
 ghost use Rattle.sheet.specs.Sheet.{directoryOf};
 ghost use Rattle.sheet_rules.specs.Static.{constantStatic, constantsStatic, bindingStatic, bindingsStatic};
 
-fn constant_static(sheet: &[u8], directory: &[usize; 16], n: usize, t: usize) -> bool
+fn constant_static(sheet: &[u8], directory: &Directory, n: usize, t: usize) -> bool
     requires { ⌜ now directory ≡ directoryOf (now sheet) ⌝ }
     ensures { λ x. ⌜ x ≡ constantStatic (now (sheet .entry)) n t ⌝ }
 {
-    let Found::Present(r) = sheet_reader::read(sheet, directory, 6, n) else {
+    let Found::Present(r) = sheet_reader::read(sheet, directory, NODES, n) else {
         return false;
     };
     sheet_types::literal_type(r) == t
 }
 
 // The constants of the element bound to chart c whose first record is k.
-fn constants_static(sheet: &[u8], directory: &[usize; 16], k: usize, c: Record) -> bool
+fn constants_static(sheet: &[u8], directory: &Directory, k: usize, c: Record) -> bool
     requires { ⌜ (now directory ≡ directoryOf (now sheet)) × (k ≤ 131072) ⌝ }
     ensures { λ x. ⌜ x ≡ constantsStatic (now (sheet .entry)) k c ⌝ }
 {
@@ -29,7 +32,7 @@ fn constants_static(sheet: &[u8], directory: &[usize; 16], k: usize, c: Record) 
         let Found::Present(b) = sheet_reader::read(
             sheet,
             directory,
-            7,
+            BINDINGS,
             sheet_bindings::constant_record(k, j),
         ) else {
             return false;
@@ -44,7 +47,7 @@ fn constants_static(sheet: &[u8], directory: &[usize; 16], k: usize, c: Record) 
 }
 
 // The records of the element whose first one is k.
-fn binding_static(sheet: &[u8], directory: &[usize; 16], k: usize) -> bool
+fn binding_static(sheet: &[u8], directory: &Directory, k: usize) -> bool
     requires { ⌜ (now directory ≡ directoryOf (now sheet)) × (k ≤ 131072) ⌝ }
     ensures { λ x. ⌜ x ≡ bindingStatic (now (sheet .entry)) k ⌝ }
 {
@@ -55,7 +58,7 @@ fn binding_static(sheet: &[u8], directory: &[usize; 16], k: usize) -> bool
 }
 
 // The whole section, element by element.
-pub fn bindings_static(sheet: &[u8], directory: &[usize; 16]) -> bool
+pub fn bindings_static(sheet: &[u8], directory: &Directory) -> bool
     requires { ⌜ now directory ≡ directoryOf (now sheet) ⌝ }
     ensures { λ x. ⌜ x ≡ bindingsStatic (now (sheet .entry)) ⌝ }
 {

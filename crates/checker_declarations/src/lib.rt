@@ -1,4 +1,6 @@
 // The shape of the head, enumerated types, declarations and telegram names.
+use sheet::DECLARATIONS;
+use sheet::Directory;
 use sheet::Record;
 ghost use mathlib.Core.Path.{_≡_};
 ghost use Rattle.sheet.specs.Sheet.{directoryOf};
@@ -40,7 +42,7 @@ pub fn enumerated_fits(r: Record) -> bool
     sheet_fields::zero_from(r, 2)
 }
 
-fn type_exists(sheet: &[u8], directory: &[usize; 16], t: usize) -> bool
+fn type_exists(sheet: &[u8], directory: &Directory, t: usize) -> bool
     requires { ⌜ now directory ≡ directoryOf (now sheet) ⌝ }
     ensures { λ b. ⌜ b ≡ typeExists (now (sheet .entry)) t ⌝ }
 {
@@ -53,7 +55,7 @@ fn type_exists(sheet: &[u8], directory: &[usize; 16], t: usize) -> bool
     t - 8 < sheet_reader::count_in(directory, 1)
 }
 
-pub fn declaration_fits(sheet: &[u8], directory: &[usize; 16], r: Record) -> bool
+pub fn declaration_fits(sheet: &[u8], directory: &Directory, r: Record) -> bool
     requires { ⌜ now directory ≡ directoryOf (now sheet) ⌝ }
     ensures { λ b. ⌜ b ≡ declarationShape (now (sheet .entry)) r ⌝ }
 {
@@ -66,11 +68,11 @@ pub fn declaration_fits(sheet: &[u8], directory: &[usize; 16], r: Record) -> boo
     sheet_fields::zero_from(r, 2)
 }
 
-pub fn name_fits(sheet: &[u8], directory: &[usize; 16], r: Record) -> bool
+pub fn name_fits(sheet: &[u8], directory: &Directory, r: Record) -> bool
     requires { ⌜ now directory ≡ directoryOf (now sheet) ⌝ }
     ensures { λ b. ⌜ b ≡ nameShape (now (sheet .entry)) r ⌝ }
 {
-    if !sheet_fields::in_section(sheet, directory, 2, r.f0, r.f1) {
+    if !sheet_fields::in_section(sheet, directory, DECLARATIONS, r.f0, r.f1) {
         return false;
     }
     if 4 < r.f1 {

@@ -1,5 +1,9 @@
 // Marks of nodes: what names a node, a body as its root or a node as an operand, adds to its mark.
+use sheet::BODIES;
+use sheet::CHARTS;
+use sheet::Directory;
 use sheet::Found;
+use sheet::NODES;
 use sheet::Record;
 use sheet_rules::Operands;
 ghost use mathlib.Core.Path.{_≡_};
@@ -51,7 +55,7 @@ pub fn mark(marks: &mut [u16], top: usize, n: usize, k: u16)
 // A body names its root. How many records were gone over: one, if it is there.
 fn mark_root(
     sheet: &[u8],
-    directory: &[usize; 16],
+    directory: &Directory,
     marks: &mut [u16],
     count: usize,
     number: usize,
@@ -62,7 +66,7 @@ fn mark_root(
     requires { ⌜ k < 16384 ⌝ }
     ensures { λ x. ⌜ (x ≡ numberOr0 (recordOf (now (sheet .entry)) 5 number) (λ b. 1)) × (x ≤ 1) × Marked count k (now (marks .entry)) (now (marks .exit)) (λ n. numberOr0 (recordOf (now (sheet .entry)) 5 number) (λ b. oneIf (eqb (root b) n))) ⌝ }
 {
-    let Found::Present(b) = sheet_reader::read(sheet, directory, 5, number) else {
+    let Found::Present(b) = sheet_reader::read(sheet, directory, BODIES, number) else {
         return 0;
     };
     mark(marks, count, b.f7 as usize, k);
@@ -72,7 +76,7 @@ fn mark_root(
 // The bodies of chart i name their roots. How many bodies were gone over.
 pub fn mark_chart(
     sheet: &[u8],
-    directory: &[usize; 16],
+    directory: &Directory,
     marks: &mut [u16],
     count: usize,
     i: usize,
@@ -81,7 +85,7 @@ pub fn mark_chart(
     requires { ⌜ count ≤ length (now marks) ⌝ }
     ensures { λ x. ⌜ (x ≡ numberOr0 (recordOf (now (sheet .entry)) 4 i) (overBodies (now (sheet .entry)) (λ b. 1))) × (x < 65536) × Marked count (i + 1) (now (marks .entry)) (now (marks .exit)) (λ n. numberOr0 (recordOf (now (sheet .entry)) 4 i) (rootUses (now (sheet .entry)) n)) ⌝ }
 {
-    let Found::Present(c) = sheet_reader::read(sheet, directory, 4, i) else {
+    let Found::Present(c) = sheet_reader::read(sheet, directory, CHARTS, i) else {
         return 0;
     };
     let k = (i + 1) as u16;
@@ -97,7 +101,7 @@ pub fn mark_chart(
 }
 
 // The chart of a home, one without bodies for none.
-fn home_chart(sheet: &[u8], directory: &[usize; 16], k: u16) -> Record
+fn home_chart(sheet: &[u8], directory: &Directory, k: u16) -> Record
     requires { ⌜ now directory ≡ directoryOf (now sheet) ⌝ }
     ensures { λ c. ⌜ c ≡ homeChart (now (sheet .entry)) k ⌝ }
 {
@@ -114,14 +118,14 @@ fn home_chart(sheet: &[u8], directory: &[usize; 16], k: u16) -> Record
     if k == 0 {
         return none;
     }
-    let Found::Present(c) = sheet_reader::read(sheet, directory, 4, k as usize - 1) else {
+    let Found::Present(c) = sheet_reader::read(sheet, directory, CHARTS, k as usize - 1) else {
         return none;
     };
     c
 }
 
 // Where the operands of a node with home k stand. Only those of a call depend on it.
-fn operands_at(sheet: &[u8], directory: &[usize; 16], k: u16, r: Record) -> Operands
+fn operands_at(sheet: &[u8], directory: &Directory, k: u16, r: Record) -> Operands
     requires { ⌜ now directory ≡ directoryOf (now sheet) ⌝ }
     ensures { λ o. ⌜ (o ≡ operandsOf (now (sheet .entry)) (homeChart (now (sheet .entry)) k) r) × Small o ⌝ }
 {
@@ -136,7 +140,7 @@ fn operands_at(sheet: &[u8], directory: &[usize; 16], k: u16, r: Record) -> Oper
 // Node m with home k names its operands. How many records were gone over.
 pub fn mark_operands(
     sheet: &[u8],
-    directory: &[usize; 16],
+    directory: &Directory,
     marks: &mut [u16],
     m: usize,
     k: u16,
@@ -146,7 +150,7 @@ pub fn mark_operands(
     requires { ⌜ k < 16384 ⌝ }
     ensures { λ x. ⌜ (x ≡ numberOr0 (recordOf (now (sheet .entry)) 6 m) (λ r. 1)) × (x ≤ 1) × Marked m k (now (marks .entry)) (now (marks .exit)) (operandUses (now (sheet .entry)) (homeChart (now (sheet .entry)) k) m) ⌝ }
 {
-    let Found::Present(r) = sheet_reader::read(sheet, directory, 6, m) else {
+    let Found::Present(r) = sheet_reader::read(sheet, directory, NODES, m) else {
         return 0;
     };
     let gone: usize = 1;

@@ -1,5 +1,7 @@
 // The fields of a node, form by form: what they number exists, and fields not named are 0.
+use sheet::Directory;
 use sheet::Found;
+use sheet::NAMES;
 use sheet::Record;
 ghost use mathlib.Core.Path.{_≡_};
 ghost use Prim.Native.Nat.{_+_};
@@ -51,18 +53,18 @@ pub fn chart_variable_fits(c: Record, r: Record, from: usize) -> bool
 }
 
 // A data field more than the name has is 0.
-pub fn send_fits(sheet: &[u8], directory: &[usize; 16], r: Record) -> bool
+pub fn send_fits(sheet: &[u8], directory: &Directory, r: Record) -> bool
     requires { ⌜ now directory ≡ directoryOf (now sheet) ⌝ }
     ensures { λ b. ⌜ b ≡ sendShape (now (sheet .entry)) r ⌝ }
 {
-    let Found::Present(n) = sheet_reader::read(sheet, directory, 3, r.f3 as usize) else {
+    let Found::Present(n) = sheet_reader::read(sheet, directory, NAMES, r.f3 as usize) else {
         return false;
     };
     sheet_fields::zero_from(r, 4 + n.f1 as usize)
 }
 
 // An internal send has neither component nor port.
-pub fn internal_fits(sheet: &[u8], directory: &[usize; 16], r: Record) -> bool
+pub fn internal_fits(sheet: &[u8], directory: &Directory, r: Record) -> bool
     requires { ⌜ now directory ≡ directoryOf (now sheet) ⌝ }
     ensures { λ x. ⌜ x ≡ eqb (r .f1) 0 and eqb (r .f2) 0 and sendShape (now (sheet .entry)) r ⌝ }
 {
@@ -75,7 +77,7 @@ pub fn internal_fits(sheet: &[u8], directory: &[usize; 16], r: Record) -> bool
     send_fits(sheet, directory, r)
 }
 
-pub fn arm_fits(sheet: &[u8], directory: &[usize; 16], c: Record, r: Record) -> bool
+pub fn arm_fits(sheet: &[u8], directory: &Directory, c: Record, r: Record) -> bool
     requires { ⌜ now directory ≡ directoryOf (now sheet) ⌝ }
     ensures { λ x. ⌜ x ≡ ltb (r .f1) (chartVariables c .count) and sendShape (now (sheet .entry)) r ⌝ }
 {
@@ -86,7 +88,7 @@ pub fn arm_fits(sheet: &[u8], directory: &[usize; 16], c: Record, r: Record) -> 
 }
 
 // A data field more than the called body has parameters is 0.
-pub fn call_fits(sheet: &[u8], directory: &[usize; 16], c: Record, r: Record) -> bool
+pub fn call_fits(sheet: &[u8], directory: &Directory, c: Record, r: Record) -> bool
     requires { ⌜ now directory ≡ directoryOf (now sheet) ⌝ }
     ensures { λ x. ⌜ x ≡ ltb (r .f1) (chartBodies c .count) and eqb (r .f2) 0 and eqb (r .f3) 0 and zeroFrom (4 + callData (now (sheet .entry)) c r) r ⌝ }
 {

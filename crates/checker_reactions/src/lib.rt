@@ -1,4 +1,7 @@
 // The internal reactions of a chart by name, in an array that holds a body's number plus 1, or 0.
+use sheet::BODIES;
+use sheet::ByRecord;
+use sheet::Directory;
 use sheet::Found;
 use sheet::Record;
 ghost use mathlib.Core.Path.{_≡_};
@@ -9,12 +12,12 @@ ghost use Rattle.sheet_types.specs.Table.{Table};
 ghost use Rattle.checker_reactions.specs.Entries.{Entries, Entered};
 
 // Enters body i in the table of internal reactions, if it is one.
-fn enter(sheet: &[u8], directory: &[usize; 16], table: &mut [u16; 4096], i: usize)
+fn enter(sheet: &[u8], directory: &Directory, table: &mut ByRecord, i: usize)
     requires { ⌜ now directory ≡ directoryOf (now sheet) ⌝ }
     requires { ⌜ length (now table) ≡ 4096 ⌝ }
     ensures { λ x. ⌜ Entered (now (sheet .entry)) reactsTo i (now (table .entry)) (now (table .exit)) ⌝ }
 {
-    let Found::Present(b) = sheet_reader::read(sheet, directory, 5, i) else {
+    let Found::Present(b) = sheet_reader::read(sheet, directory, BODIES, i) else {
         return;
     };
     if b.f0 != 3 {
@@ -29,7 +32,7 @@ fn enter(sheet: &[u8], directory: &[usize; 16], table: &mut [u16; 4096], i: usiz
 
 // Enters the internal reactions of chart c. What other charts left there stays: a body that is not
 // of this chart, or one that reacts to that name in it too.
-pub fn fill(sheet: &[u8], directory: &[usize; 16], table: &mut [u16; 4096], c: Record)
+pub fn fill(sheet: &[u8], directory: &Directory, table: &mut ByRecord, c: Record)
     requires { ⌜ now directory ≡ directoryOf (now sheet) ⌝ }
     requires { ⌜ Entries (now sheet) reactsTo (now table) ⌝ }
     ensures { λ x. ⌜ Entries (now (sheet .entry)) reactsTo (now (table .exit)) × Table (now (sheet .entry)) c (now (table .exit)) ⌝ }

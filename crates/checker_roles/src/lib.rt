@@ -1,4 +1,6 @@
 // Declaration ranges without clocks and arrays, and what a body's role asks of it.
+use sheet::BODIES;
+use sheet::Directory;
 use sheet::Found;
 use sheet::Range;
 use sheet::Record;
@@ -10,7 +12,7 @@ ghost use Rattle.sheet_rules.specs.Fields.{oneIf};
 ghost use Rattle.sheet_rules.specs.Static.{plainData, sameTypes, reactionStatic, roleStatic, bodiesWith, hasRole};
 
 // "clocks .. stand in no declaration range but chart variables", nor does an array.
-pub fn plain_data(sheet: &[u8], directory: &[usize; 16], g: Range) -> bool
+pub fn plain_data(sheet: &[u8], directory: &Directory, g: Range) -> bool
     requires { ⌜ (now directory ≡ directoryOf (now sheet)) × (g .first < 65536) × (g .count < 65536) ⌝ }
     ensures { λ b. ⌜ b ≡ plainData (now (sheet .entry)) g ⌝ }
 {
@@ -30,7 +32,7 @@ pub fn plain_data(sheet: &[u8], directory: &[usize; 16], g: Range) -> bool
 }
 
 // Whether two ranges of declarations have the same types in order.
-fn same_types(sheet: &[u8], directory: &[usize; 16], g: Range, h: Range) -> bool
+fn same_types(sheet: &[u8], directory: &Directory, g: Range, h: Range) -> bool
     requires { ⌜ (now directory ≡ directoryOf (now sheet)) × (g .first < 65536) × (g .count < 65536) × (h .first < 65536) ⌝ }
     ensures { λ b. ⌜ b ≡ sameTypes (now (sheet .entry)) g h ⌝ }
 {
@@ -70,7 +72,7 @@ pub fn locals(b: Record) -> Range
     }
 }
 
-fn reaction_static(sheet: &[u8], directory: &[usize; 16], b: Record) -> bool
+fn reaction_static(sheet: &[u8], directory: &Directory, b: Record) -> bool
     requires { ⌜ now directory ≡ directoryOf (now sheet) ⌝ }
     ensures { λ x. ⌜ x ≡ reactionStatic (now (sheet .entry)) b ⌝ }
 {
@@ -97,7 +99,7 @@ fn reaction_static(sheet: &[u8], directory: &[usize; 16], b: Record) -> bool
     )
 }
 
-pub fn role_static(sheet: &[u8], directory: &[usize; 16], b: Record) -> bool
+pub fn role_static(sheet: &[u8], directory: &Directory, b: Record) -> bool
     requires { ⌜ now directory ≡ directoryOf (now sheet) ⌝ }
     ensures { λ x. ⌜ x ≡ roleStatic (now (sheet .entry)) b ⌝ }
 {
@@ -110,7 +112,7 @@ pub fn role_static(sheet: &[u8], directory: &[usize; 16], b: Record) -> bool
 }
 
 // How many bodies of chart c have a role.
-pub fn bodies_with(sheet: &[u8], directory: &[usize; 16], c: Record, role: u16) -> usize
+pub fn bodies_with(sheet: &[u8], directory: &Directory, c: Record, role: u16) -> usize
     requires { ⌜ now directory ≡ directoryOf (now sheet) ⌝ }
     ensures { λ n. ⌜ n ≡ bodiesWith (now (sheet .entry)) c role ⌝ }
 {
@@ -126,11 +128,11 @@ pub fn bodies_with(sheet: &[u8], directory: &[usize; 16], c: Record, role: u16) 
 }
 
 // 1 if body i has a role, else 0.
-fn role_count(sheet: &[u8], directory: &[usize; 16], i: usize, role: u16) -> usize
+fn role_count(sheet: &[u8], directory: &Directory, i: usize, role: u16) -> usize
     requires { ⌜ now directory ≡ directoryOf (now sheet) ⌝ }
     ensures { λ x. ⌜ (x ≡ oneIf (hasRole (now (sheet .entry)) i role)) × (x ≤ 1) ⌝ }
 {
-    let Found::Present(b) = sheet_reader::read(sheet, directory, 5, i) else {
+    let Found::Present(b) = sheet_reader::read(sheet, directory, BODIES, i) else {
         return 0;
     };
     if b.f0 == role { 1 } else { 0 }

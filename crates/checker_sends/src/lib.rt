@@ -1,4 +1,6 @@
 // Sends, armings and calls as statements, by what their operands are and whether their data match.
+use sheet::ByRecord;
+use sheet::Directory;
 use sheet::Found;
 use sheet::Record;
 use sheet_rules::Typed;
@@ -20,7 +22,7 @@ fn in_chart(c: Record, e: u16) -> bool
 }
 
 // Whether chart c has an internal reaction to name n, by the table.
-fn has_reaction(table: &[u16; 4096], c: Record, n: u16) -> bool
+fn has_reaction(table: &ByRecord, c: Record, n: u16) -> bool
     requires { ⌜ length (now table) ≡ 4096 ⌝ }
     requires { ⌜ n < 4096 ⌝ }
     ensures { λ b. ⌜ b ≡ tabled c (getD (now (table .entry)) n 0) ⌝ }
@@ -28,13 +30,7 @@ fn has_reaction(table: &[u16; 4096], c: Record, n: u16) -> bool
     in_chart(c, table[n as usize])
 }
 
-fn internal_name(
-    sheet: &[u8],
-    directory: &[usize; 16],
-    table: &[u16; 4096],
-    c: Record,
-    n: u16,
-) -> bool
+fn internal_name(sheet: &[u8], directory: &Directory, table: &ByRecord, c: Record, n: u16) -> bool
     requires { ⌜ now directory ≡ directoryOf (now sheet) ⌝ }
     requires { ⌜ Table (now sheet) c (now table) ⌝ }
     ensures { λ b. ⌜ b ≡ internalName (now (sheet .entry)) c n ⌝ }
@@ -47,7 +43,7 @@ fn internal_name(
 
 pub fn external_type(
     sheet: &[u8],
-    directory: &[usize; 16],
+    directory: &Directory,
     r: Record,
     x: Typed,
     y: Typed,
@@ -73,8 +69,8 @@ pub fn external_type(
 
 pub fn internal_type(
     sheet: &[u8],
-    directory: &[usize; 16],
-    table: &[u16; 4096],
+    directory: &Directory,
+    table: &ByRecord,
     c: Record,
     r: Record,
     d: bool,
@@ -104,8 +100,8 @@ fn clock_of(op: u16) -> usize
 
 pub fn arm_type(
     sheet: &[u8],
-    directory: &[usize; 16],
-    table: &[u16; 4096],
+    directory: &Directory,
+    table: &ByRecord,
     c: Record,
     r: Record,
     x: Typed,
@@ -124,7 +120,7 @@ pub fn arm_type(
     internal_type(sheet, directory, table, c, r, d)
 }
 
-pub fn call_type(sheet: &[u8], directory: &[usize; 16], c: Record, r: Record, d: bool) -> Typed
+pub fn call_type(sheet: &[u8], directory: &Directory, c: Record, r: Record, d: bool) -> Typed
     requires { ⌜ now directory ≡ directoryOf (now sheet) ⌝ }
     ensures { λ t. ⌜ t ≡ callType (now (sheet .entry)) c r d ⌝ }
 {

@@ -1,4 +1,5 @@
 // The shape of a sheet, record by record.
+use sheet::Directory;
 use sheet::Found;
 use sheet::Record;
 ghost use mathlib.Core.Path.{_≡_};
@@ -6,7 +7,7 @@ ghost use Rattle.sheet.specs.Sheet.{directoryOf};
 ghost use Rattle.sheet_rules.specs.Shape.{recordShape, eachShape, sectionShape};
 ghost use Rattle.sheet_rules.specs.Check.{sectionsShape};
 
-fn record_fits(sheet: &[u8], directory: &[usize; 16], k: usize, i: usize, r: Record) -> bool
+fn record_fits(sheet: &[u8], directory: &Directory, k: usize, i: usize, r: Record) -> bool
     requires { ⌜ now directory ≡ directoryOf (now sheet) ⌝ }
     ensures { λ b. ⌜ b ≡ recordShape (now (sheet .entry)) k i r ⌝ }
 {
@@ -21,7 +22,7 @@ fn record_fits(sheet: &[u8], directory: &[usize; 16], k: usize, i: usize, r: Rec
     }
 }
 
-fn records_fit(sheet: &[u8], directory: &[usize; 16], k: usize) -> bool
+fn records_fit(sheet: &[u8], directory: &Directory, k: usize) -> bool
     requires { ⌜ now directory ≡ directoryOf (now sheet) ⌝ }
     ensures { λ b. ⌜ b ≡ eachShape (now (sheet .entry)) k ⌝ }
 {
@@ -40,7 +41,7 @@ fn records_fit(sheet: &[u8], directory: &[usize; 16], k: usize) -> bool
 }
 
 // Nodes are judged in the tree that they stand in, bindings element by element.
-fn section_fits(sheet: &[u8], directory: &[usize; 16], k: usize) -> bool
+fn section_fits(sheet: &[u8], directory: &Directory, k: usize) -> bool
     requires { ⌜ now directory ≡ directoryOf (now sheet) ⌝ }
     ensures { λ b. ⌜ b ≡ sectionShape (now (sheet .entry)) k ⌝ }
 {
@@ -53,7 +54,7 @@ fn section_fits(sheet: &[u8], directory: &[usize; 16], k: usize) -> bool
     records_fit(sheet, directory, k)
 }
 
-pub fn sections_fit(sheet: &[u8], directory: &[usize; 16]) -> bool
+pub fn sections_fit(sheet: &[u8], directory: &Directory) -> bool
     requires { ⌜ now directory ≡ directoryOf (now sheet) ⌝ }
     ensures { λ b. ⌜ b ≡ sectionsShape (now (sheet .entry)) ⌝ }
 {

@@ -1,5 +1,8 @@
 // The static rules beside the types of nodes.
+use sheet::ByRecord;
+use sheet::Directory;
 use sheet::Found;
+use sheet::RECORDS;
 use sheet::Range;
 use sheet::Record;
 ghost use mathlib.Core.Path.{_≡_};
@@ -19,7 +22,7 @@ fn declaration_static(r: Record) -> bool
     r.f1 == 0
 }
 
-fn name_static(sheet: &[u8], directory: &[usize; 16], r: Record) -> bool
+fn name_static(sheet: &[u8], directory: &Directory, r: Record) -> bool
     requires { ⌜ now directory ≡ directoryOf (now sheet) ⌝ }
     ensures { λ x. ⌜ x ≡ nameStatic (now (sheet .entry)) r ⌝ }
 {
@@ -32,10 +35,10 @@ fn name_static(sheet: &[u8], directory: &[usize; 16], r: Record) -> bool
 
 fn record_static(
     sheet: &[u8],
-    directory: &[usize; 16],
-    table: &mut [u16; 4096],
-    last: &mut [u16; 4096],
-    previous: &mut [u16; 4096],
+    directory: &Directory,
+    table: &mut ByRecord,
+    last: &mut ByRecord,
+    previous: &mut ByRecord,
     k: usize,
     r: Record,
 ) -> bool
@@ -53,10 +56,10 @@ fn record_static(
 
 fn records_static(
     sheet: &[u8],
-    directory: &[usize; 16],
-    table: &mut [u16; 4096],
-    last: &mut [u16; 4096],
-    previous: &mut [u16; 4096],
+    directory: &Directory,
+    table: &mut ByRecord,
+    last: &mut ByRecord,
+    previous: &mut ByRecord,
     k: usize,
 ) -> bool
     requires { ⌜ now directory ≡ directoryOf (now sheet) ⌝ }
@@ -80,10 +83,10 @@ fn records_static(
 // The rules for nodes go by trees; none is for a node by itself. Those for bindings go element by element.
 fn section_static(
     sheet: &[u8],
-    directory: &[usize; 16],
-    table: &mut [u16; 4096],
-    last: &mut [u16; 4096],
-    previous: &mut [u16; 4096],
+    directory: &Directory,
+    table: &mut ByRecord,
+    last: &mut ByRecord,
+    previous: &mut ByRecord,
     k: usize,
 ) -> bool
     requires { ⌜ now directory ≡ directoryOf (now sheet) ⌝ }
@@ -100,13 +103,13 @@ fn section_static(
 }
 
 // Whether every static rule holds.
-pub fn rules_hold(sheet: &[u8], directory: &[usize; 16]) -> bool
+pub fn rules_hold(sheet: &[u8], directory: &Directory) -> bool
     requires { ⌜ now directory ≡ directoryOf (now sheet) ⌝ }
     ensures { λ x. ⌜ x ≡ static (now (sheet .entry)) ⌝ }
 {
-    let mut table = [0u16; 4096];
-    let mut last = [0u16; 4096];
-    let mut previous = [0u16; 4096];
+    let mut table = [0u16; RECORDS];
+    let mut last = [0u16; RECORDS];
+    let mut previous = [0u16; RECORDS];
     let mut k: usize = 0;
     while k < 8 {
         if !section_static(sheet, directory, &mut table, &mut last, &mut previous, k) {

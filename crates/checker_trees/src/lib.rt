@@ -1,5 +1,9 @@
 // The shape of the trees of nodes.
+use sheet::BODIES;
+use sheet::CHARTS;
+use sheet::Directory;
 use sheet::Found;
+use sheet::NODES;
 use sheet::Record;
 ghost use mathlib.Core.Path.{_≡_};
 ghost use Rattle.sheet.specs.Sheet.{directoryOf};
@@ -8,7 +12,7 @@ ghost use Rattle.sheet_rules.specs.Shape.{fieldsShape, treeShape, treesShape};
 ghost use Rattle.sheet_rules.specs.Check.{nodesShape};
 
 // What the fields of a node number exists, and fields not named are 0.
-fn fields_fit(sheet: &[u8], directory: &[usize; 16], c: Record, b: Record, r: Record) -> bool
+fn fields_fit(sheet: &[u8], directory: &Directory, c: Record, b: Record, r: Record) -> bool
     requires { ⌜ now directory ≡ directoryOf (now sheet) ⌝ }
     ensures { λ x. ⌜ x ≡ fieldsShape (now (sheet .entry)) c b r (formOf (r .f0)) ⌝ }
 {
@@ -37,7 +41,7 @@ fn fields_fit(sheet: &[u8], directory: &[usize; 16], c: Record, b: Record, r: Re
 // The tree of a node has at most that many levels, and each node of it fits its chart and body.
 fn tree_fits(
     sheet: &[u8],
-    directory: &[usize; 16],
+    directory: &Directory,
     c: Record,
     b: Record,
     levels: usize,
@@ -49,7 +53,7 @@ fn tree_fits(
     if levels == 0 {
         return false;
     }
-    let Found::Present(r) = sheet_reader::read(sheet, directory, 6, n) else {
+    let Found::Present(r) = sheet_reader::read(sheet, directory, NODES, n) else {
         return false;
     };
     if !fields_fit(sheet, directory, c, b, r) {
@@ -72,7 +76,7 @@ fn tree_fits(
 }
 
 // The trees of the bodies of chart c.
-fn trees_fit(sheet: &[u8], directory: &[usize; 16], c: Record) -> bool
+fn trees_fit(sheet: &[u8], directory: &Directory, c: Record) -> bool
     requires { ⌜ now directory ≡ directoryOf (now sheet) ⌝ }
     ensures { λ x. ⌜ x ≡ treesShape (now (sheet .entry)) c ⌝ }
 {
@@ -80,7 +84,7 @@ fn trees_fit(sheet: &[u8], directory: &[usize; 16], c: Record) -> bool
     let count = c.f5 as usize;
     let mut j: usize = 0;
     while j < count {
-        let Found::Present(b) = sheet_reader::read(sheet, directory, 5, first + j) else {
+        let Found::Present(b) = sheet_reader::read(sheet, directory, BODIES, first + j) else {
             return false;
         };
         if !tree_fits(sheet, directory, c, b, 64, b.f7 as usize) {
@@ -92,14 +96,14 @@ fn trees_fit(sheet: &[u8], directory: &[usize; 16], c: Record) -> bool
 }
 
 // The trees of every chart's bodies.
-pub fn nodes_fit(sheet: &[u8], directory: &[usize; 16]) -> bool
+pub fn nodes_fit(sheet: &[u8], directory: &Directory) -> bool
     requires { ⌜ now directory ≡ directoryOf (now sheet) ⌝ }
     ensures { λ x. ⌜ x ≡ nodesShape (now (sheet .entry)) ⌝ }
 {
     let count = sheet_reader::count_in(directory, 4);
     let mut k: usize = 0;
     while k < count {
-        let Found::Present(c) = sheet_reader::read(sheet, directory, 4, k) else {
+        let Found::Present(c) = sheet_reader::read(sheet, directory, CHARTS, k) else {
             return false;
         };
         if !trees_fit(sheet, directory, c) {

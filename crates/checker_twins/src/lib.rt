@@ -1,5 +1,8 @@
 // Two reactions of a chart to the same: reactions by name, from the latest one back, in arrays that hold a
 // body's number plus 1, or 0.
+use sheet::BODIES;
+use sheet::ByRecord;
+use sheet::Directory;
 use sheet::Found;
 use sheet::Record;
 ghost use mathlib.Core.Path.{_≡_};
@@ -52,9 +55,9 @@ fn earlier(e: u16, i: usize) -> usize
 // to its name are compared, from the latest one back.
 pub fn no_twin(
     sheet: &[u8],
-    directory: &[usize; 16],
-    last: &[u16; 4096],
-    previous: &[u16; 4096],
+    directory: &Directory,
+    last: &ByRecord,
+    previous: &ByRecord,
     c: Record,
     j: usize,
     b: Record,
@@ -73,7 +76,7 @@ pub fn no_twin(
     let mut e = earlier(last[b.f2 as usize], first + j);
     while first < e {
         let i = e - 1;
-        let Found::Present(a) = sheet_reader::read(sheet, directory, 5, i) else {
+        let Found::Present(a) = sheet_reader::read(sheet, directory, BODIES, i) else {
             return false;
         };
         if same_reaction(a, b) {
@@ -85,7 +88,7 @@ pub fn no_twin(
 }
 
 // Enters body i, which is b, as the latest reaction to its name.
-pub fn link(last: &mut [u16; 4096], previous: &mut [u16; 4096], i: usize, b: Record)
+pub fn link(last: &mut ByRecord, previous: &mut ByRecord, i: usize, b: Record)
     requires { ⌜ (length (now last) ≡ 4096) × (length (now previous) ≡ 4096) × (i < 4096) ⌝ }
     requires { ⌜ (isReaction (b .f0) ≡ true → b .f2 < 4096) ⌝ }
     ensures { λ x. ⌜ Linked b i (now (last .entry)) (now (last .exit)) (now (previous .entry)) (now (previous .exit)) ⌝ }

@@ -1,5 +1,8 @@
 // The type of an expression, and what is a statement.
+use sheet::ByRecord;
+use sheet::Directory;
 use sheet::Found;
+use sheet::NODES;
 use sheet::Range;
 use sheet::Record;
 use sheet_rules::Typed;
@@ -12,8 +15,8 @@ ghost use Rattle.sheet_types.specs.Table.{Table};
 // What operand m of node n is: operands are lower.
 fn operand_type(
     sheet: &[u8],
-    directory: &[usize; 16],
-    table: &[u16; 4096],
+    directory: &Directory,
+    table: &ByRecord,
     c: Record,
     b: Record,
     n: usize,
@@ -33,8 +36,8 @@ fn operand_type(
 // Whether the data of node n match the types of a range.
 fn data_match(
     sheet: &[u8],
-    directory: &[usize; 16],
-    table: &[u16; 4096],
+    directory: &Directory,
+    table: &ByRecord,
     c: Record,
     b: Record,
     n: usize,
@@ -63,8 +66,8 @@ fn data_match(
 // What node n is in body b of chart c.
 pub fn type_of(
     sheet: &[u8],
-    directory: &[usize; 16],
-    table: &[u16; 4096],
+    directory: &Directory,
+    table: &ByRecord,
     c: Record,
     b: Record,
     n: usize,
@@ -73,7 +76,7 @@ pub fn type_of(
     requires { ⌜ Table (now sheet) c (now table) ⌝ }
     ensures { λ t. ⌜ t ≡ typeOf (now (sheet .entry)) c b n ⌝ }
 {
-    let Found::Present(r) = sheet_reader::read(sheet, directory, 6, n) else {
+    let Found::Present(r) = sheet_reader::read(sheet, directory, NODES, n) else {
         return Typed::Wrong;
     };
     let op = r.f0;

@@ -1,5 +1,6 @@
 // Each node is used exactly once: one pass over bodies, bindings and nodes, with a mark for each node.
 use checker_pass::Tested;
+use sheet::Directory;
 ghost use mathlib.Core.Path.{_≡_};
 ghost use Prim.Native.Nat.{ℕ, _≤_, _<_};
 ghost use lib.ListN.{length, getD};
@@ -23,7 +24,7 @@ fn clear(marks: &mut [u16], count: usize)
 }
 
 // All bodies name their roots. How many bodies were gone over.
-fn mark_charts(sheet: &[u8], directory: &[usize; 16], marks: &mut [u16], count: usize) -> usize
+fn mark_charts(sheet: &[u8], directory: &Directory, marks: &mut [u16], count: usize) -> usize
     requires { ⌜ now directory ≡ directoryOf (now sheet) ⌝ }
     requires { ⌜ count ≤ length (now marks) ⌝ }
     requires { ⌜ ((n : ℕ) → n < count → getD (now marks) n 0 ≡ 0) ⌝ }
@@ -41,7 +42,7 @@ fn mark_charts(sheet: &[u8], directory: &[usize; 16], marks: &mut [u16], count: 
 
 // All bindings name their constants. How many binding records were gone over: the number of the next one
 // tells it.
-fn mark_bindings(sheet: &[u8], directory: &[usize; 16], marks: &mut [u16], count: usize) -> usize
+fn mark_bindings(sheet: &[u8], directory: &Directory, marks: &mut [u16], count: usize) -> usize
     requires { ⌜ now directory ≡ directoryOf (now sheet) ⌝ }
     requires { ⌜ count ≤ length (now marks) ⌝ }
     ensures { λ x. ⌜ (x ≡ countOf (now (sheet .entry)) 7) × Marked count 0 (now (marks .entry)) (now (marks .exit)) (λ n. overBindings (now (sheet .entry)) (constantUses (now (sheet .entry)) n)) ⌝ }
@@ -66,7 +67,7 @@ fn still_once(once: bool, used: u16) -> bool
 
 // Whether each node is used exactly once. A mark for each node is lent, whatever it holds, and ends as 0, 1 or 2.
 // Operands are lower, so going down from the last node, whatever uses a node has been gone over before it.
-pub fn used_once(sheet: &[u8], directory: &[usize; 16], marks: &mut [u16]) -> Tested
+pub fn used_once(sheet: &[u8], directory: &Directory, marks: &mut [u16]) -> Tested
     requires { ⌜ now directory ≡ directoryOf (now sheet) ⌝ }
     requires { ⌜ countOf (now sheet) 6 ≤ length (now marks) ⌝ }
     ensures { λ t. ⌜ TestGives (now (sheet .entry)) (now (marks .entry)) (now (marks .exit)) t ⌝ }

@@ -1,5 +1,6 @@
 // What a node that names a variable is, armings and elements of arrays aside: an expression of a type, a
 // statement, or wrong.
+use sheet::Directory;
 use sheet::Record;
 use sheet_rules::Typed;
 ghost use mathlib.Core.Path.{_≡_};
@@ -7,7 +8,7 @@ ghost use Rattle.sheet.specs.Sheet.{directoryOf};
 ghost use Rattle.sheet_rules.specs.Types.{readType, clockType, assignType, clockActType};
 
 // "operators 7 and 33 don't take an array"
-pub fn read_type(sheet: &[u8], directory: &[usize; 16], c: Record, b: Record, r: Record) -> Typed
+pub fn read_type(sheet: &[u8], directory: &Directory, c: Record, b: Record, r: Record) -> Typed
     requires { ⌜ now directory ≡ directoryOf (now sheet) ⌝ }
     ensures { λ t. ⌜ t ≡ readType (now (sheet .entry)) c b r ⌝ }
 {
@@ -22,7 +23,7 @@ pub fn read_type(sheet: &[u8], directory: &[usize; 16], c: Record, b: Record, r:
     Typed::Expression(t)
 }
 
-pub fn clock_type(sheet: &[u8], directory: &[usize; 16], c: Record, r: Record) -> Typed
+pub fn clock_type(sheet: &[u8], directory: &Directory, c: Record, r: Record) -> Typed
     requires { ⌜ now directory ≡ directoryOf (now sheet) ⌝ }
     ensures { λ t. ⌜ t ≡ clockType (now (sheet .entry)) c r ⌝ }
 {
@@ -37,7 +38,7 @@ pub fn clock_type(sheet: &[u8], directory: &[usize; 16], c: Record, r: Record) -
 
 pub fn assign_type(
     sheet: &[u8],
-    directory: &[usize; 16],
+    directory: &Directory,
     c: Record,
     b: Record,
     r: Record,
@@ -59,7 +60,7 @@ pub fn assign_type(
     Typed::Statement
 }
 
-pub fn clock_act_type(sheet: &[u8], directory: &[usize; 16], c: Record, r: Record) -> Typed
+pub fn clock_act_type(sheet: &[u8], directory: &Directory, c: Record, r: Record) -> Typed
     requires { ⌜ now directory ≡ directoryOf (now sheet) ⌝ }
     ensures { λ t. ⌜ t ≡ clockActType (now (sheet .entry)) c r ⌝ }
 {

@@ -1,6 +1,9 @@
 // Plays: start, one event, and one event after another.
 use engine_bodies::answered;
+use engine_cells::CellLayout;
+use engine_cells::LAYOUT;
 use machine::Answer;
+use sheet::Directory;
 use sheet_rules::Checked;
 ghost use mathlib.Core.Path.{_≡_};
 ghost use lib.ListN.{length};
@@ -17,8 +20,8 @@ ghost use Rattle.machine.specs.Play.{limitOf};
 // on; `spare` is a second state's room, used where there may be work to undo.
 pub fn next(
     sheet: &[u8],
-    directory: &[usize; 16],
-    cells: &[usize; 2176],
+    directory: &Directory,
+    cells: &CellLayout,
     st: &mut [i32],
     spare: &mut [i32],
     ev: &[i32],
@@ -48,7 +51,7 @@ pub fn event(sheet: &[u8], old: &[i32], result: &mut [i32], ev: &[i32]) -> Answe
 
 fn on_passed(
     sheet: &[u8],
-    directory: &[usize; 16],
+    directory: &Directory,
     old: &[i32],
     result: &mut [i32],
     ev: &[i32],
@@ -56,7 +59,7 @@ fn on_passed(
     requires { ⌜ (now directory ≡ directoryOf (now sheet)) × (checkOf (now sheet) ≡ Passed) ⌝ }
     ensures { λ a. ⌜ EventGives (now (sheet .entry)) (limitOf (now (sheet .entry))) (now (old .entry)) (now (result .entry)) (now (ev .entry)) a (now (result .exit)) ⌝ }
 {
-    let mut cells = [0usize; 2176];
+    let mut cells = [0usize; LAYOUT];
     let count = engine_cells::fill(sheet, directory, &mut cells);
     if !engine_lengths::is_state(count, old.len()) {
         return answered(3, 0);
@@ -77,7 +80,7 @@ fn on_passed(
 }
 
 // Start on a passed sheet.
-pub fn begin(sheet: &[u8], directory: &[usize; 16], cells: &[usize; 2176], st: &mut [i32]) -> Answer
+pub fn begin(sheet: &[u8], directory: &Directory, cells: &CellLayout, st: &mut [i32]) -> Answer
     requires { ⌜ Lent (now sheet) (now directory) (now cells) (now st) ⌝ }
     ensures { λ a. ⌜ StartGives (now (sheet .entry)) (limitOf (now (sheet .entry))) (now (st .entry)) a (now (st .exit)) ⌝ }
 {
@@ -96,11 +99,11 @@ pub fn start(sheet: &[u8], result: &mut [i32]) -> Answer
     }
 }
 
-fn start_passed(sheet: &[u8], directory: &[usize; 16], result: &mut [i32]) -> Answer
+fn start_passed(sheet: &[u8], directory: &Directory, result: &mut [i32]) -> Answer
     requires { ⌜ (now directory ≡ directoryOf (now sheet)) × (checkOf (now sheet) ≡ Passed) ⌝ }
     ensures { λ a. ⌜ StartGives (now (sheet .entry)) (limitOf (now (sheet .entry))) (now (result .entry)) a (now (result .exit)) ⌝ }
 {
-    let mut cells = [0usize; 2176];
+    let mut cells = [0usize; LAYOUT];
     let count = engine_cells::fill(sheet, directory, &mut cells);
     if !engine_lengths::is_state(count, result.len()) {
         return answered(3, 0);

@@ -1,7 +1,12 @@
 // Clocks armed, started and stopped.
+use engine_context::Frame;
+use engine_context::Locals;
 use engine_ints::Work;
+use machine::DATA;
 use machine::Ran;
+use sheet::Directory;
 use sheet::Found;
+use sheet::NAMES;
 use sheet::Range;
 use sheet::Record;
 ghost use mathlib.Core.Path.{_≡_};
@@ -27,10 +32,10 @@ fn first_value(op: u16, period: i32) -> i32
 // "period below 1": 7.
 fn arm_with(
     sheet: &[u8],
-    directory: &[usize; 16],
-    context: &[usize; 38],
+    directory: &Directory,
+    context: &Frame,
     st: &mut [i32],
-    lo: &[i32; 16],
+    lo: &Locals,
     n: usize,
     r: Record,
     a: Record,
@@ -40,7 +45,7 @@ fn arm_with(
     requires { ⌜ (now directory ≡ directoryOf (now sheet)) × Visit (now sheet) (now context) (now st) (now lo) n r arm × (recordOf (now sheet) 3 (r .f3) ≡ Present a) ⌝ }
     ensures { λ o. ⌜ world o (now (st .exit)) (now (lo .entry)) ≡ armedWith (now (sheet .entry)) (now (context .entry)) (now (st .entry)) (now (lo .entry)) r a period left ⌝ }
 {
-    let mut d = [0i32; 4];
+    let mut d = [0i32; DATA];
     let g = Range {
         first: a.f0 as usize,
         count: a.f1 as usize,
@@ -69,10 +74,10 @@ fn arm_with(
 
 pub fn arming(
     sheet: &[u8],
-    directory: &[usize; 16],
-    context: &[usize; 38],
+    directory: &Directory,
+    context: &Frame,
     st: &mut [i32],
-    lo: &[i32; 16],
+    lo: &Locals,
     n: usize,
     r: Record,
     left: u32,
@@ -80,7 +85,7 @@ pub fn arming(
     requires { ⌜ (now directory ≡ directoryOf (now sheet)) × Visit (now sheet) (now context) (now st) (now lo) n r arm ⌝ }
     ensures { λ o. ⌜ ((depth : ℕ) → world o (now (st .exit)) (now (lo .entry)) ≡ runOf (now (sheet .entry)) depth (contextAt (now (sheet .entry)) (now (context .entry))) n (suc left) (now (st .entry)) (now (lo .entry))) ⌝ }
 {
-    let Found::Present(a) = sheet_reader::read(sheet, directory, 3, r.f3 as usize) else {
+    let Found::Present(a) = sheet_reader::read(sheet, directory, NAMES, r.f3 as usize) else {
         return Ran::Stuck;
     };
     let x = engine_expressions::eval(sheet, directory, context, st, lo, r.f2 as usize, left);
@@ -94,7 +99,7 @@ pub fn arming(
 }
 
 // "38 start Timer, 39 stop any clock"
-pub fn clock(context: &[usize; 38], st: &mut [i32], r: Record, left: u32) -> Ran
+pub fn clock(context: &Frame, st: &mut [i32], r: Record, left: u32) -> Ran
     requires { ⌜ Lies (now context) (now st) (r .f1) ⌝ }
     ensures { λ o. ⌜ ((s : List ℕ) (lo : List ℤ) (n depth : ℕ) → Visit s (now (context .entry)) (now (st .entry)) lo n r clockAct → world o (now (st .exit)) lo ≡ runOf s depth (contextAt s (now (context .entry))) n (suc left) (now (st .entry)) lo) ⌝ }
 {

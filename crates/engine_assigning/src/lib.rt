@@ -1,7 +1,10 @@
 // Values assigned to variables and to elements of arrays.
+use engine_context::Frame;
+use engine_context::Locals;
 use engine_context::Place;
 use engine_ints::Work;
 use machine::Ran;
+use sheet::Directory;
 use sheet::Record;
 ghost use mathlib.Core.Path.{_≡_};
 ghost use mathlib.Core.List.{List};
@@ -20,9 +23,9 @@ ghost use Rattle.engine_data.specs.Visit.{Visit};
 
 // A value to a plain variable: place 1 of the chart, 2 of the body.
 fn put(
-    context: &[usize; 38],
+    context: &Frame,
     st: &mut [i32],
-    lo: &mut [i32; 16],
+    lo: &mut Locals,
     place: u16,
     number: u16,
     z: i32,
@@ -47,10 +50,10 @@ fn put(
 
 pub fn assign(
     sheet: &[u8],
-    directory: &[usize; 16],
-    context: &[usize; 38],
+    directory: &Directory,
+    context: &Frame,
     st: &mut [i32],
-    lo: &mut [i32; 16],
+    lo: &mut Locals,
     n: usize,
     r: Record,
     left: u32,
@@ -67,7 +70,7 @@ pub fn assign(
 }
 
 // A value to the element of array n at index i; "11, index outside its number".
-fn put_element(context: &[usize; 38], st: &mut [i32], n: usize, i: i32, z: i32, left: u32) -> Ran
+fn put_element(context: &Frame, st: &mut [i32], n: usize, i: i32, z: i32, left: u32) -> Ran
     requires { ⌜ Reaches (now context) (now st) n ⌝ }
     ensures { λ r. ⌜ ((lo : List ℤ) → world r (now (st .exit)) lo ≡ putAt (leadsTo (now (context .entry)) n i) z left (now (st .entry)) lo) ⌝ }
 {
@@ -84,10 +87,10 @@ fn put_element(context: &[usize; 38], st: &mut [i32], n: usize, i: i32, z: i32, 
 // "assign (44: f1 variable, f2 index, f3 value) an element"
 pub fn assign_element(
     sheet: &[u8],
-    directory: &[usize; 16],
-    context: &[usize; 38],
+    directory: &Directory,
+    context: &Frame,
     st: &mut [i32],
-    lo: &[i32; 16],
+    lo: &Locals,
     n: usize,
     r: Record,
     left: u32,

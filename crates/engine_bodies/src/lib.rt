@@ -1,9 +1,15 @@
 // Runs a body of an element, for start and for events.
+use engine_cells::CellLayout;
 use engine_cells::FIRST_RECORD;
+use engine_cells::ROW;
 use machine::Answer;
+use machine::Data;
 use machine::Handed;
 use machine::Ran;
+use sheet::BODIES;
+use sheet::Directory;
 use sheet::Found;
+use sheet::HEAD;
 use sheet::Record;
 ghost use mathlib.Core.Path.{_≡_};
 ghost use lib.ListN.{length};
@@ -15,22 +21,22 @@ ghost use Rattle.engine_bodies.specs.Bodies.{ToRun};
 // Body number of section 5 runs for element e, whose chart c is number n, with data for its parameters.
 pub fn run_body(
     sheet: &[u8],
-    directory: &[usize; 16],
-    cells: &[usize; 2176],
+    directory: &Directory,
+    cells: &CellLayout,
     st: &mut [i32],
     e: usize,
     n: usize,
     c: Record,
     number: usize,
-    d: &[i32; 4],
+    d: &Data,
     limit: u32,
 ) -> Ran
     requires { ⌜ ToRun (now sheet) (now directory) (now cells) (now st) e n c number (now d) × (limit ≡ limitOf (now sheet)) ⌝ }
     ensures { λ r. ⌜ (r ≡ ranBody (now (sheet .entry)) (limitOf (now (sheet .entry))) e (recordOf (now (sheet .entry)) 5 number) (now (d .entry)) (now (st .entry)) .ran) × (now (st .exit) ≡ ranBody (now (sheet .entry)) (limitOf (now (sheet .entry))) e (recordOf (now (sheet .entry)) 5 number) (now (d .entry)) (now (st .entry)) .st) ⌝ }
 {
-    let i = e - sheet_fields::field_at(sheet, directory, 0, 0, 1);
-    let k = cells[34 * i + FIRST_RECORD];
-    let Found::Present(body) = sheet_reader::read(sheet, directory, 5, number) else {
+    let i = e - sheet_fields::field_at(sheet, directory, HEAD, 0, 1);
+    let k = cells[ROW * i + FIRST_RECORD];
+    let Found::Present(body) = sheet_reader::read(sheet, directory, BODIES, number) else {
         sheet_branches::never_taken();
         return Ran::Stuck;
     };
@@ -75,15 +81,15 @@ fn answer(old: &[i32], st: &mut [i32], number: u8, steps: u32) -> Answer
 // An event's answer where a body runs for it: the steps are those used, and what is refused is undone.
 pub fn event_body(
     sheet: &[u8],
-    directory: &[usize; 16],
-    cells: &[usize; 2176],
+    directory: &Directory,
+    cells: &CellLayout,
     old: &[i32],
     st: &mut [i32],
     e: usize,
     n: usize,
     c: Record,
     number: usize,
-    d: &[i32; 4],
+    d: &Data,
 ) -> Answer
     requires { ⌜ ToRun (now sheet) (now directory) (now cells) (now st) e n c number (now d) × (length (now old) ≡ length (now st)) ⌝ }
     ensures { λ a. ⌜ ended a (now (st .exit)) ≡ bodyEvent (now (sheet .entry)) (limitOf (now (sheet .entry))) (now (old .entry)) e (recordOf (now (sheet .entry)) 5 number) (now (d .entry)) (now (st .entry)) ⌝ }

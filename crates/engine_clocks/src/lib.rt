@@ -1,5 +1,9 @@
 // A time slice: clocks in state order, one pass.
+use engine_cells::CellLayout;
+use engine_cells::ROW;
+use sheet::Directory;
 use sheet::Found;
+use sheet::HEAD;
 use sheet::Record;
 ghost use mathlib.Core.Path.{_≡_};
 ghost use Prim.Native.Nat.{ℕ, _+_, _<_, _≤_};
@@ -22,7 +26,7 @@ ghost use Rattle.engine_clocks.specs.Cells.{Cell, Cells};
 // "stopped ones passed over": a word that is 0 needs no look at its type.
 fn slice_cell(
     sheet: &[u8],
-    directory: &[usize; 16],
+    directory: &Directory,
     st: &mut [i32],
     e: usize,
     d: usize,
@@ -52,8 +56,8 @@ fn slice_cell(
 // looked at by its first cell alone: an array has no clocks, and its cells are passed over.
 fn slice_cells(
     sheet: &[u8],
-    directory: &[usize; 16],
-    cells: &[usize; 2176],
+    directory: &Directory,
+    cells: &CellLayout,
     st: &mut [i32],
     e: usize,
     c: Record,
@@ -75,11 +79,11 @@ fn slice_cells(
 }
 
 // A slice: 0 with the state after it, or 6, 8 or 12 with a state that is of no use.
-pub fn slice(sheet: &[u8], directory: &[usize; 16], cells: &[usize; 2176], st: &mut [i32]) -> u8
+pub fn slice(sheet: &[u8], directory: &Directory, cells: &CellLayout, st: &mut [i32]) -> u8
     requires { ⌜ (now directory ≡ directoryOf (now sheet)) × (checkOf (now sheet) ≡ Passed) × CellTable (now sheet) (now cells) × OfSheet (now sheet) (now st) ⌝ }
     ensures { λ n. ⌜ slicedFrom (now (sheet .entry)) (elementsOf (now (sheet .entry))) (externalsOf (now (sheet .entry))) (now (st .entry)) ≡ changedTo n (now (st .exit)) ⌝ }
 {
-    let first = sheet_fields::field_at(sheet, directory, 0, 0, 1);
+    let first = sheet_fields::field_at(sheet, directory, HEAD, 0, 1);
     let count = engine_cells::elements(sheet, directory);
     let mut i: usize = 0;
     while i < count {
@@ -87,7 +91,7 @@ pub fn slice(sheet: &[u8], directory: &[usize; 16], cells: &[usize; 2176], st: &
             sheet_branches::never_taken();
             return 4;
         };
-        let n = slice_cells(sheet, directory, cells, st, first + i, c, 34 * i);
+        let n = slice_cells(sheet, directory, cells, st, first + i, c, ROW * i);
         if n != 0 {
             return n;
         }

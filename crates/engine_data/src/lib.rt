@@ -1,6 +1,10 @@
 // Data worked out.
+use engine_context::Frame;
+use engine_context::Locals;
 use engine_ints::Work;
+use machine::Data;
 use machine::Ran;
+use sheet::Directory;
 use sheet::Range;
 use sheet::Record;
 ghost use mathlib.Core.Path.{_≡_};
@@ -16,13 +20,13 @@ ghost use Rattle.engine_data.specs.Data.{dataAt};
 // The data of a node, for the declarations of a range, into four words.
 pub fn gather(
     sheet: &[u8],
-    directory: &[usize; 16],
-    context: &[usize; 38],
+    directory: &Directory,
+    context: &Frame,
     st: &[i32],
-    lo: &[i32; 16],
+    lo: &Locals,
     r: Record,
     g: Range,
-    into: &mut [i32; 4],
+    into: &mut Data,
     left: u32,
 ) -> Ran
     requires { ⌜ (now directory ≡ directoryOf (now sheet)) × Ready (now sheet) (now context) (now st) (now lo) × HasData (now sheet) (now context) (now st) (now lo) r g × (g .count ≤ 4) × (now into ≡ fourWords []) ⌝ }

@@ -1,4 +1,9 @@
 // What runs begin with: default values, a body's fresh variables, the state of start.
+use engine_context::LOCALS;
+use engine_context::Locals;
+use machine::Data;
+use sheet::Directory;
+use sheet::ENUMERATED_TYPES;
 use sheet::Found;
 use sheet::Record;
 ghost use mathlib.Core.Path.{_≡_};
@@ -18,18 +23,18 @@ ghost use Rattle.sheet_rules.specs.Check.{checkOf};
 ghost use Rattle.engine_cells.specs.Lent.{CellsIn};
 
 // "Defaults: false, 0, Log, log, the declared member, a stopped clock"
-fn default_of(sheet: &[u8], directory: &[usize; 16], t: usize) -> i32
+fn default_of(sheet: &[u8], directory: &Directory, t: usize) -> i32
     requires { ⌜ now directory ≡ directoryOf (now sheet) ⌝ }
     ensures { λ z. ⌜ z ≡ defaultOf (now (sheet .entry)) t ⌝ }
 {
     if t < 8 {
         return 0;
     }
-    sheet_fields::field_at(sheet, directory, 1, t - 8, 1) as i32
+    sheet_fields::field_at(sheet, directory, ENUMERATED_TYPES, t - 8, 1) as i32
 }
 
 // Variable i of a body that begins to run.
-fn local_at(sheet: &[u8], directory: &[usize; 16], b: Record, d: &[i32; 4], i: usize) -> i32
+fn local_at(sheet: &[u8], directory: &Directory, b: Record, d: &Data, i: usize) -> i32
     requires { ⌜ (now directory ≡ directoryOf (now sheet)) × (bodyParameters b .count ≤ 4) × (i < bodyParameters b .count + bodyLocals b .count) ⌝ }
     ensures { λ z. ⌜ z ≡ localAt (now (sheet .entry)) b (now (d .entry)) i ⌝ }
 {
@@ -42,12 +47,12 @@ fn local_at(sheet: &[u8], directory: &[usize; 16], b: Record, d: &[i32; 4], i: u
 }
 
 // The variables of a body that begins to run: parameters from data, then "fresh default locals".
-pub fn fresh_locals(sheet: &[u8], directory: &[usize; 16], b: Record, d: &[i32; 4]) -> [i32; 16]
+pub fn fresh_locals(sheet: &[u8], directory: &Directory, b: Record, d: &Data) -> Locals
     requires { ⌜ (now directory ≡ directoryOf (now sheet)) × (bodyParameters b .count ≤ 4) × (bodyParameters b .count + bodyLocals b .count ≤ 16) ⌝ }
     ensures { λ r. ⌜ r ≡ localsOf (now (sheet .entry)) b (now (d .entry)) ⌝ }
 {
     let count = b.f4 as usize + b.f6 as usize;
-    let mut locals = [0i32; 16];
+    let mut locals = [0i32; LOCALS];
     let mut i: usize = 0;
     while i < count {
         let z = local_at(sheet, directory, b, d, i);
@@ -72,7 +77,7 @@ fn cells_alike(st: &mut [i32], cell: usize, n: usize, z: i32)
 // The default cells of a chart's variables, from a cell on, whatever stood there, and the cell behind them.
 fn default_cells(
     sheet: &[u8],
-    directory: &[usize; 16],
+    directory: &Directory,
     st: &mut [i32],
     c: Record,
     cell: usize,
@@ -96,7 +101,7 @@ fn default_cells(
 }
 
 // "all defaults, nothing waiting"
-pub fn default_state(sheet: &[u8], directory: &[usize; 16], st: &mut [i32])
+pub fn default_state(sheet: &[u8], directory: &Directory, st: &mut [i32])
     requires { ⌜ (now directory ≡ directoryOf (now sheet)) × (checkOf (now sheet) ≡ Passed) × (length (now st) ≡ stateLength (now sheet)) ⌝ }
     ensures { λ _. ⌜ now (st .exit) ≡ defaultState (now (sheet .entry)) ⌝ }
 {

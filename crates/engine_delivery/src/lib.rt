@@ -1,9 +1,13 @@
 // A telegram that an event took goes to its receiver: it is handed outside, or a body of a bound
 // element runs.
 use engine_bodies::answered;
+use engine_cells::CellLayout;
 use machine::Answer;
+use machine::DATA;
 use machine::Handed;
 use machine::Telegram;
+use sheet::CHARTS;
+use sheet::Directory;
 use sheet::Found;
 use sheet::Record;
 ghost use mathlib.Core.Bool.{true, false};
@@ -23,8 +27,8 @@ ghost use Rattle.engine_cells.specs.Playing.{Playing};
 // Runs the panic body of element e, whose chart c is number n.
 fn run_panic_body(
     sheet: &[u8],
-    directory: &[usize; 16],
-    cells: &[usize; 2176],
+    directory: &Directory,
+    cells: &CellLayout,
     old: &[i32],
     st: &mut [i32],
     e: usize,
@@ -35,7 +39,7 @@ fn run_panic_body(
     ensures { λ a. ⌜ ended a (now (st .exit)) ≡ panicking (now (sheet .entry)) (limitOf (now (sheet .entry))) (now (old .entry)) e (now (st .entry)) ⌝ }
 {
     let j = engine_finders::with_role(sheet, directory, c, 1);
-    let none = [0i32; 4];
+    let none = [0i32; DATA];
     engine_bodies::event_body(
         sheet,
         directory,
@@ -53,8 +57,8 @@ fn run_panic_body(
 // 3: "as 2 with bound r, but the panic body runs": that of element e.
 pub fn panicked(
     sheet: &[u8],
-    directory: &[usize; 16],
-    cells: &[usize; 2176],
+    directory: &Directory,
+    cells: &CellLayout,
     old: &[i32],
     st: &mut [i32],
     e: usize,
@@ -63,7 +67,7 @@ pub fn panicked(
     ensures { λ a. ⌜ ended a (now (st .exit)) ≡ panicking (now (sheet .entry)) (limitOf (now (sheet .entry))) (now (old .entry)) e (now (st .entry)) ⌝ }
 {
     let n = engine_cells::chart_number(sheet, directory, cells, e);
-    let Found::Present(c) = sheet_reader::read(sheet, directory, 4, n) else {
+    let Found::Present(c) = sheet_reader::read(sheet, directory, CHARTS, n) else {
         sheet_branches::never_taken();
         return answered(4, 0);
     };
@@ -73,8 +77,8 @@ pub fn panicked(
 // A telegram that was removed reaches a bound element.
 fn deliver_to_element(
     sheet: &[u8],
-    directory: &[usize; 16],
-    cells: &[usize; 2176],
+    directory: &Directory,
+    cells: &CellLayout,
     old: &[i32],
     st: &mut [i32],
     t: Telegram,
@@ -84,7 +88,7 @@ fn deliver_to_element(
 {
     let e = engine_valid_words::number(t.receiver);
     let n = engine_cells::chart_number(sheet, directory, cells, e);
-    let Found::Present(c) = sheet_reader::read(sheet, directory, 4, n) else {
+    let Found::Present(c) = sheet_reader::read(sheet, directory, CHARTS, n) else {
         sheet_branches::never_taken();
         return answered(4, 0);
     };
@@ -129,8 +133,8 @@ fn handed(t: Telegram) -> Answer
 // without one the panic body."
 pub fn delivers(
     sheet: &[u8],
-    directory: &[usize; 16],
-    cells: &[usize; 2176],
+    directory: &Directory,
+    cells: &CellLayout,
     old: &[i32],
     st: &mut [i32],
     t: Telegram,
@@ -147,8 +151,8 @@ pub fn delivers(
 // 4: an internal telegram that was removed: "its reaction runs"
 pub fn reacts(
     sheet: &[u8],
-    directory: &[usize; 16],
-    cells: &[usize; 2176],
+    directory: &Directory,
+    cells: &CellLayout,
     old: &[i32],
     st: &mut [i32],
     t: Telegram,
@@ -158,7 +162,7 @@ pub fn reacts(
 {
     let e = engine_valid_words::number(t.receiver);
     let n = engine_cells::chart_number(sheet, directory, cells, e);
-    let Found::Present(c) = sheet_reader::read(sheet, directory, 4, n) else {
+    let Found::Present(c) = sheet_reader::read(sheet, directory, CHARTS, n) else {
         sheet_branches::never_taken();
         return answered(4, 0);
     };

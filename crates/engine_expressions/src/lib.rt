@@ -1,7 +1,11 @@
 // What an expression gives.
 use engine_context::ELEMENT;
+use engine_context::Frame;
+use engine_context::Locals;
 use engine_ints::Work;
+use sheet::Directory;
 use sheet::Found;
+use sheet::NODES;
 ghost use mathlib.Core.Path.{_≡_};
 ghost use Rattle.sheet.specs.Sheet.{directoryOf};
 ghost use Rattle.machine.specs.Eval.{evalOf};
@@ -11,10 +15,10 @@ ghost use Rattle.engine_ready.specs.Ready.{contextAt, Ready, IsExpression};
 // What node n gives, with that many steps left.
 pub fn eval(
     sheet: &[u8],
-    directory: &[usize; 16],
-    context: &[usize; 38],
+    directory: &Directory,
+    context: &Frame,
     st: &[i32],
-    lo: &[i32; 16],
+    lo: &Locals,
     n: usize,
     left: u32,
 ) -> Work
@@ -28,7 +32,7 @@ pub fn eval(
         };
     }
     let rest = left - 1;
-    let Found::Present(r) = sheet_reader::read(sheet, directory, 6, n) else {
+    let Found::Present(r) = sheet_reader::read(sheet, directory, NODES, n) else {
         return Work::Stuck;
     };
     let op = r.f0;

@@ -1,4 +1,6 @@
 // Which body of a chart runs.
+use sheet::BODIES;
+use sheet::Directory;
 use sheet::Found;
 use sheet::Record;
 ghost use mathlib.Core.Path.{_≡_};
@@ -9,18 +11,18 @@ ghost use Rattle.sheet_rules.specs.Types.{reactsTo};
 ghost use Rattle.machine.specs.Play.{reactsOn};
 ghost use Rattle.machine_passed.specs.Places.{StandsAt};
 
-fn has_role(sheet: &[u8], directory: &[usize; 16], i: usize, role: u16) -> bool
+fn has_role(sheet: &[u8], directory: &Directory, i: usize, role: u16) -> bool
     requires { ⌜ now directory ≡ directoryOf (now sheet) ⌝ }
     ensures { λ x. ⌜ x ≡ holds (recordOf (now (sheet .entry)) 5 i) (λ b. eqb (b .f0) role) ⌝ }
 {
-    let Found::Present(b) = sheet_reader::read(sheet, directory, 5, i) else {
+    let Found::Present(b) = sheet_reader::read(sheet, directory, BODIES, i) else {
         return false;
     };
     b.f0 == role
 }
 
 // The initial body (role 0) or the panic body (role 1) of chart c.
-pub fn with_role(sheet: &[u8], directory: &[usize; 16], c: Record, role: u16) -> usize
+pub fn with_role(sheet: &[u8], directory: &Directory, c: Record, role: u16) -> usize
     requires { ⌜ now directory ≡ directoryOf (now sheet) ⌝ }
     ensures { λ j. ⌜ StandsAt (now (sheet .entry)) c (λ b. eqb (b .f0) role) j ⌝ }
 {
@@ -36,11 +38,11 @@ pub fn with_role(sheet: &[u8], directory: &[usize; 16], c: Record, role: u16) ->
     bodies
 }
 
-fn reacts_on(sheet: &[u8], directory: &[usize; 16], i: usize, port: usize, name: usize) -> bool
+fn reacts_on(sheet: &[u8], directory: &Directory, i: usize, port: usize, name: usize) -> bool
     requires { ⌜ now directory ≡ directoryOf (now sheet) ⌝ }
     ensures { λ x. ⌜ x ≡ holds (recordOf (now (sheet .entry)) 5 i) (reactsOn port name) ⌝ }
 {
-    let Found::Present(b) = sheet_reader::read(sheet, directory, 5, i) else {
+    let Found::Present(b) = sheet_reader::read(sheet, directory, BODIES, i) else {
         return false;
     };
     if b.f0 != 2 {
@@ -55,7 +57,7 @@ fn reacts_on(sheet: &[u8], directory: &[usize; 16], i: usize, port: usize, name:
 // The reaction of chart c to an external name on a port.
 pub fn reaction_on(
     sheet: &[u8],
-    directory: &[usize; 16],
+    directory: &Directory,
     c: Record,
     port: usize,
     name: usize,
@@ -75,11 +77,11 @@ pub fn reaction_on(
     count
 }
 
-fn reacts_to(sheet: &[u8], directory: &[usize; 16], i: usize, name: usize) -> bool
+fn reacts_to(sheet: &[u8], directory: &Directory, i: usize, name: usize) -> bool
     requires { ⌜ now directory ≡ directoryOf (now sheet) ⌝ }
     ensures { λ x. ⌜ x ≡ holds (recordOf (now (sheet .entry)) 5 i) (reactsTo name) ⌝ }
 {
-    let Found::Present(b) = sheet_reader::read(sheet, directory, 5, i) else {
+    let Found::Present(b) = sheet_reader::read(sheet, directory, BODIES, i) else {
         return false;
     };
     if b.f0 != 3 {
@@ -89,7 +91,7 @@ fn reacts_to(sheet: &[u8], directory: &[usize; 16], i: usize, name: usize) -> bo
 }
 
 // The reaction of chart c to an internal name.
-pub fn reaction_to(sheet: &[u8], directory: &[usize; 16], c: Record, name: usize) -> usize
+pub fn reaction_to(sheet: &[u8], directory: &Directory, c: Record, name: usize) -> usize
     requires { ⌜ now directory ≡ directoryOf (now sheet) ⌝ }
     ensures { λ j. ⌜ StandsAt (now (sheet .entry)) c (reactsTo name) j ⌝ }
 {

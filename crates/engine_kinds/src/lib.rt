@@ -1,9 +1,11 @@
 // What each kind of event does to a state of the sheet.
 use engine_bodies::answered;
+use engine_cells::CellLayout;
 use engine_sought::Taken;
 use machine::Answer;
 use machine::Telegram;
 use machine_events::Event;
+use sheet::Directory;
 ghost use mathlib.Core.Bool.{true};
 ghost use mathlib.Core.List.{List};
 ghost use mathlib.Core.Path.{_≡_};
@@ -29,8 +31,8 @@ fn sent_outside(st: &mut [i32], t: Telegram) -> Answer
 // 5: "A refused Slice undoes all of it"
 fn sliced(
     sheet: &[u8],
-    directory: &[usize; 16],
-    cells: &[usize; 2176],
+    directory: &Directory,
+    cells: &CellLayout,
     old: &[i32],
     st: &mut [i32],
 ) -> Answer
@@ -49,8 +51,8 @@ fn sliced(
 // the state where there may be work to undo.
 pub fn happened(
     sheet: &[u8],
-    directory: &[usize; 16],
-    cells: &[usize; 2176],
+    directory: &Directory,
+    cells: &CellLayout,
     old: &[i32],
     st: &mut [i32],
     e: Event,

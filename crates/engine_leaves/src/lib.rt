@@ -2,9 +2,14 @@
 // makes of the words that its operands gave.
 use engine_context::BINDING;
 use engine_context::ELEMENT;
+use engine_context::Frame;
+use engine_context::Locals;
 use engine_context::Place;
 use engine_ints::Work;
+use sheet::BINDINGS;
+use sheet::Directory;
 use sheet::Found;
+use sheet::NODES;
 use sheet::Record;
 ghost use mathlib.Core.Path.{_≡_};
 ghost use Prim.Native.Nat.{suc, _+_, _<_};
@@ -56,7 +61,7 @@ pub fn combined(op: u16, a: i32, y: Work) -> Work
 }
 
 // Word k in the cell of the element's plain variable n.
-pub fn cell_word(context: &[usize; 38], st: &[i32], n: usize, k: usize) -> i32
+pub fn cell_word(context: &Frame, st: &[i32], n: usize, k: usize) -> i32
     requires { ⌜ Lies (now context) (now st) n × (k < 8) ⌝ }
     ensures { λ z. ⌜ z ≡ wordOf (now (st .entry)) (cellAt (cellIn (now (context .entry)) n) + k) ⌝ }
 {
@@ -65,7 +70,7 @@ pub fn cell_word(context: &[usize; 38], st: &[i32], n: usize, k: usize) -> i32
 
 // The element of array n at index i; "11, index outside its number". An index of a data type is never
 // outside.
-pub fn element_at(context: &[usize; 38], st: &[i32], n: usize, i: i32, left: u32) -> Work
+pub fn element_at(context: &Frame, st: &[i32], n: usize, i: i32, left: u32) -> Work
     requires { ⌜ Reaches (now context) (now st) n ⌝ }
     ensures { λ z. ⌜ z ≡ elementWord (now (st .entry)) (leadsTo (now (context .entry)) n i) left ⌝ }
 {
@@ -77,7 +82,7 @@ pub fn element_at(context: &[usize; 38], st: &[i32], n: usize, i: i32, left: u32
 }
 
 // The same, by what the index gives.
-pub fn element(context: &[usize; 38], st: &[i32], n: usize, x: Work) -> Work
+pub fn element(context: &Frame, st: &[i32], n: usize, x: Work) -> Work
     requires { ⌜ Reaches (now context) (now st) n ⌝ }
     ensures { λ z. ⌜ z ≡ thenWork x (λ i. elementWord (now (st .entry)) (leadsTo (now (context .entry)) n i)) ⌝ }
 {
@@ -91,10 +96,10 @@ pub fn element(context: &[usize; 38], st: &[i32], n: usize, x: Work) -> Work
 // A variable: place 0 the constant in the element's binding, 1 of the chart, 2 of the body.
 pub fn variable(
     sheet: &[u8],
-    directory: &[usize; 16],
-    context: &[usize; 38],
+    directory: &Directory,
+    context: &Frame,
     st: &[i32],
-    lo: &[i32; 16],
+    lo: &Locals,
     n: usize,
     r: Record,
     left: u32,
@@ -107,14 +112,14 @@ pub fn variable(
     match place {
         0 => {
             let k = sheet_bindings::constant_record(context[BINDING], number);
-            let Found::Present(b) = sheet_reader::read(sheet, directory, 7, k) else {
+            let Found::Present(b) = sheet_reader::read(sheet, directory, BINDINGS, k) else {
                 return Work::Stuck;
             };
             let i = sheet_bindings::constant_field(number);
             let Found::Present(c) = sheet_reader::read(
                 sheet,
                 directory,
-                6,
+                NODES,
                 sheet_fields::field(b, i),
             ) else {
                 return Work::Stuck;

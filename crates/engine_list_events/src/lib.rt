@@ -1,6 +1,8 @@
 // Plays a list of events on from a state of the sheet.
+use engine_cells::CellLayout;
 use machine::ANSWER_WORDS;
 use machine::EVENT_WORDS;
+use sheet::Directory;
 ghost use Prim.Native.Nat.{_*_, _/_};
 ghost use mathlib.Core.Path.{_≡_};
 ghost use lib.ListN.{length};
@@ -14,8 +16,8 @@ ghost use Rattle.machine.specs.Play.{wordsOfEvent, limitOf};
 // 1 if one is handed outside, then its receiver, port, name and four data.
 pub fn play_on(
     sheet: &[u8],
-    directory: &[usize; 16],
-    cells: &[usize; 2176],
+    directory: &Directory,
+    cells: &CellLayout,
     events: &[i32],
     st: &mut [i32],
     spare: &mut [i32],

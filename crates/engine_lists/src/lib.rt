@@ -1,6 +1,8 @@
 // Plays whole lists of events.
 use engine_bodies::answered;
+use engine_cells::LAYOUT;
 use machine::Answer;
+use sheet::Directory;
 use sheet_rules::Checked;
 ghost use mathlib.Core.Path.{_≡_};
 ghost use Rattle.sheet.specs.Sheet.{directoryOf};
@@ -31,7 +33,7 @@ pub fn play(
 
 fn play_passed(
     sheet: &[u8],
-    directory: &[usize; 16],
+    directory: &Directory,
     events: &[i32],
     st: &mut [i32],
     spare: &mut [i32],
@@ -40,7 +42,7 @@ fn play_passed(
     requires { ⌜ (now directory ≡ directoryOf (now sheet)) × (checkOf (now sheet) ≡ Passed) ⌝ }
     ensures { λ a. ⌜ listed a (now (st .exit)) (now (answers .exit)) ≡ listCall (now (sheet .entry)) (limitOf (now (sheet .entry))) (now (events .entry)) (now (st .entry)) (now (spare .entry)) (now (answers .entry)) ⌝ }
 {
-    let mut cells = [0usize; 2176];
+    let mut cells = [0usize; LAYOUT];
     let count = engine_cells::fill(sheet, directory, &mut cells);
     if !engine_lengths::is_state(count, st.len()) {
         return answered(3, 0);

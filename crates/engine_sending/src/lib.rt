@@ -1,9 +1,14 @@
 // Telegrams sent.
 use engine_context::ELEMENT;
+use engine_context::Frame;
+use engine_context::Locals;
 use engine_ints::Work;
+use machine::DATA;
 use machine::Ran;
 use machine::Telegram;
+use sheet::Directory;
 use sheet::Found;
+use sheet::NAMES;
 use sheet::Range;
 use sheet::Record;
 ghost use mathlib.Core.Path.{_≡_};
@@ -37,10 +42,10 @@ fn append(st: &mut [i32], t: Telegram, left: u32) -> Ran
 // A telegram of the element, with name record a and the data of a node.
 fn send(
     sheet: &[u8],
-    directory: &[usize; 16],
-    context: &[usize; 38],
+    directory: &Directory,
+    context: &Frame,
     st: &mut [i32],
-    lo: &[i32; 16],
+    lo: &Locals,
     r: Record,
     a: Record,
     receiver: i32,
@@ -50,7 +55,7 @@ fn send(
     requires { ⌜ (now directory ≡ directoryOf (now sheet)) × Ready (now sheet) (now context) (now st) (now lo) × HasData (now sheet) (now context) (now st) (now lo) r (dataOf a) × (recordOf (now sheet) 3 (r .f3) ≡ Present a) ⌝ }
     ensures { λ o. ⌜ world o (now (st .exit)) (now (lo .entry)) ≡ sent (now (sheet .entry)) (now (context .entry)) (now (st .entry)) (now (lo .entry)) r a receiver port left ⌝ }
 {
-    let mut d = [0i32; 4];
+    let mut d = [0i32; DATA];
     let g = Range {
         first: a.f0 as usize,
         count: a.f1 as usize,
@@ -79,10 +84,10 @@ fn send(
 // The port of a send, then the telegram.
 fn send_to(
     sheet: &[u8],
-    directory: &[usize; 16],
-    context: &[usize; 38],
+    directory: &Directory,
+    context: &Frame,
     st: &mut [i32],
-    lo: &[i32; 16],
+    lo: &Locals,
     n: usize,
     r: Record,
     a: Record,
@@ -115,10 +120,10 @@ fn send_to(
 
 pub fn external_send(
     sheet: &[u8],
-    directory: &[usize; 16],
-    context: &[usize; 38],
+    directory: &Directory,
+    context: &Frame,
     st: &mut [i32],
-    lo: &[i32; 16],
+    lo: &Locals,
     n: usize,
     r: Record,
     left: u32,
@@ -126,7 +131,7 @@ pub fn external_send(
     requires { ⌜ (now directory ≡ directoryOf (now sheet)) × Visit (now sheet) (now context) (now st) (now lo) n r externalSend ⌝ }
     ensures { λ o. ⌜ ((depth : ℕ) → world o (now (st .exit)) (now (lo .entry)) ≡ runOf (now (sheet .entry)) depth (contextAt (now (sheet .entry)) (now (context .entry))) n (suc left) (now (st .entry)) (now (lo .entry))) ⌝ }
 {
-    let Found::Present(a) = sheet_reader::read(sheet, directory, 3, r.f3 as usize) else {
+    let Found::Present(a) = sheet_reader::read(sheet, directory, NAMES, r.f3 as usize) else {
         return Ran::Stuck;
     };
     let x = engine_expressions::eval(sheet, directory, context, st, lo, r.f1 as usize, left);
@@ -142,10 +147,10 @@ pub fn external_send(
 // An element's telegram to itself: its port is -1.
 pub fn internal_send(
     sheet: &[u8],
-    directory: &[usize; 16],
-    context: &[usize; 38],
+    directory: &Directory,
+    context: &Frame,
     st: &mut [i32],
-    lo: &[i32; 16],
+    lo: &Locals,
     n: usize,
     r: Record,
     left: u32,
@@ -153,7 +158,7 @@ pub fn internal_send(
     requires { ⌜ (now directory ≡ directoryOf (now sheet)) × Visit (now sheet) (now context) (now st) (now lo) n r internalSend ⌝ }
     ensures { λ o. ⌜ ((depth : ℕ) → world o (now (st .exit)) (now (lo .entry)) ≡ runOf (now (sheet .entry)) depth (contextAt (now (sheet .entry)) (now (context .entry))) n (suc left) (now (st .entry)) (now (lo .entry))) ⌝ }
 {
-    let Found::Present(a) = sheet_reader::read(sheet, directory, 3, r.f3 as usize) else {
+    let Found::Present(a) = sheet_reader::read(sheet, directory, NAMES, r.f3 as usize) else {
         return Ran::Stuck;
     };
     send(

@@ -1,6 +1,8 @@
 // The telegram that an event takes, and whether its refusal may have work to undo.
+use engine_cells::CellLayout;
 use machine::Telegram;
 use machine_events::Event;
+use sheet::Directory;
 ghost use mathlib.Core.List.{List};
 ghost use mathlib.Core.Path.{_≡_};
 ghost use Prim.Native.Nat.{ℕ};
@@ -44,8 +46,8 @@ pub fn sought(st: &[i32], e: Event) -> usize
 // Whether a refusal may have work to undo.
 pub fn may_undo(
     sheet: &[u8],
-    directory: &[usize; 16],
-    cells: &[usize; 2176],
+    directory: &Directory,
+    cells: &CellLayout,
     st: &[i32],
     e: Event,
     j: usize,

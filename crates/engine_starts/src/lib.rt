@@ -1,7 +1,11 @@
 // Start on a passed sheet: the default state, then the initial bodies.
 use engine_bodies::answered;
+use engine_cells::CellLayout;
 use machine::Answer;
+use machine::DATA;
 use machine::Ran;
+use sheet::CHARTS;
+use sheet::Directory;
 use sheet::Found;
 ghost use mathlib.Core.Bool.{true};
 ghost use mathlib.Core.List.{[]};
@@ -18,8 +22,8 @@ ghost use Rattle.engine_cells.specs.Playing.{Playing};
 // The initial body of element e.
 fn initial(
     sheet: &[u8],
-    directory: &[usize; 16],
-    cells: &[usize; 2176],
+    directory: &Directory,
+    cells: &CellLayout,
     st: &mut [i32],
     e: usize,
     limit: u32,
@@ -28,12 +32,12 @@ fn initial(
     ensures { λ r. ⌜ (r ≡ ranBody (now (sheet .entry)) (limitOf (now (sheet .entry))) e (alone (elementBody (now (sheet .entry)) e isInitial)) [] (now (st .entry)) .ran) × (now (st .exit) ≡ ranBody (now (sheet .entry)) (limitOf (now (sheet .entry))) e (alone (elementBody (now (sheet .entry)) e isInitial)) [] (now (st .entry)) .st) ⌝ }
 {
     let n = engine_cells::chart_number(sheet, directory, cells, e);
-    let Found::Present(c) = sheet_reader::read(sheet, directory, 4, n) else {
+    let Found::Present(c) = sheet_reader::read(sheet, directory, CHARTS, n) else {
         sheet_branches::never_taken();
         return Ran::Stuck;
     };
     let j = engine_finders::with_role(sheet, directory, c, 0);
-    let none = [0i32; 4];
+    let none = [0i32; DATA];
     engine_bodies::run_body(
         sheet,
         directory,
@@ -59,8 +63,8 @@ fn refused(st: &mut [i32], number: u8, steps: u32) -> Answer
 // "all defaults, nothing waiting, then the initial bodies in element order"
 pub fn from_defaults(
     sheet: &[u8],
-    directory: &[usize; 16],
-    cells: &[usize; 2176],
+    directory: &Directory,
+    cells: &CellLayout,
     st: &mut [i32],
 ) -> Answer
     requires { ⌜ Lent (now sheet) (now directory) (now cells) (now st) ⌝ }

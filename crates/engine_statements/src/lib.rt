@@ -1,8 +1,15 @@
 // What a statement does.
 use engine_context::FIRST_BODY;
+use engine_context::Frame;
+use engine_context::Locals;
 use engine_ints::Work;
+use machine::DATA;
+use machine::Data;
 use machine::Ran;
+use sheet::BODIES;
+use sheet::Directory;
 use sheet::Found;
+use sheet::NODES;
 use sheet::Range;
 use sheet::Record;
 ghost use mathlib.Core.Path.{_≡_};
@@ -20,13 +27,13 @@ ghost use Rattle.engine_statements.specs.Callable.{Callable};
 // "a 17th open call": 9. The called body has variables of its own.
 fn enter(
     sheet: &[u8],
-    directory: &[usize; 16],
-    context: &[usize; 38],
+    directory: &Directory,
+    context: &Frame,
     st: &mut [i32],
     depth: u32,
     number: usize,
     b: Record,
-    d: &[i32; 4],
+    d: &Data,
     left: u32,
 ) -> Ran
     requires { ⌜ (now directory ≡ directoryOf (now sheet)) × Callable (now sheet) (now context) (now st) number b (now d) × (depth ≤ 16) ⌝ }
@@ -52,10 +59,10 @@ fn enter(
 // A procedure of the chart, with the node's data as its parameters.
 fn call(
     sheet: &[u8],
-    directory: &[usize; 16],
-    context: &[usize; 38],
+    directory: &Directory,
+    context: &Frame,
     st: &mut [i32],
-    lo: &[i32; 16],
+    lo: &Locals,
     depth: u32,
     n: usize,
     r: Record,
@@ -65,10 +72,10 @@ fn call(
     ensures { λ o. ⌜ world o (now (st .exit)) (now (lo .entry)) ≡ runOf (now (sheet .entry)) depth (contextAt (now (sheet .entry)) (now (context .entry))) n (suc left) (now (st .entry)) (now (lo .entry)) ⌝ }
 {
     let number = context[FIRST_BODY] + r.f1 as usize;
-    let Found::Present(b) = sheet_reader::read(sheet, directory, 5, number) else {
+    let Found::Present(b) = sheet_reader::read(sheet, directory, BODIES, number) else {
         return Ran::Stuck;
     };
-    let mut d = [0i32; 4];
+    let mut d = [0i32; DATA];
     let g = Range {
         first: b.f3 as usize,
         count: b.f4 as usize,
@@ -84,10 +91,10 @@ fn call(
 // "42 is visited anew before each test"
 fn repeat(
     sheet: &[u8],
-    directory: &[usize; 16],
-    context: &[usize; 38],
+    directory: &Directory,
+    context: &Frame,
     st: &mut [i32],
-    lo: &mut [i32; 16],
+    lo: &mut Locals,
     depth: u32,
     n: usize,
     r: Record,
@@ -136,10 +143,10 @@ fn repeat(
 // What node n does, with that many steps left.
 pub fn run(
     sheet: &[u8],
-    directory: &[usize; 16],
-    context: &[usize; 38],
+    directory: &Directory,
+    context: &Frame,
     st: &mut [i32],
-    lo: &mut [i32; 16],
+    lo: &mut Locals,
     depth: u32,
     n: usize,
     left: u32,
@@ -154,7 +161,7 @@ pub fn run(
         };
     }
     let rest = left - 1;
-    let Found::Present(r) = sheet_reader::read(sheet, directory, 6, n) else {
+    let Found::Present(r) = sheet_reader::read(sheet, directory, NODES, n) else {
         return Ran::Stuck;
     };
     let op = r.f0;

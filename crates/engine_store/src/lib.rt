@@ -1,4 +1,5 @@
 // The words of a state as the engine changes them.
+use machine::Data;
 use machine::Telegram;
 ghost use mathlib.Core.Path.{_≡_};
 ghost use mathlib.Core.List.{[], _∷_};
@@ -99,7 +100,7 @@ pub fn put_clock(
     value: i32,
     period: i32,
     name: i32,
-    d: &[i32; 4],
+    d: &Data,
 )
     requires { ⌜ at + 8 ≤ length (now st) ⌝ }
     ensures { λ _. ⌜ now (st .exit) ≡ putWords (now (st .entry)) at (running ∷ value ∷ period ∷ name ∷ getD (now (d .entry)) 0 (pos 0) ∷ getD (now (d .entry)) 1 (pos 0) ∷ getD (now (d .entry)) 2 (pos 0) ∷ getD (now (d .entry)) 3 (pos 0) ∷ []) ⌝ }

@@ -1,4 +1,5 @@
 // The cell of a variable: a value and zeros, or a clock, stopped or running.
+use sheet::Directory;
 use sheet::Record;
 ghost use mathlib.Core.Path.{_≡_};
 ghost use Prim.Native.Nat.{ℕ, _+_, _≤_};
@@ -47,7 +48,7 @@ fn value_fits(t: usize, value: i32, period: i32) -> bool
 
 fn running_clock(
     sheet: &[u8],
-    directory: &[usize; 16],
+    directory: &Directory,
     c: Record,
     t: usize,
     st: &[i32],
@@ -80,7 +81,7 @@ fn running_clock(
 
 fn clock_cell(
     sheet: &[u8],
-    directory: &[usize; 16],
+    directory: &Directory,
     c: Record,
     t: usize,
     st: &[i32],
@@ -101,7 +102,7 @@ fn clock_cell(
 // The cell at `at` of a variable of type t of an element that is bound to chart c.
 pub fn cell_fits(
     sheet: &[u8],
-    directory: &[usize; 16],
+    directory: &Directory,
     c: Record,
     t: usize,
     st: &[i32],

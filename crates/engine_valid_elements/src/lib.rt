@@ -1,4 +1,7 @@
 // Whether the cells of an element fit, "variables in order, each per index in order".
+use engine_cells::CellLayout;
+use engine_cells::ROW;
+use sheet::Directory;
 use sheet::Record;
 ghost use mathlib.Core.Path.{_≡_};
 ghost use Prim.Native.Nat.{ℕ, _+_};
@@ -13,7 +16,7 @@ ghost use Rattle.engine_cells.specs.Lent.{Lent, CellsIn};
 // The n cells, from a cell on, of a variable of type t of an element that is bound to chart c.
 fn variable_fits(
     sheet: &[u8],
-    directory: &[usize; 16],
+    directory: &Directory,
     c: Record,
     t: usize,
     cell: usize,
@@ -38,8 +41,8 @@ fn variable_fits(
 // begin, and where the last ones end.
 pub fn element_fits(
     sheet: &[u8],
-    directory: &[usize; 16],
-    cells: &[usize; 2176],
+    directory: &Directory,
+    cells: &CellLayout,
     c: Record,
     e: usize,
     st: &[i32],
@@ -47,7 +50,7 @@ pub fn element_fits(
     requires { ⌜ Lent (now sheet) (now directory) (now cells) (now st) × (chartOf (now sheet) e ≡ Present c) ⌝ }
     ensures { λ b. ⌜ b ≡ elementFits (now (sheet .entry)) (now (st .entry)) e ⌝ }
 {
-    let row = 34 * (e - engine_valid_values::externals(sheet, directory));
+    let row = ROW * (e - engine_valid_values::externals(sheet, directory));
     let count = c.f3 as usize;
     let mut j: usize = 0;
     while j < count {

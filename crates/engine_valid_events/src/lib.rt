@@ -1,6 +1,7 @@
 // An event's nine words, taken apart by its kind where they are well formed.
 use machine::EVENT_WORDS;
 use machine_events::Event;
+use sheet::Directory;
 ghost use mathlib.Core.Path.{_≡_};
 ghost use mathlib.Core.List.{List};
 ghost use Prim.Native.Nat.{ℕ, _<_, _≤_};
@@ -29,7 +30,7 @@ fn rest_zero(ev: &[i32], i: usize) -> bool
 }
 
 // Whether word i is a bound element.
-fn bound_word(sheet: &[u8], directory: &[usize; 16], ev: &[i32], i: usize) -> bool
+fn bound_word(sheet: &[u8], directory: &Directory, ev: &[i32], i: usize) -> bool
     requires { ⌜ (now directory ≡ directoryOf (now sheet)) × (i < length (now ev)) ⌝ }
     ensures { λ b. ⌜ b ≡ boundWord (now (sheet .entry)) (wordOf (now (ev .entry)) i) ⌝ }
 {
@@ -40,7 +41,7 @@ fn bound_word(sheet: &[u8], directory: &[usize; 16], ev: &[i32], i: usize) -> bo
 }
 
 // Kind 1, Outside: from an external component to a bound element.
-fn outside_formed(sheet: &[u8], directory: &[usize; 16], ev: &[i32]) -> bool
+fn outside_formed(sheet: &[u8], directory: &Directory, ev: &[i32]) -> bool
     requires { ⌜ (now directory ≡ directoryOf (now sheet)) × (length (now ev) ≡ wordsOfEvent) ⌝ }
     ensures { λ b. ⌜ b ≡ wellFormed (now (sheet .entry)) (now (ev .entry)) kind.outside ⌝ }
 {
@@ -57,7 +58,7 @@ fn outside_formed(sheet: &[u8], directory: &[usize; 16], ev: &[i32]) -> bool
 }
 
 // Kind 2, Deliver: between components that are not both external.
-fn deliver_formed(sheet: &[u8], directory: &[usize; 16], ev: &[i32]) -> bool
+fn deliver_formed(sheet: &[u8], directory: &Directory, ev: &[i32]) -> bool
     requires { ⌜ (now directory ≡ directoryOf (now sheet)) × (length (now ev) ≡ wordsOfEvent) ⌝ }
     ensures { λ b. ⌜ b ≡ wellFormed (now (sheet .entry)) (now (ev .entry)) kind.deliver ⌝ }
 {
@@ -75,7 +76,7 @@ fn deliver_formed(sheet: &[u8], directory: &[usize; 16], ev: &[i32]) -> bool
 }
 
 // Kind 3, Corrupt: to a bound element.
-fn corrupt_formed(sheet: &[u8], directory: &[usize; 16], ev: &[i32]) -> bool
+fn corrupt_formed(sheet: &[u8], directory: &Directory, ev: &[i32]) -> bool
     requires { ⌜ (now directory ≡ directoryOf (now sheet)) × (length (now ev) ≡ wordsOfEvent) ⌝ }
     ensures { λ b. ⌜ b ≡ wellFormed (now (sheet .entry)) (now (ev .entry)) kind.corrupt ⌝ }
 {
@@ -89,7 +90,7 @@ fn corrupt_formed(sheet: &[u8], directory: &[usize; 16], ev: &[i32]) -> bool
 }
 
 // Kind 4, Inner: of a component.
-fn inner_formed(sheet: &[u8], directory: &[usize; 16], ev: &[i32]) -> bool
+fn inner_formed(sheet: &[u8], directory: &Directory, ev: &[i32]) -> bool
     requires { ⌜ (now directory ≡ directoryOf (now sheet)) × (length (now ev) ≡ wordsOfEvent) ⌝ }
     ensures { λ b. ⌜ b ≡ wellFormed (now (sheet .entry)) (now (ev .entry)) kind.inner ⌝ }
 {
@@ -103,7 +104,7 @@ fn inner_formed(sheet: &[u8], directory: &[usize; 16], ev: &[i32]) -> bool
 }
 
 // Each kind's words, or Malformed.
-fn outside(sheet: &[u8], directory: &[usize; 16], ev: &[i32]) -> Event
+fn outside(sheet: &[u8], directory: &Directory, ev: &[i32]) -> Event
     requires { ⌜ (now directory ≡ directoryOf (now sheet)) × (length (now ev) ≡ wordsOfEvent) ⌝ }
     ensures { λ e. ⌜ e ≡ readAs (now (sheet .entry)) (now (ev .entry)) kind.outside ⌝ }
 {
@@ -113,7 +114,7 @@ fn outside(sheet: &[u8], directory: &[usize; 16], ev: &[i32]) -> Event
     Event::Malformed
 }
 
-fn deliver(sheet: &[u8], directory: &[usize; 16], ev: &[i32]) -> Event
+fn deliver(sheet: &[u8], directory: &Directory, ev: &[i32]) -> Event
     requires { ⌜ (now directory ≡ directoryOf (now sheet)) × (length (now ev) ≡ wordsOfEvent) ⌝ }
     ensures { λ e. ⌜ e ≡ readAs (now (sheet .entry)) (now (ev .entry)) kind.deliver ⌝ }
 {
@@ -126,7 +127,7 @@ fn deliver(sheet: &[u8], directory: &[usize; 16], ev: &[i32]) -> Event
     Event::Malformed
 }
 
-fn corrupt(sheet: &[u8], directory: &[usize; 16], ev: &[i32]) -> Event
+fn corrupt(sheet: &[u8], directory: &Directory, ev: &[i32]) -> Event
     requires { ⌜ (now directory ≡ directoryOf (now sheet)) × (length (now ev) ≡ wordsOfEvent) ⌝ }
     ensures { λ e. ⌜ e ≡ readAs (now (sheet .entry)) (now (ev .entry)) kind.corrupt ⌝ }
 {
@@ -139,7 +140,7 @@ fn corrupt(sheet: &[u8], directory: &[usize; 16], ev: &[i32]) -> Event
     Event::Malformed
 }
 
-fn inner(sheet: &[u8], directory: &[usize; 16], ev: &[i32]) -> Event
+fn inner(sheet: &[u8], directory: &Directory, ev: &[i32]) -> Event
     requires { ⌜ (now directory ≡ directoryOf (now sheet)) × (length (now ev) ≡ wordsOfEvent) ⌝ }
     ensures { λ e. ⌜ e ≡ readAs (now (sheet .entry)) (now (ev .entry)) kind.inner ⌝ }
 {
@@ -162,7 +163,7 @@ fn slice(ev: &[i32]) -> Event
 }
 
 // An event's words taken apart. A Slice, kind 5, uses no other word.
-pub fn event_of(sheet: &[u8], directory: &[usize; 16], ev: &[i32]) -> Event
+pub fn event_of(sheet: &[u8], directory: &Directory, ev: &[i32]) -> Event
     requires { ⌜ now directory ≡ directoryOf (now sheet) ⌝ }
     ensures { λ e. ⌜ e ≡ eventOf (now (sheet .entry)) (now (ev .entry)) ⌝ }
 {

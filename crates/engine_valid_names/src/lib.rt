@@ -1,4 +1,7 @@
 // Names with their data, and whether a chart has a reaction to them.
+use sheet::BODIES;
+use sheet::DECLARATIONS;
+use sheet::Directory;
 use sheet::Found;
 use sheet::Range;
 use sheet::Record;
@@ -14,19 +17,13 @@ ghost use Rattle.engine_valid_names.specs.Parts.{datumFits};
 
 // ---- data
 
-fn datum_fits(
-    sheet: &[u8],
-    directory: &[usize; 16],
-    g: Range,
-    j: usize,
-    st: &[i32],
-    i: usize,
-) -> bool
+fn datum_fits(sheet: &[u8], directory: &Directory, g: Range, j: usize, st: &[i32], i: usize) -> bool
     requires { ⌜ (now directory ≡ directoryOf (now sheet)) × (g .first < 65536) × (j < 4) × (i < length (now st)) ⌝ }
     ensures { λ b. ⌜ b ≡ datumFits (now (sheet .entry)) g j (wordOf (now (st .entry)) i) ⌝ }
 {
     if j < g.count {
-        let Found::Present(d) = sheet_reader::read(sheet, directory, 2, g.first + j) else {
+        let Found::Present(d) = sheet_reader::read(sheet, directory, DECLARATIONS, g.first + j)
+        else {
             return false;
         };
         return engine_valid_values::value_at(sheet, directory, d.f0 as usize, st, i);
@@ -35,7 +32,7 @@ fn datum_fits(
 }
 
 // Whether the four words from `at` on fit a name's types.
-fn data_fit(sheet: &[u8], directory: &[usize; 16], g: Range, st: &[i32], at: usize) -> bool
+fn data_fit(sheet: &[u8], directory: &Directory, g: Range, st: &[i32], at: usize) -> bool
     requires { ⌜ (now directory ≡ directoryOf (now sheet)) × (g .first < 65536) × (at + 4 ≤ length (now st)) ⌝ }
     ensures { λ b. ⌜ b ≡ dataFit (now (sheet .entry)) g (λ j. wordOf (now (st .entry)) (at + j)) ⌝ }
 {
@@ -50,7 +47,7 @@ fn data_fit(sheet: &[u8], directory: &[usize; 16], g: Range, st: &[i32], at: usi
 }
 
 // Whether the word at `at` is a name of a class, and the four words after it are its data.
-pub fn name_fits(sheet: &[u8], directory: &[usize; 16], class: u16, st: &[i32], at: usize) -> bool
+pub fn name_fits(sheet: &[u8], directory: &Directory, class: u16, st: &[i32], at: usize) -> bool
     requires { ⌜ (now directory ≡ directoryOf (now sheet)) × (at + 5 ≤ length (now st)) ⌝ }
     ensures { λ b. ⌜ b ≡ nameFits (now (sheet .entry)) class (wordOf (now (st .entry)) at) (λ j. wordOf (now (st .entry)) (at + 1 + j)) ⌝ }
 {
@@ -73,11 +70,11 @@ pub fn name_fits(sheet: &[u8], directory: &[usize; 16], class: u16, st: &[i32], 
 // ---- reactions
 
 // Whether body i is an internal reaction to name n.
-fn reacts(sheet: &[u8], directory: &[usize; 16], i: usize, n: usize) -> bool
+fn reacts(sheet: &[u8], directory: &Directory, i: usize, n: usize) -> bool
     requires { ⌜ now directory ≡ directoryOf (now sheet) ⌝ }
     ensures { λ b. ⌜ b ≡ holds (recordOf (now (sheet .entry)) 5 i) (reactsTo n) ⌝ }
 {
-    let Found::Present(b) = sheet_reader::read(sheet, directory, 5, i) else {
+    let Found::Present(b) = sheet_reader::read(sheet, directory, BODIES, i) else {
         return false;
     };
     if b.f0 != 3 {
@@ -87,7 +84,7 @@ fn reacts(sheet: &[u8], directory: &[usize; 16], i: usize, n: usize) -> bool
 }
 
 // Whether chart c has an internal reaction to name n.
-pub fn has_reaction(sheet: &[u8], directory: &[usize; 16], c: Record, n: usize) -> bool
+pub fn has_reaction(sheet: &[u8], directory: &Directory, c: Record, n: usize) -> bool
     requires { ⌜ now directory ≡ directoryOf (now sheet) ⌝ }
     ensures { λ b. ⌜ b ≡ hasReaction (now (sheet .entry)) c n ⌝ }
 {

@@ -1,4 +1,6 @@
 // Whether a state is of the sheet: each sentence of the paper's State paragraph as a test.
+use engine_cells::CellLayout;
+use sheet::Directory;
 use sheet::Found;
 ghost use mathlib.Core.Path.{_≡_};
 ghost use Prim.Native.Nat.{_≤_};
@@ -16,7 +18,7 @@ fn head_fits(st: &[i32]) -> bool
     engine_valid_cells::zero_words(st, 0, 1)
 }
 
-fn cells_fit(sheet: &[u8], directory: &[usize; 16], cells: &[usize; 2176], st: &[i32]) -> bool
+fn cells_fit(sheet: &[u8], directory: &Directory, cells: &CellLayout, st: &[i32]) -> bool
     requires { ⌜ Lent (now sheet) (now directory) (now cells) (now st) ⌝ }
     ensures { λ b. ⌜ b ≡ cellsFit (now (sheet .entry)) (now (st .entry)) ⌝ }
 {
@@ -37,12 +39,7 @@ fn cells_fit(sheet: &[u8], directory: &[usize; 16], cells: &[usize; 2176], st: &
 }
 
 // Whether all that the paper says of a state's content holds.
-pub fn content_fits(
-    sheet: &[u8],
-    directory: &[usize; 16],
-    cells: &[usize; 2176],
-    st: &[i32],
-) -> bool
+pub fn content_fits(sheet: &[u8], directory: &Directory, cells: &CellLayout, st: &[i32]) -> bool
     requires { ⌜ Lent (now sheet) (now directory) (now cells) (now st) ⌝ }
     ensures { λ b. ⌜ b ≡ contentFits (now (sheet .entry)) (now (st .entry)) ⌝ }
 {

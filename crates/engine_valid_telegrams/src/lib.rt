@@ -1,4 +1,6 @@
 // Whether a telegram may wait: its eight words are sender, receiver, port, name, four data.
+use engine_cells::CellLayout;
+use sheet::Directory;
 use sheet::Found;
 ghost use mathlib.Core.Path.{_≡_};
 ghost use mathlib.Core.Bool.{true};
@@ -22,8 +24,8 @@ pub fn is_internal(st: &[i32], at: usize) -> bool
 
 fn internal_fits(
     sheet: &[u8],
-    directory: &[usize; 16],
-    cells: &[usize; 2176],
+    directory: &Directory,
+    cells: &CellLayout,
     st: &[i32],
     at: usize,
 ) -> bool
@@ -53,7 +55,7 @@ fn internal_fits(
     )
 }
 
-fn external_fits(sheet: &[u8], directory: &[usize; 16], st: &[i32], at: usize) -> bool
+fn external_fits(sheet: &[u8], directory: &Directory, st: &[i32], at: usize) -> bool
     requires { ⌜ (now directory ≡ directoryOf (now sheet)) × (at + 8 ≤ length (now st)) ⌝ }
     ensures { λ b. ⌜ b ≡ externalFits (now (sheet .entry)) (telegramIn (now (st .entry)) at) ⌝ }
 {
@@ -68,8 +70,8 @@ fn external_fits(sheet: &[u8], directory: &[usize; 16], st: &[i32], at: usize) -
 
 pub fn telegram_fits(
     sheet: &[u8],
-    directory: &[usize; 16],
-    cells: &[usize; 2176],
+    directory: &Directory,
+    cells: &CellLayout,
     st: &[i32],
     at: usize,
 ) -> bool

@@ -1,4 +1,7 @@
 // Values of the sheet's types, and which components are bound.
+use sheet::Directory;
+use sheet::ENUMERATED_TYPES;
+use sheet::HEAD;
 ghost use mathlib.Core.Path.{_≡_};
 ghost use Prim.Native.Nat.{_+_, _<_, _≤_};
 ghost use lib.ListN.{length};
@@ -10,38 +13,38 @@ ghost use Rattle.machine.specs.State.{wordOf};
 
 // ---- numbers of the sheet
 
-pub fn components(sheet: &[u8], directory: &[usize; 16]) -> usize
+pub fn components(sheet: &[u8], directory: &Directory) -> usize
     requires { ⌜ now directory ≡ directoryOf (now sheet) ⌝ }
     ensures { λ n. ⌜ (n ≡ componentsOf (now (sheet .entry))) × (n < 65536) ⌝ }
 {
-    sheet_fields::field_at(sheet, directory, 0, 0, 0)
+    sheet_fields::field_at(sheet, directory, HEAD, 0, 0)
 }
 
-pub fn externals(sheet: &[u8], directory: &[usize; 16]) -> usize
+pub fn externals(sheet: &[u8], directory: &Directory) -> usize
     requires { ⌜ now directory ≡ directoryOf (now sheet) ⌝ }
     ensures { λ n. ⌜ (n ≡ externalsOf (now (sheet .entry))) × (n < 65536) ⌝ }
 {
-    sheet_fields::field_at(sheet, directory, 0, 0, 1)
+    sheet_fields::field_at(sheet, directory, HEAD, 0, 1)
 }
 
-pub fn ports(sheet: &[u8], directory: &[usize; 16]) -> usize
+pub fn ports(sheet: &[u8], directory: &Directory) -> usize
     requires { ⌜ now directory ≡ directoryOf (now sheet) ⌝ }
     ensures { λ n. ⌜ (n ≡ portsOf (now (sheet .entry))) × (n < 65536) ⌝ }
 {
-    sheet_fields::field_at(sheet, directory, 0, 0, 2)
+    sheet_fields::field_at(sheet, directory, HEAD, 0, 2)
 }
 
 // How many values enumerated type k has.
-fn members(sheet: &[u8], directory: &[usize; 16], k: usize) -> usize
+fn members(sheet: &[u8], directory: &Directory, k: usize) -> usize
     requires { ⌜ now directory ≡ directoryOf (now sheet) ⌝ }
     ensures { λ n. ⌜ (n ≡ membersOf (now (sheet .entry)) k) × (n < 65536) ⌝ }
 {
-    sheet_fields::field_at(sheet, directory, 1, k, 0)
+    sheet_fields::field_at(sheet, directory, ENUMERATED_TYPES, k, 0)
 }
 
 // ---- which components are bound
 
-pub fn is_bound(sheet: &[u8], directory: &[usize; 16], e: usize) -> bool
+pub fn is_bound(sheet: &[u8], directory: &Directory, e: usize) -> bool
     requires { ⌜ now directory ≡ directoryOf (now sheet) ⌝ }
     ensures { λ b. ⌜ b ≡ isBound (now (sheet .entry)) e ⌝ }
 {
@@ -54,7 +57,7 @@ pub fn is_bound(sheet: &[u8], directory: &[usize; 16], e: usize) -> bool
 // ---- values
 
 // Whether a word is a member of enumerated type t - 8.
-fn is_member(sheet: &[u8], directory: &[usize; 16], t: usize, z: i32) -> bool
+fn is_member(sheet: &[u8], directory: &Directory, t: usize, z: i32) -> bool
     requires { ⌜ (now directory ≡ directoryOf (now sheet)) × (4 ≤ t) ⌝ }
     ensures { λ b. ⌜ b ≡ inType (now (sheet .entry)) t z ⌝ }
 {
@@ -65,7 +68,7 @@ fn is_member(sheet: &[u8], directory: &[usize; 16], t: usize, z: i32) -> bool
 }
 
 // Whether a word is a value of type t. Every word is an Int.
-fn in_type(sheet: &[u8], directory: &[usize; 16], t: usize, z: i32) -> bool
+fn in_type(sheet: &[u8], directory: &Directory, t: usize, z: i32) -> bool
     requires { ⌜ now directory ≡ directoryOf (now sheet) ⌝ }
     ensures { λ b. ⌜ b ≡ inType (now (sheet .entry)) t z ⌝ }
 {
@@ -78,7 +81,7 @@ fn in_type(sheet: &[u8], directory: &[usize; 16], t: usize, z: i32) -> bool
     }
 }
 
-pub fn value_at(sheet: &[u8], directory: &[usize; 16], t: usize, st: &[i32], i: usize) -> bool
+pub fn value_at(sheet: &[u8], directory: &Directory, t: usize, st: &[i32], i: usize) -> bool
     requires { ⌜ (now directory ≡ directoryOf (now sheet)) × (i < length (now st)) ⌝ }
     ensures { λ b. ⌜ b ≡ inType (now (sheet .entry)) t (wordOf (now (st .entry)) i) ⌝ }
 {
@@ -88,7 +91,7 @@ pub fn value_at(sheet: &[u8], directory: &[usize; 16], t: usize, st: &[i32], i: 
 // ---- ends of telegrams
 
 // Whether the words at `at` and after it are two external components.
-pub fn both_external(sheet: &[u8], directory: &[usize; 16], st: &[i32], at: usize) -> bool
+pub fn both_external(sheet: &[u8], directory: &Directory, st: &[i32], at: usize) -> bool
     requires { ⌜ (now directory ≡ directoryOf (now sheet)) × (at + 2 ≤ length (now st)) ⌝ }
     ensures { λ b. ⌜ b ≡ isBelow (wordOf (now (st .entry)) at) (externalsOf (now (sheet .entry))) and isBelow (wordOf (now (st .entry)) (at + 1)) (externalsOf (now (sheet .entry))) ⌝ }
 {
@@ -100,7 +103,7 @@ pub fn both_external(sheet: &[u8], directory: &[usize; 16], st: &[i32], at: usiz
 }
 
 // Whether the two words from `at` on are components.
-pub fn both_components(sheet: &[u8], directory: &[usize; 16], st: &[i32], at: usize) -> bool
+pub fn both_components(sheet: &[u8], directory: &Directory, st: &[i32], at: usize) -> bool
     requires { ⌜ (now directory ≡ directoryOf (now sheet)) × (at + 2 ≤ length (now st)) ⌝ }
     ensures { λ b. ⌜ b ≡ isBelow (wordOf (now (st .entry)) at) (componentsOf (now (sheet .entry))) and isBelow (wordOf (now (st .entry)) (at + 1)) (componentsOf (now (sheet .entry))) ⌝ }
 {

@@ -1,4 +1,6 @@
 // Whether the places of a state fit: the telegrams that wait, and zeros in the unused ones.
+use engine_cells::CellLayout;
+use sheet::Directory;
 ghost use mathlib.Core.Path.{_≡_};
 ghost use mathlib.Core.List.{List};
 ghost use Prim.Native.Nat.{ℕ};
@@ -11,8 +13,8 @@ ghost use Rattle.engine_valid_telegrams.specs.Waits.{Waits};
 // The n waiting telegrams.
 pub fn waiting_fit(
     sheet: &[u8],
-    directory: &[usize; 16],
-    cells: &[usize; 2176],
+    directory: &Directory,
+    cells: &CellLayout,
     st: &[i32],
     n: usize,
 ) -> bool

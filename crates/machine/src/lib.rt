@@ -7,6 +7,11 @@ pub const EVENT_WORDS: usize = 9;
 // port, name and four data.
 pub const ANSWER_WORDS: usize = 11;
 
+// The four data of a telegram or a clock.
+pub const DATA: usize = 4;
+
+pub type Data = [i32; DATA];
+
 // A telegram as it lies in a state: port -1 if it is internal, data that its name has not are 0.
 pub struct Telegram {
     pub sender: i32,

@@ -1,9 +1,11 @@
 // Plays events as they come from a descriptor and lists their answers on standard output. An event is
 // nine little-endian signed 32-bit words; an incomplete last event is ignored.
+use engine_cells::CellLayout;
 use libc::STDOUT_FILENO;
 use machine::ANSWER_WORDS;
 use machine::EVENT_WORDS;
 use program_listing::LONGEST_LINE;
+use sheet::Directory;
 ghost use Prim.Native.Nat.{_+_, _*_, _<_, _≤_};
 ghost use mathlib.Core.Path.{_≡_};
 ghost use lib.ListN.{length};
@@ -51,8 +53,8 @@ fn list_events(words: &[i32], answers: &[i32], count: usize, done: u64, out: &mu
 // were written. `words` and `answers` are room for a thousand events and their answers in words.
 fn round(
     sheet: &[u8],
-    directory: &[usize; 16],
-    cells: &[usize; 2176],
+    directory: &Directory,
+    cells: &CellLayout,
     st: &mut [i32],
     spare: &mut [i32],
     events: &[u8],
@@ -86,8 +88,8 @@ fn round(
 pub fn play_events(
     fd: i32,
     sheet: &[u8],
-    directory: &[usize; 16],
-    cells: &[usize; 2176],
+    directory: &Directory,
+    cells: &CellLayout,
     st: &mut [i32],
     spare: &mut [i32],
     most: u64,

@@ -1,6 +1,9 @@
 // Plays a sheet with events from a descriptor and writes the listing to standard output.
+use engine_cells::CellLayout;
+use engine_cells::LAYOUT;
 use engine_store::LONGEST;
 use libc::STDOUT_FILENO;
+use sheet::Directory;
 use sheet_rules::Checked;
 ghost use mathlib.Core.Path.{_≡_};
 ghost use lib.ListN.{length};
@@ -37,8 +40,8 @@ fn refused(number: u8) -> RunEnd
 fn play_states(
     fd: i32,
     sheet: &[u8],
-    directory: &[usize; 16],
-    cells: &[usize; 2176],
+    directory: &Directory,
+    cells: &CellLayout,
     st: &mut [i32],
     spare: &mut [i32],
     most: u64,
@@ -60,13 +63,13 @@ fn play_states(
 }
 
 // There is room for the longest state.
-fn play_passed(fd: i32, sheet: &[u8], directory: &[usize; 16], most: u64) -> RunEnd
+fn play_passed(fd: i32, sheet: &[u8], directory: &Directory, most: u64) -> RunEnd
     requires { ⌜ (now directory ≡ directoryOf (now sheet)) × (checkOf (now sheet) ≡ Passed) ⌝ }
     ensures { λ r. ⌜ StartAnswers (now (sheet .entry)) (r .number) ⌝ }
 {
     let mut st = [0i32; LONGEST];
     let mut spare = [0i32; LONGEST];
-    let mut cells = [0usize; 2176];
+    let mut cells = [0usize; LAYOUT];
     let count = engine_cells::fill(sheet, directory, &mut cells);
     let n = engine_store::state_length(count);
     play_states(

@@ -1,4 +1,7 @@
 // Which records bind an element, and where in them the constant for a parameter stands.
+use sheet::BINDINGS;
+use sheet::CHARTS;
+use sheet::Directory;
 use sheet::Found;
 ghost use mathlib.Core.Path.{_≡_};
 ghost use Prim.Native.Nat.{_+_, _≤_, _<_};
@@ -18,19 +21,19 @@ pub fn records_for(n: u16) -> usize
 }
 
 // The chart that record k names.
-pub fn chart_bound(sheet: &[u8], directory: &[usize; 16], k: usize) -> Found
+pub fn chart_bound(sheet: &[u8], directory: &Directory, k: usize) -> Found
     requires { ⌜ now directory ≡ directoryOf (now sheet) ⌝ }
     ensures { λ c. ⌜ c ≡ chartBound (now (sheet .entry)) k ⌝ }
 {
-    let Found::Present(b) = sheet_reader::read(sheet, directory, 7, k) else {
+    let Found::Present(b) = sheet_reader::read(sheet, directory, BINDINGS, k) else {
         return Found::Absent;
     };
-    sheet_reader::read(sheet, directory, 4, b.f0 as usize)
+    sheet_reader::read(sheet, directory, CHARTS, b.f0 as usize)
 }
 
 // The record behind those of the element whose first one is k. An element's first record is at most at
 // twice its number, which has 16 bits.
-pub fn record_behind(sheet: &[u8], directory: &[usize; 16], k: usize) -> usize
+pub fn record_behind(sheet: &[u8], directory: &Directory, k: usize) -> usize
     requires { ⌜ (now directory ≡ directoryOf (now sheet)) × (k ≤ 131072) ⌝ }
     ensures { λ x. ⌜ (x ≡ behind (now (sheet .entry)) k) × (x ≤ k + 2) ⌝ }
 {
@@ -41,7 +44,7 @@ pub fn record_behind(sheet: &[u8], directory: &[usize; 16], k: usize) -> usize
 }
 
 // How many elements the section binds.
-pub fn elements_bound(sheet: &[u8], directory: &[usize; 16]) -> usize
+pub fn elements_bound(sheet: &[u8], directory: &Directory) -> usize
     requires { ⌜ now directory ≡ directoryOf (now sheet) ⌝ }
     ensures { λ n. ⌜ (n ≡ elementsBoundIn (now (sheet .entry))) × (n < 65536) ⌝ }
 {

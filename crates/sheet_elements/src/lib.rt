@@ -1,5 +1,7 @@
 // The bound elements: how many cells the variables of each take, and all together.
+use sheet::Directory;
 use sheet::Found;
+use sheet::HEAD;
 use sheet::Record;
 ghost use mathlib.Core.Path.{_≡_};
 ghost use Prim.Native.Nat.{ℕ, _*_, _<_};
@@ -9,7 +11,7 @@ ghost use Rattle.sheet_rules.specs.Bindings.{firstBinding};
 ghost use Rattle.sheet_rules.specs.Shape.{cellsBound, cellsOf};
 
 // How many cells the first n variables of chart c take.
-pub fn cells_before(sheet: &[u8], directory: &[usize; 16], c: Record, n: u16) -> usize
+pub fn cells_before(sheet: &[u8], directory: &Directory, c: Record, n: u16) -> usize
     requires { ⌜ now directory ≡ directoryOf (now sheet) ⌝ }
     ensures { λ x. ⌜ (x ≡ cellsBefore (now (sheet .entry)) c n) × (x < 65536 * 65536) ⌝ }
 {
@@ -25,7 +27,7 @@ pub fn cells_before(sheet: &[u8], directory: &[usize; 16], c: Record, n: u16) ->
 }
 
 // How many cells the element has whose first binding record is k.
-fn cells_bound(sheet: &[u8], directory: &[usize; 16], k: usize) -> usize
+fn cells_bound(sheet: &[u8], directory: &Directory, k: usize) -> usize
     requires { ⌜ now directory ≡ directoryOf (now sheet) ⌝ }
     ensures { λ n. ⌜ ((i : ℕ) → k ≡ firstBinding (now (sheet .entry)) i → n ≡ cellsBound (now (sheet .entry)) i) × (n < 65536 * 65536) ⌝ }
 {
@@ -36,12 +38,12 @@ fn cells_bound(sheet: &[u8], directory: &[usize; 16], k: usize) -> usize
 }
 
 // How many cells the bound elements have together.
-pub fn cells(sheet: &[u8], directory: &[usize; 16]) -> usize
+pub fn cells(sheet: &[u8], directory: &Directory) -> usize
     requires { ⌜ now directory ≡ directoryOf (now sheet) ⌝ }
     ensures { λ n. ⌜ n ≡ cellsOf (now (sheet .entry)) ⌝ }
 {
-    let components = sheet_fields::field_at(sheet, directory, 0, 0, 0);
-    let externals = sheet_fields::field_at(sheet, directory, 0, 0, 1);
+    let components = sheet_fields::field_at(sheet, directory, HEAD, 0, 0);
+    let externals = sheet_fields::field_at(sheet, directory, HEAD, 0, 1);
     let mut sum: usize = 0;
     let mut k: usize = 0;
     let mut i: usize = 0;

@@ -1,5 +1,8 @@
 // Fields of records by number, and where a node's operands stand.
+use sheet::BODIES;
+use sheet::Directory;
 use sheet::Found;
+use sheet::NAMES;
 use sheet::Record;
 use sheet_rules::Operands;
 ghost use mathlib.Core.Path.{_≡_};
@@ -46,7 +49,7 @@ pub fn zero_from(r: Record, n: usize) -> bool
 // A field of a record, 0 where there is none.
 pub fn field_at(
     sheet: &[u8],
-    directory: &[usize; 16],
+    directory: &Directory,
     section: usize,
     number: usize,
     i: usize,
@@ -63,7 +66,7 @@ pub fn field_at(
 // Whether a range of records ends within its section.
 pub fn in_section(
     sheet: &[u8],
-    directory: &[usize; 16],
+    directory: &Directory,
     section: usize,
     first: u16,
     count: u16,
@@ -75,18 +78,18 @@ pub fn in_section(
 }
 
 // How many data fields a call in chart c uses.
-pub fn call_data(sheet: &[u8], directory: &[usize; 16], c: Record, r: Record) -> usize
+pub fn call_data(sheet: &[u8], directory: &Directory, c: Record, r: Record) -> usize
     requires { ⌜ now directory ≡ directoryOf (now sheet) ⌝ }
     ensures { λ x. ⌜ (x ≡ callData (now (sheet .entry)) c r) × (x < 65536) ⌝ }
 {
     if c.f5 <= r.f1 {
         return 0;
     }
-    field_at(sheet, directory, 5, c.f4 as usize + r.f1 as usize, 4)
+    field_at(sheet, directory, BODIES, c.f4 as usize + r.f1 as usize, 4)
 }
 
 // Where the operands of a node of chart c stand.
-pub fn operands(sheet: &[u8], directory: &[usize; 16], c: Record, r: Record) -> Operands
+pub fn operands(sheet: &[u8], directory: &Directory, c: Record, r: Record) -> Operands
     requires { ⌜ now directory ≡ directoryOf (now sheet) ⌝ }
     ensures { λ o. ⌜ (o ≡ operandsOf (now (sheet .entry)) c r) × Small o ⌝ }
 {
@@ -113,7 +116,7 @@ pub fn operands(sheet: &[u8], directory: &[usize; 16], c: Record, r: Record) -> 
             tail: 0,
         },
         34 => {
-            let tail = field_at(sheet, directory, 3, r.f3 as usize, 1);
+            let tail = field_at(sheet, directory, NAMES, r.f3 as usize, 1);
             Operands {
                 first: 1,
                 count: 2,
@@ -121,7 +124,7 @@ pub fn operands(sheet: &[u8], directory: &[usize; 16], c: Record, r: Record) -> 
             }
         }
         35 => {
-            let tail = field_at(sheet, directory, 3, r.f3 as usize, 1);
+            let tail = field_at(sheet, directory, NAMES, r.f3 as usize, 1);
             Operands {
                 first: 1,
                 count: 0,
@@ -129,7 +132,7 @@ pub fn operands(sheet: &[u8], directory: &[usize; 16], c: Record, r: Record) -> 
             }
         }
         36..=37 => {
-            let tail = field_at(sheet, directory, 3, r.f3 as usize, 1);
+            let tail = field_at(sheet, directory, NAMES, r.f3 as usize, 1);
             Operands {
                 first: 2,
                 count: 1,

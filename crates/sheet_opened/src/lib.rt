@@ -1,13 +1,14 @@
 // A reader opened on a lent sheet: the bytes and the directory that was tested once, held together. The borrow checker
 // covers no function over a struct that holds a reference, so each of the three is proved by hand, and each leaves the
 // work to the covered functions of `sheet_reader`.
+use sheet::Directory;
 use sheet::Found;
 ghost use mathlib.Core.Path.{_≡_};
 ghost use Rattle.sheet.specs.Sheet.{directoryOf, recordOf};
 
 pub struct Reader<'a> {
     pub sheet: &'a [u8],
-    pub directory: [usize; 16],
+    pub directory: Directory,
 }
 
 // The directory is tested once, here.

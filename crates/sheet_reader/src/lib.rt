@@ -1,4 +1,6 @@
 // The sheet's reader: any record of any bytes, by section and number.
+use sheet::DIRECTORY;
+use sheet::Directory;
 use sheet::Found;
 use sheet::Record;
 ghost use mathlib.Core.Path.{_≡_};
@@ -24,10 +26,10 @@ fn count_place(section: usize) -> usize
 
 // The directory, tested once and handed on: each section's offset and its count of records. Where the
 // directory is wrong every count is 0.
-pub fn directory(sheet: &[u8]) -> [usize; 16]
+pub fn directory(sheet: &[u8]) -> Directory
     ensures { λ r. ⌜ r ≡ directoryOf (now (sheet .entry)) ⌝ }
 {
-    let mut sections = [0usize; 16];
+    let mut sections = [0usize; DIRECTORY];
     if sheet_directory::directory_right(sheet) {
         let mut k: usize = 0;
         while k < 8 {
@@ -42,7 +44,7 @@ pub fn directory(sheet: &[u8]) -> [usize; 16]
 }
 
 // How many records a section has, by the opened directory. Any array has an answer.
-pub fn count_in(directory: &[usize; 16], section: usize) -> usize
+pub fn count_in(directory: &Directory, section: usize) -> usize
     ensures { λ r. ⌜ r ≡ countIn (now (directory .entry)) section ⌝ }
 {
     if section < 8 {
@@ -69,7 +71,7 @@ fn fields_at(sheet: &[u8], at: usize) -> Record
 }
 
 // A record by the opened directory: the sixteen bytes and one bound.
-pub fn read(sheet: &[u8], directory: &[usize; 16], section: usize, number: usize) -> Found
+pub fn read(sheet: &[u8], directory: &Directory, section: usize, number: usize) -> Found
     requires { ⌜ now directory ≡ directoryOf (now sheet) ⌝ }
     ensures { λ r. ⌜ r ≡ recordOf (now (sheet .entry)) section number ⌝ }
 {

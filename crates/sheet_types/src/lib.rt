@@ -1,5 +1,9 @@
 // The types of declarations, variables and literals; classes and data of names; the body that a call names.
+use sheet::BODIES;
+use sheet::DECLARATIONS;
+use sheet::Directory;
 use sheet::Found;
+use sheet::NAMES;
 use sheet::Range;
 use sheet::Record;
 use sheet_rules::Typed;
@@ -11,11 +15,11 @@ ghost use Rattle.sheet_rules.specs.Fields.{typeAt};
 ghost use Rattle.sheet_rules.specs.Forms.{calledBody};
 ghost use Rattle.sheet_rules.specs.Types.{isOf, isStatement, literalType, variableAt, hasClass, nameRange, parametersOf};
 
-pub fn type_at(sheet: &[u8], directory: &[usize; 16], d: usize) -> usize
+pub fn type_at(sheet: &[u8], directory: &Directory, d: usize) -> usize
     requires { ⌜ now directory ≡ directoryOf (now sheet) ⌝ }
     ensures { λ t. ⌜ t ≡ typeAt (now (sheet .entry)) d ⌝ }
 {
-    sheet_fields::field_at(sheet, directory, 2, d, 0)
+    sheet_fields::field_at(sheet, directory, DECLARATIONS, d, 0)
 }
 
 pub fn is_clock(t: usize) -> bool
@@ -78,7 +82,7 @@ pub fn variable_at(c: Record, b: Record, place: u16, n: u16) -> usize
 }
 
 // The type of variable n of chart c.
-pub fn chart_variable_type(sheet: &[u8], directory: &[usize; 16], c: Record, n: u16) -> usize
+pub fn chart_variable_type(sheet: &[u8], directory: &Directory, c: Record, n: u16) -> usize
     requires { ⌜ now directory ≡ directoryOf (now sheet) ⌝ }
     ensures { λ t. ⌜ t ≡ typeAt (now (sheet .entry)) (c .f2 + n) ⌝ }
 {
@@ -86,22 +90,22 @@ pub fn chart_variable_type(sheet: &[u8], directory: &[usize; 16], c: Record, n: 
 }
 
 // Whether name n is of a class.
-pub fn has_class(sheet: &[u8], directory: &[usize; 16], n: usize, kind: u16) -> bool
+pub fn has_class(sheet: &[u8], directory: &Directory, n: usize, kind: u16) -> bool
     requires { ⌜ now directory ≡ directoryOf (now sheet) ⌝ }
     ensures { λ b. ⌜ b ≡ hasClass (now (sheet .entry)) n kind ⌝ }
 {
-    let Found::Present(r) = sheet_reader::read(sheet, directory, 3, n) else {
+    let Found::Present(r) = sheet_reader::read(sheet, directory, NAMES, n) else {
         return false;
     };
     r.f2 == kind
 }
 
 // The data of name n.
-pub fn name_range(sheet: &[u8], directory: &[usize; 16], n: usize) -> Range
+pub fn name_range(sheet: &[u8], directory: &Directory, n: usize) -> Range
     requires { ⌜ now directory ≡ directoryOf (now sheet) ⌝ }
     ensures { λ g. ⌜ (g ≡ nameRange (now (sheet .entry)) n) × (g .first < 65536) × (g .count < 65536) ⌝ }
 {
-    let Found::Present(r) = sheet_reader::read(sheet, directory, 3, n) else {
+    let Found::Present(r) = sheet_reader::read(sheet, directory, NAMES, n) else {
         return Range { first: 0, count: 0 };
     };
     Range {
@@ -111,18 +115,18 @@ pub fn name_range(sheet: &[u8], directory: &[usize; 16], n: usize) -> Range
 }
 
 // The body that a call in chart c names.
-pub fn called_body(sheet: &[u8], directory: &[usize; 16], c: Record, r: Record) -> Found
+pub fn called_body(sheet: &[u8], directory: &Directory, c: Record, r: Record) -> Found
     requires { ⌜ now directory ≡ directoryOf (now sheet) ⌝ }
     ensures { λ f. ⌜ f ≡ calledBody (now (sheet .entry)) c r ⌝ }
 {
     if c.f5 <= r.f1 {
         return Found::Absent;
     }
-    sheet_reader::read(sheet, directory, 5, c.f4 as usize + r.f1 as usize)
+    sheet_reader::read(sheet, directory, BODIES, c.f4 as usize + r.f1 as usize)
 }
 
 // Its parameters.
-pub fn called_range(sheet: &[u8], directory: &[usize; 16], c: Record, r: Record) -> Range
+pub fn called_range(sheet: &[u8], directory: &Directory, c: Record, r: Record) -> Range
     requires { ⌜ now directory ≡ directoryOf (now sheet) ⌝ }
     ensures { λ g. ⌜ (g ≡ parametersOf (calledBody (now (sheet .entry)) c r)) × (g .first < 65536) × (g .count < 65536) ⌝ }
 {

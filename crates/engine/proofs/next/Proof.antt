@@ -23,7 +23,7 @@ copy-requires : tie.Need-copy-requires
 copy-requires c κs = search needs
 
 happened-requires : tie.Need-happened-requires
-happened-requires c κs = 
+happened-requires c κs =
     let start = c .before .before .before .before .before .before .before .before .before in
     let came = c .before .before .if1 .came in
     record {

@@ -34,7 +34,7 @@ returns-2 : tie.Need-returns-2
 returns-2 c = result-long _ _ _ _ (c .before .before .before .before .before .before .before .before .pre .1) (by-cells _ _ _ _ _ (c .before .before .before .before .before .fill .ensures .0) (c .before .before .is-state2 .ensures) (not-true _ (c .before .if2 .taken))) _ (c .answered2 .ensures)
 
 content-fits-requires : tie.Need-content-fits-requires
-content-fits-requires c κs = 
+content-fits-requires c κs =
     let start = c .before .before .before .before .before .before .before .before in
     let filled = c .before .before .before .before .before .fill .ensures in
     record {
@@ -48,7 +48,7 @@ answered-requires-3 : tie.Need-answered-requires-3
 answered-requires-3 c κs = search needs
 
 returns-3 : tie.Need-returns-3
-returns-3 c = 
+returns-3 c =
     let judged = c .before .before in
     let start = judged .before .before .before .before .before .before .before .before .before in
     let filled = judged .before .before .before .before .before .before .fill .ensures in
@@ -66,7 +66,7 @@ answered-requires-4 : tie.Need-answered-requires-4
 answered-requires-4 c κs = search needs
 
 returns-4 : tie.Need-returns-4
-returns-4 c = 
+returns-4 c =
     let judged = c .before .before .before .before .before in
     let start = judged .before .before .before .before .before .before .before .before .before in
     let filled = judged .before .before .before .before .before .before .fill .ensures in
@@ -76,7 +76,7 @@ returns-4 c =
     malformed-event _ _ _ _ (start .pre .1) old new fit _ (c .before .before .before .event-of .ensures) (sym (c .before .before .is-malformed .ensures) ∙ c .before .if4 .taken) _ (c .answered4 .ensures)
 
 copy-requires : tie.Need-copy-requires
-copy-requires c κs = 
+copy-requires c κs =
     let judged = c .before .before .before .before .before in
     let start = judged .before .before .before .before .before .before .before .before .before in
     let filled = judged .before .before .before .before .before .before .fill .ensures in
@@ -85,7 +85,7 @@ copy-requires c κs =
     new ∙ sym old
 
 sought-requires : tie.Need-sought-requires
-sought-requires c κs = 
+sought-requires c κs =
     let judged = c .before .before .before .before .before .before .before .before in
     let start = judged .before .before .before .before .before .before .before .before .before in
     let filled = judged .before .before .before .before .before .before .fill .ensures in
@@ -95,7 +95,7 @@ sought-requires c κs =
     laid _ _ (copy-plays _ _ (start .args .result .now) (start .args .ev .now) (start .pre .1) old new _ _ (start .pre .0) (filled .1) fit _ (c .before .before .copy .ensures) .state)
 
 happened-requires : tie.Need-happened-requires
-happened-requires c κs = 
+happened-requires c κs =
     let judged = c .before .before .before .before .before .before .before .before .before .before .before in
     let start = judged .before .before .before .before .before .before .before .before .before in
     let filled = judged .before .before .before .before .before .before .fill .ensures in
@@ -116,7 +116,7 @@ same-length : tie.Need-same-length
 same-length c = search needs
 
 returns-5 : tie.Need-returns-5
-returns-5 c = 
+returns-5 c =
     let judged = c .before .before .before .before .before .before .before .before .before .before .before .before .before in
     let start = judged .before .before .before .before .before .before .before .before .before in
     let filled = judged .before .before .before .before .before .before .fill .ensures in

@@ -20,13 +20,13 @@ answered-requires : tie.Need-answered-requires
 answered-requires c κs = search needs
 
 returns : tie.Need-returns
-returns c = 
+returns c =
     let start = c .before .before .before .before .before .before in
     let other = by-cells _ _ _ _ _ (c .before .before .before .fill .ensures .0) (c .before .before .is-state .ensures) (not-true _ (c .before .if1 .taken)) in
     ap (λ (a : Answer). ended a (start .args .result .now)) (c .answered .ensures) ∙ sym (start-length _ _ (start .pre .1) (eqb-false _ _ other))
 
 begin-requires : tie.Need-begin-requires
-begin-requires c κs = 
+begin-requires c κs =
     let start = c .before .before .before .before .before .before .before in
     let filled = c .before .before .before .before .fill .ensures in
     record {
