@@ -115,7 +115,7 @@ module _ (ws : List ℤ) (at : ℕ) where
         d3 = w 7 (omega arith) i;
       })
 
--- an answer that was put is read again, whole but for the sender of what it handed outside
+-- an answer that was put is read again, where its numbers are those of code and the sender of what it handed outside is 1
 module _ (l : List ℤ) (at : ℕ) (a : Answer) (fit : at + wordsOfAnswer ≤ length l) where
   abbrev put : List ℤ
   put = putWords l at (answerWords a)

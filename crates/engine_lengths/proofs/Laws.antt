@@ -22,16 +22,16 @@ by-cells s cells n b t e d h = ap (eqb n) (sym (words-with s cells e)) ∙ sym d
 -- ---- lengths by quotients
 
 module _ (events answers : ℕ) where
-  abbrev listed : Bool
-  listed = eqb (events % wordsOfEvent) 0 and eqb answers (wordsOfAnswer * (events / wordsOfEvent))
+  abbrev whole : Bool
+  whole = eqb (events % wordsOfEvent) 0 and eqb answers (wordsOfAnswer * (events / wordsOfEvent))
 
-  pub part-of-event : (events % wordsOfEvent ≡ 0 → ⊥) → false ≡ listed
+  pub part-of-event : (events % wordsOfEvent ≡ 0 → ⊥) → false ≡ whole
   part-of-event h = first-fails _ _ (ne-eqb (events % wordsOfEvent) 0 h)
 
-  pub part-of-answer : (answers % wordsOfAnswer ≡ 0 → ⊥) → false ≡ listed
+  pub part-of-answer : (answers % wordsOfAnswer ≡ 0 → ⊥) → false ≡ whole
   part-of-answer h = rest-fails _ _ (sym (ne-eqb answers (wordsOfAnswer * (events / wordsOfEvent)) (λ e. h (omega arith))))
 
-  pub whole-answers : events % wordsOfEvent ≡ 0 → answers % wordsOfAnswer ≡ 0 → eqb (answers / wordsOfAnswer) (events / wordsOfEvent) ≡ listed
+  pub whole-answers : events % wordsOfEvent ≡ 0 → answers % wordsOfAnswer ≡ 0 → eqb (answers / wordsOfAnswer) (events / wordsOfEvent) ≡ whole
   whole-answers u v = first-holds _ _ (eqb (answers / wordsOfAnswer) (events / wordsOfEvent)) (eq-eqb (events % wordsOfEvent) 0 u) (go (eqb (answers / wordsOfAnswer) (events / wordsOfEvent)) refl)
     where
       go : (b : Bool) → eqb (answers / wordsOfAnswer) (events / wordsOfEvent) ≡ b → b ≡ eqb answers (wordsOfAnswer * (events / wordsOfEvent))
