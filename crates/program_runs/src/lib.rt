@@ -9,9 +9,8 @@ ghost use mathlib.Core.Path.{_≡_};
 ghost use lib.ListN.{length};
 ghost use Rattle.sheet.specs.Sheet.{directoryOf};
 ghost use Rattle.sheet_rules.specs.declared.Checked.the-variants.{Passed};
-ghost use Rattle.machine.specs.State.{stateLength};
 ghost use Rattle.sheet_rules.specs.Check.{checkOf};
-ghost use Rattle.engine_cells.specs.Cells.{CellTable};
+ghost use Rattle.engine_cells.specs.Lent.{Lent};
 ghost use Rattle.program_runs.specs.Start.{StartAnswers};
 
 // Start's answer, and whether every line was written and no read failed.
@@ -46,7 +45,7 @@ fn play_states(
     spare: &mut [i32],
     most: u64,
 ) -> RunEnd
-    requires { ⌜ (now directory ≡ directoryOf (now sheet)) × (checkOf (now sheet) ≡ Passed) × (length (now st) ≡ stateLength (now sheet)) × (length (now spare) ≡ length (now st)) × CellTable (now sheet) (now cells) ⌝ }
+    requires { ⌜ Lent (now sheet) (now directory) (now cells) (now st) × (length (now spare) ≡ length (now st)) ⌝ }
     ensures { λ r. ⌜ StartAnswers (now (sheet .entry)) (r .number) ⌝ }
 {
     let a = engine::begin(sheet, directory, cells, st);

@@ -61,7 +61,7 @@ begin-requires c κs =
     let fill = c .before .before .before .before .before .before .before .before .fill in
     let start = c .before .before .before .before .before .before .before .before .before .before .before in
     let st = by-cells (start .args .sheet .now) _ _ _ _ (fill .ensures .0) (c .before .before .before .before .before .before .before .is-state .ensures) (not-false _ (c .before .before .before .before .before .before .if1 .left)) in
-    (start .pre .0, start .pre .1, eqb-true _ _ st, fill .ensures .1)
+    record { directory = start .pre .0; passed = start .pre .1; cells = fill .ensures .1; whole = eqb-true _ _ st }
 
 play-on-requires : tie.Need-play-on-requires
 play-on-requires c κs =
@@ -74,11 +74,14 @@ play-on-requires c κs =
     let spare = by-cells (args .sheet .now) _ _ _ _ (fill .ensures .0) (at8 .before .before .before .before .before .is-state2 .ensures) (not-false _ (at8 .before .before .before .before .if2 .left)) in
     let list = whole-told (args .events .now) (args .answers .now) _ _ (at8 .before .before .before .is-list .ensures) (not-false _ (at8 .before .before .if3 .left)) in
     let l = eqb-true _ _ st in (
-      begun (args .sheet .now) (args .directory .now) (args .st .now) (begin .result) (begin .last .1 .1 .1 .0) (start .pre .0) (start .pre .1) l
-          (begin .ensures) (c .before .before .before .before .if4 .taken),
+      record {
+        directory = start .pre .0;
+        passed = start .pre .1;
+        cells = fill .ensures .1;
+        state = begun (args .sheet .now) (start .pre .1) (args .st .now) (begin .result) (begin .last .1 .1 .1 .0) l (begin .ensures) (c .before .before .before .before .if4 .taken);
+      },
       eqb-true _ _ spare ∙ sym l ∙ sym (begin .kept .1 .1 .1 .0),
       answers-room (args .events .now) (args .answers .now) list,
-      fill .ensures .1,
     )
 
 same-length : tie.Need-same-length

@@ -6,7 +6,7 @@ use native.Mathlib.Omega.{arith}
 use lib.ListN.{length}
 use borrow.Author.Needs.{needs}
 use Rattle.machine.specs.Play.{wordsOfEvent}
-use Rattle.machine_events.specs.Playing.{Playing}
+use Rattle.engine_cells.specs.Playing.{Playing}
 use Rattle.engine_answers.specs.Words.{wordsOfAnswer}
 use Rattle.program_events.specs.Room.{roomEvents, bytesOfEvent, roomText}
 use Rattle.program_events.proofs.play_events.Statement.{statement}
@@ -14,7 +14,7 @@ use Rattle.program_events.proofs.play_events.Tie as tie
 
 abbrev Inv-loop : tie.InvT-loop
 Inv-loop fd sheet directory cells st₀ spare₀ most events₀ words₀ answers₀ out₀ have₀ done₀ st spare events words answers out have done =
-    Playing sheet directory st × (length st ≡ length st₀) × (length spare ≡ length spare₀) × (length events ≡ roomEvents * bytesOfEvent)
+    Playing sheet directory cells st × (length st ≡ length st₀) × (length spare ≡ length spare₀) × (length events ≡ roomEvents * bytesOfEvent)
     × (length words ≡ roomEvents * wordsOfEvent) × (length answers ≡ roomEvents * wordsOfAnswer) × (length out ≡ roomText) × (have < bytesOfEvent) × (done ≤ most)
 
 abbrev μ-loop : tie.MeasureT-loop
@@ -67,7 +67,7 @@ round-requires c κs =
     let turn = c .before .before .before .before .before .before .before .before .before .before .loop-test .taken in
     let read-more = c .before .before .before .before .before .before .before .before .read-more in
     let k = read-more .kept .1 .0 in
-    (inv .0, inv .2 ∙ start .pre .1 ∙ sym (inv .1), omega arith, omega arith, inv .4, inv .5, omega arith, inv .6, start .pre .2)
+    (inv .0, inv .2 ∙ start .pre .1 ∙ sym (inv .1), omega arith, omega arith, inv .4, inv .5, omega arith, inv .6)
 
 same-length-3 : tie.Need-same-length-3 Inv-loop μ-loop
 same-length-3 c =

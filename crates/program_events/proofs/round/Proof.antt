@@ -35,7 +35,7 @@ slice-aggregate-play-on-2 c = sym (length-take-le _ _ (slice-relend-prefix-play-
 play-on-requires : tie.Need-play-on-requires
 play-on-requires c κs =
     let start = c .before .before .before .before .before .before .before .before .before .before in
-    (start .pre .0, start .pre .1, answers-room _ _ _ (slice-reshare-prefix-play-on (c .before .before .before .before)) (slice-relend-prefix-play-on (c .before)), start .pre .8)
+    (start .pre .0, start .pre .1, answers-room _ _ _ (slice-reshare-prefix-play-on (c .before .before .before .before)) (slice-relend-prefix-play-on (c .before)))
 
 list-events-requires : tie.Need-list-events-requires
 list-events-requires c κs = search needs

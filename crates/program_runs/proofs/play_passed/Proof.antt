@@ -49,7 +49,7 @@ play-states-requires c κs =
     let cells = fill .ensures .0 in
     let l : n ≤ longest = omega (arith, cells-limit _ (start .pre .1)) in
     let f = fresh-front n longest (pos 0) l in
-    (start .pre .0, start .pre .1, sym f ∙ words ∙ words-with (start .args .sheet .now) _ cells, sym f ∙ f, fill .ensures .1)
+    (record { directory = start .pre .0; passed = start .pre .1; cells = fill .ensures .1; whole = sym f ∙ words ∙ words-with (start .args .sheet .now) _ cells }, sym f ∙ f)
 
 returns : tie.Need-returns
 returns c = search needs

@@ -18,8 +18,8 @@ play-events-requires c κs =
     let begin = c .before .before .before .before .before .before .before .begin in
     let st = begin .last .1 .1 .1 .0 in
     let p = start .pre in
-    let begun-there = begun (args .sheet .now) (args .directory .now) (args .st .now) (begin .result) st (p .0) (p .1) (p .2) (begin .ensures) (c .before .before .if2 .taken) in
-    (begun-there, p .3 ∙ sym (begin .kept .1 .1 .1 .0), p .4)
+    let state = begun (args .sheet .now) (p .0 .passed) (args .st .now) (begin .result) st (p .0 .whole) (begin .ensures) (c .before .before .if2 .taken) in
+    (record { directory = p .0 .directory; passed = p .0 .passed; cells = p .0 .cells; state = state }, p .1 ∙ sym (begin .kept .1 .1 .1 .0))
 
 same-length : tie.Need-same-length
 same-length c = search needs
@@ -33,7 +33,7 @@ returns c =
     let args = start .args in
     let begin = c .before .before .before .before .before .before .before .before .before .before .begin in
     let st = begin .last .1 .1 .1 .0 in
-    start-answers (args .sheet .now) (args .st .now) (begin .result) st (start .pre .1) (start .pre .2) (begin .ensures)
+    start-answers (args .sheet .now) (args .st .now) (begin .result) st (start .pre .0 .passed) (start .pre .0 .whole) (begin .ensures)
 
 same-length-3 : tie.Need-same-length-3
 same-length-3 c = search needs
@@ -44,7 +44,7 @@ returns-2 c =
     let args = start .args in
     let begin = c .before .before .before .before .before .begin in
     let st = begin .last .1 .1 .1 .0 in
-    start-answers (args .sheet .now) (args .st .now) (begin .result) st (start .pre .1) (start .pre .2) (begin .ensures)
+    start-answers (args .sheet .now) (args .st .now) (begin .result) st (start .pre .0 .passed) (start .pre .0 .whole) (begin .ensures)
 
 same-length-4 : tie.Need-same-length-4
 same-length-4 c = search needs
@@ -55,7 +55,7 @@ returns-3 c =
     let args = start .args in
     let begin = c .before .before .before .begin in
     let st = begin .last .1 .1 .1 .0 in
-    start-answers (args .sheet .now) (args .st .now) (begin .result) st (start .pre .1) (start .pre .2) (begin .ensures)
+    start-answers (args .sheet .now) (args .st .now) (begin .result) st (start .pre .0 .passed) (start .pre .0 .whole) (begin .ensures)
 
 pub play-states-spec : {M : Type 1} → statement M
 play-states-spec =
