@@ -85,7 +85,7 @@ pub fn used_once(sheet: &[u8], directory: &Directory, marks: &mut [u16]) -> Test
         let used = mark % 4;
         marks[n] = used;
         once = still_once(once, used);
-        gone += checker_marks::mark_operands(sheet, directory, marks, n, mark / 4);
+        gone += checker_operand_marks::mark_operands(sheet, directory, marks, n, mark / 4);
     }
     Tested {
         once: once,

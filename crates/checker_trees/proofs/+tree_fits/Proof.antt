@@ -27,7 +27,7 @@ use Rattle.checker_trees.proofs.+tree_fits.Lts-tree_fits as tree-fits-l
 use Rattle.sheet_fields.proofs.operand.Reads as operand-reads
 use Rattle.sheet_fields.proofs.operands.Reads as operands-reads
 use Rattle.sheet_reader.proofs.read.Reads as read-reads
-use Rattle.checker_trees.proofs.fields_fit.Reads as fields-fit-reads
+use Rattle.checker_fields.proofs.fields_fit.Reads as fields-fit-reads
 use Rattle.checker_trees.proofs.+tree_fits.{statement}
 use Rattle.checker_trees.proofs.+tree_fits.Tie.{close}
 

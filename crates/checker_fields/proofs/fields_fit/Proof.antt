@@ -12,8 +12,8 @@ use Rattle.sheet.specs.Table.{lookUp}
 use Rattle.sheet_rules.specs.Forms.{Form, literal, binary, clock, arm, clockAct, unknown, formOf}
 use Rattle.sheet_rules.proofs.Forms.{form-literal, form-binary, form-clock, form-arm, form-clockAct, form-unknown}
 use Rattle.sheet_rules.specs.Shape.{fieldsShape}
-use Rattle.checker_trees.proofs.fields_fit.Statement.{statement}
-use Rattle.checker_trees.proofs.fields_fit.Tie as tie
+use Rattle.checker_fields.proofs.fields_fit.Statement.{statement}
+use Rattle.checker_fields.proofs.fields_fit.Tie as tie
 
 module _ (op : ℕ) where
   unknown-low : op < 1 → formOf op ≡ unknown

@@ -1,8 +1,8 @@
 use mathlib.Core.Path.{sym, _∙_}
 use Rattle.checker_pass.proofs.Added.{home-none, home-absent, home-there}
 use borrow.Author.Needs.{needs}
-use Rattle.checker_marks.proofs.home_chart.Statement.{statement}
-use Rattle.checker_marks.proofs.home_chart.Tie as tie
+use Rattle.checker_operand_marks.proofs.home_chart.Statement.{statement}
+use Rattle.checker_operand_marks.proofs.home_chart.Tie as tie
 
 returns : tie.Need-returns
 returns c = home-none _ _ (c .if1 .taken)

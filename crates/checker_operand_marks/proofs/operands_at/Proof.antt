@@ -3,8 +3,8 @@ use Rattle.sheet_rules.specs.Forms.{operandsOf}
 use Rattle.sheet_rules.proofs.Forms.{operands-plain}
 use Rattle.sheet.specs.declared.Record.{Record}
 use borrow.Author.Needs.{needs}
-use Rattle.checker_marks.proofs.operands_at.Statement.{statement}
-use Rattle.checker_marks.proofs.operands_at.Tie as tie
+use Rattle.checker_operand_marks.proofs.operands_at.Statement.{statement}
+use Rattle.checker_operand_marks.proofs.operands_at.Tie as tie
 
 home-chart-requires : tie.Need-home-chart-requires
 home-chart-requires c κs = search needs

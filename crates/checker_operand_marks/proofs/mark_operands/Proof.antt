@@ -9,8 +9,8 @@ use Rattle.checker_pass.proofs.Marking.{marked-as, loop-start, loop-more, loop-
 use lib.Dec.{eqb}
 use Rattle.sheet_rules.specs.Fields.{oneIf}
 use Rattle.checker_pass.proofs.Added.{operandTurn, operands-absent, operands-added}
-use Rattle.checker_marks.proofs.mark_operands.Statement.{statement}
-use Rattle.checker_marks.proofs.mark_operands.Tie as tie
+use Rattle.checker_operand_marks.proofs.mark_operands.Statement.{statement}
+use Rattle.checker_operand_marks.proofs.mark_operands.Tie as tie
 
 abbrev Inv-loop : tie.InvT-loop
 Inv-loop sheet directory marks₀ m k r gone o total j₀ marks j = (j ≤ total) × Marked m k marks₀ marks (λ n. sumBelow j (operandTurn r o n))
