@@ -1,4 +1,4 @@
--- What the acts of a statement come to.
+-- What sending a telegram comes to.
 use Prim.Native.Nat.{ℕ, zero, suc, _<_}
 use mathlib.Core.Path.{_≡_, refl, sym, ap, _∙_}
 use mathlib.Core.List.{List}
