@@ -38,15 +38,16 @@ pub fn oldest_external(st: &[i32], a: i32, r: i32) -> usize
     ensures { λ n. ⌜ ((s : List ℕ) → length (now (st .entry)) ≡ stateLength s → n ≡ oldest s (now (st .entry)) (goesFrom a r)) ⌝ }
 {
     let n = engine_queue::waiting_count(st);
-    let mut j = 0;
-    while j < n {
-        let at = engine_store::place_at(st.len(), j);
+    let first = engine_store::place_at(st.len(), 0);
+    let end = engine_store::place_at(st.len(), n);
+    let mut at = first;
+    while at < end {
         if goes(st, at, a, r) {
-            return j;
+            return (at - first) / 8;
         }
-        j += 1;
+        at += 8;
     }
-    n
+    (at - first) / 8
 }
 
 // The oldest internal telegram of r, or the number behind the last.
@@ -55,13 +56,14 @@ pub fn oldest_internal(st: &[i32], r: i32) -> usize
     ensures { λ n. ⌜ ((s : List ℕ) → length (now (st .entry)) ≡ stateLength s → n ≡ oldest s (now (st .entry)) (innerOf r)) ⌝ }
 {
     let n = engine_queue::waiting_count(st);
-    let mut k = 0;
-    while k < n {
-        let at = engine_store::place_at(st.len(), k);
+    let first = engine_store::place_at(st.len(), 0);
+    let end = engine_store::place_at(st.len(), n);
+    let mut at = first;
+    while at < end {
         if inner(st, at, r) {
-            return k;
+            return (at - first) / 8;
         }
-        k += 1;
+        at += 8;
     }
-    n
+    (at - first) / 8
 }

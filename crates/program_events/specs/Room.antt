@@ -10,4 +10,4 @@ abbrev pub bytesOfEvent : ℕ
 bytesOfEvent = 4 * wordsOfEvent
 
 abbrev pub roomText : ℕ
-roomText = 32768
+roomText = 24576

@@ -26,7 +26,7 @@ const WORDS: usize = EVENTS * EVENT_WORDS;
 
 const ANSWERS: usize = EVENTS * ANSWER_WORDS;
 
-const TEXT: usize = 32768;
+const TEXT: usize = 24576;
 
 // Lists the answers to `count` events, both in words, before which `done` were listed, and gives
 // whether all were written out. It stops at the first that can't be.
