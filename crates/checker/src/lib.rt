@@ -1,21 +1,23 @@
 // Which sheets pass.
 use sheet::Directory;
 use sheet::HEAD;
+use sheet::NODES;
 use sheet::RECORDS;
 use sheet_rules::Checked;
 ghost use mathlib.Core.Path.{_≡_};
 ghost use Prim.Native.Nat.{_≤_};
 ghost use lib.ListN.{length};
+ghost use Rattle.sheet.specs.Names.{nodes};
 ghost use Rattle.sheet.specs.Sheet.{countOf, directoryOf};
 ghost use Rattle.sheet_rules.specs.Check.{shape, checkOf, checkNumber, checkCall};
 
 // Whether the sheet has the shape. A mark is lent for each node.
 fn shape_holds(sheet: &[u8], directory: &Directory, marks: &mut [u16]) -> bool
     requires { ⌜ now directory ≡ directoryOf (now sheet) ⌝ }
-    requires { ⌜ countOf (now sheet) 6 ≤ length (now marks) ⌝ }
+    requires { ⌜ countOf (now sheet) nodes ≤ length (now marks) ⌝ }
     ensures { λ b. ⌜ b ≡ shape (now (sheet .entry)) ⌝ }
 {
-    if sheet_reader::count_in(directory, 0) != 1 {
+    if sheet_reader::count_in(directory, HEAD) != 1 {
         return false;
     }
     if !checker_shape::sections_fit(sheet, directory) {
@@ -44,7 +46,7 @@ fn shaped(sheet: &[u8], directory: &Directory) -> bool
     requires { ⌜ now directory ≡ directoryOf (now sheet) ⌝ }
     ensures { λ b. ⌜ b ≡ shape (now (sheet .entry)) ⌝ }
 {
-    let count = sheet_reader::count_in(directory, 6);
+    let count = sheet_reader::count_in(directory, NODES);
     if count <= 512 {
         let mut few = [0u16; 512];
         return shape_holds(sheet, directory, &mut few[..count]);

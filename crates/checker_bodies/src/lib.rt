@@ -2,6 +2,8 @@
 use sheet::DECLARATIONS;
 use sheet::Directory;
 use sheet::HEAD;
+use sheet::NAMES;
+use sheet::NODES;
 use sheet::Record;
 ghost use mathlib.Core.Path.{_≡_};
 ghost use Rattle.sheet.specs.Sheet.{directoryOf};
@@ -19,13 +21,13 @@ fn reaction_fits(sheet: &[u8], directory: &Directory, r: Record) -> bool
             if ports <= r.f1 as usize {
                 return false;
             }
-            (r.f2 as usize) < sheet_reader::count_in(directory, 3)
+            (r.f2 as usize) < sheet_reader::count_in(directory, NAMES)
         }
         3 => {
             if r.f1 != 0 {
                 return false;
             }
-            (r.f2 as usize) < sheet_reader::count_in(directory, 3)
+            (r.f2 as usize) < sheet_reader::count_in(directory, NAMES)
         }
         _ => {
             if r.f1 != 0 {
@@ -58,5 +60,5 @@ pub fn body_fits(sheet: &[u8], directory: &Directory, r: Record) -> bool
     if 16 < r.f4 as usize + r.f6 as usize {
         return false;
     }
-    (r.f7 as usize) < sheet_reader::count_in(directory, 6)
+    (r.f7 as usize) < sheet_reader::count_in(directory, NODES)
 }

@@ -1,4 +1,5 @@
 // The shape of charts.
+use sheet::BODIES;
 use sheet::CHARTS;
 use sheet::DECLARATIONS;
 use sheet::Directory;
@@ -48,6 +49,6 @@ pub fn bodies_covered(sheet: &[u8], directory: &Directory) -> bool
     requires { ⌜ now directory ≡ directoryOf (now sheet) ⌝ }
     ensures { λ b. ⌜ b ≡ bodiesCovered (now (sheet .entry)) ⌝ }
 {
-    bodies_up_to(sheet, directory, sheet_reader::count_in(directory, 4))
-        == sheet_reader::count_in(directory, 5)
+    bodies_up_to(sheet, directory, sheet_reader::count_in(directory, CHARTS))
+        == sheet_reader::count_in(directory, BODIES)
 }

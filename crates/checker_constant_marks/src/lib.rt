@@ -7,6 +7,7 @@ use sheet::Record;
 ghost use mathlib.Core.Path.{_≡_};
 ghost use Prim.Native.Nat.{_+_, _<_, _≤_};
 ghost use lib.ListN.{length};
+ghost use Rattle.sheet.specs.Names.{bindings};
 ghost use Rattle.sheet.specs.Sheet.{countOf, recordOf, directoryOf};
 ghost use Rattle.sheet_rules.specs.Fields.{numberOr0};
 ghost use Rattle.sheet_rules.specs.Uses.{constantUses};
@@ -38,7 +39,7 @@ fn mark_second(
     requires { ⌜ now directory ≡ directoryOf (now sheet) ⌝ }
     requires { ⌜ count ≤ length (now marks) ⌝ }
     requires { ⌜ n < 65536 ⌝ }
-    ensures { λ x. ⌜ (x ≡ numberOr0 (recordOf (now (sheet .entry)) 7 k) (λ b. 1)) × (x ≤ 1) × Marked count 0 (now (marks .entry)) (now (marks .exit)) (λ m. numberOr0 (recordOf (now (sheet .entry)) 7 k) (λ b. constantsNamed b n m)) ⌝ }
+    ensures { λ x. ⌜ (x ≡ numberOr0 (recordOf (now (sheet .entry)) bindings k) (λ b. 1)) × (x ≤ 1) × Marked count 0 (now (marks .entry)) (now (marks .exit)) (λ m. numberOr0 (recordOf (now (sheet .entry)) bindings k) (λ b. constantsNamed b n m)) ⌝ }
 {
     let Found::Present(b) = sheet_reader::read(sheet, directory, BINDINGS, k) else {
         return 0;
@@ -57,7 +58,7 @@ pub fn mark_binding(
 ) -> usize
     requires { ⌜ now directory ≡ directoryOf (now sheet) ⌝ }
     requires { ⌜ count ≤ length (now marks) ⌝ }
-    requires { ⌜ k < countOf (now sheet) 7 ⌝ }
+    requires { ⌜ k < countOf (now sheet) bindings ⌝ }
     ensures { λ x. ⌜ (k + x ≡ goneTo (now (sheet .entry)) k) × (x ≤ 2) × Marked count 0 (now (marks .entry)) (now (marks .exit)) (λ n. constantUses (now (sheet .entry)) n k) ⌝ }
 {
     let Found::Present(b) = sheet_reader::read(sheet, directory, BINDINGS, k) else {

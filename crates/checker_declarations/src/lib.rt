@@ -1,6 +1,7 @@
 // The shape of the head, enumerated types, declarations and telegram names.
 use sheet::DECLARATIONS;
 use sheet::Directory;
+use sheet::ENUMERATED_TYPES;
 use sheet::Record;
 ghost use mathlib.Core.Path.{_≡_};
 ghost use Rattle.sheet.specs.Sheet.{directoryOf};
@@ -52,7 +53,7 @@ fn type_exists(sheet: &[u8], directory: &Directory, t: usize) -> bool
     if t < 8 {
         return false;
     }
-    t - 8 < sheet_reader::count_in(directory, 1)
+    t - 8 < sheet_reader::count_in(directory, ENUMERATED_TYPES)
 }
 
 pub fn declaration_fits(sheet: &[u8], directory: &Directory, r: Record) -> bool

@@ -7,7 +7,7 @@ ghost use mathlib.Core.Path.{_≡_};
 ghost use Prim.Native.Nat.{_+_, _<_, _≤_};
 ghost use lib.ListN.{length};
 ghost use lib.Dec.{eqb};
-ghost use Rattle.sheet.specs.Names.{root};
+ghost use Rattle.sheet.specs.Names.{root, bodies, charts};
 ghost use Rattle.sheet.specs.Sheet.{recordOf, directoryOf};
 ghost use Rattle.sheet_rules.specs.Fields.{oneIf, numberOr0};
 ghost use Rattle.sheet_rules.specs.Uses.{overBodies, rootUses};
@@ -59,7 +59,7 @@ fn mark_root(
     requires { ⌜ now directory ≡ directoryOf (now sheet) ⌝ }
     requires { ⌜ count ≤ length (now marks) ⌝ }
     requires { ⌜ k < 16384 ⌝ }
-    ensures { λ x. ⌜ (x ≡ numberOr0 (recordOf (now (sheet .entry)) 5 number) (λ b. 1)) × (x ≤ 1) × Marked count k (now (marks .entry)) (now (marks .exit)) (λ n. numberOr0 (recordOf (now (sheet .entry)) 5 number) (λ b. oneIf (eqb (root b) n))) ⌝ }
+    ensures { λ x. ⌜ (x ≡ numberOr0 (recordOf (now (sheet .entry)) bodies number) (λ b. 1)) × (x ≤ 1) × Marked count k (now (marks .entry)) (now (marks .exit)) (λ n. numberOr0 (recordOf (now (sheet .entry)) bodies number) (λ b. oneIf (eqb (root b) n))) ⌝ }
 {
     let Found::Present(b) = sheet_reader::read(sheet, directory, BODIES, number) else {
         return 0;
@@ -78,7 +78,7 @@ pub fn mark_chart(
 ) -> usize
     requires { ⌜ now directory ≡ directoryOf (now sheet) ⌝ }
     requires { ⌜ count ≤ length (now marks) ⌝ }
-    ensures { λ x. ⌜ (x ≡ numberOr0 (recordOf (now (sheet .entry)) 4 i) (overBodies (now (sheet .entry)) (λ b. 1))) × (x < 65536) × Marked count (i + 1) (now (marks .entry)) (now (marks .exit)) (λ n. numberOr0 (recordOf (now (sheet .entry)) 4 i) (rootUses (now (sheet .entry)) n)) ⌝ }
+    ensures { λ x. ⌜ (x ≡ numberOr0 (recordOf (now (sheet .entry)) charts i) (overBodies (now (sheet .entry)) (λ b. 1))) × (x < 65536) × Marked count (i + 1) (now (marks .entry)) (now (marks .exit)) (λ n. numberOr0 (recordOf (now (sheet .entry)) charts i) (rootUses (now (sheet .entry)) n)) ⌝ }
 {
     let Found::Present(c) = sheet_reader::read(sheet, directory, CHARTS, i) else {
         return 0;

@@ -8,6 +8,7 @@ use sheet_rules::Operands;
 ghost use mathlib.Core.Path.{_≡_};
 ghost use Prim.Native.Nat.{_<_, _≤_};
 ghost use lib.ListN.{length};
+ghost use Rattle.sheet.specs.Names.{nodes};
 ghost use Rattle.sheet.specs.Sheet.{recordOf, directoryOf};
 ghost use Rattle.sheet_rules.specs.Fields.{numberOr0};
 ghost use Rattle.sheet_rules.specs.Forms.{operandsOf};
@@ -63,7 +64,7 @@ pub fn mark_operands(
     requires { ⌜ now directory ≡ directoryOf (now sheet) ⌝ }
     requires { ⌜ m ≤ length (now marks) ⌝ }
     requires { ⌜ k < 16384 ⌝ }
-    ensures { λ x. ⌜ (x ≡ numberOr0 (recordOf (now (sheet .entry)) 6 m) (λ r. 1)) × (x ≤ 1) × Marked m k (now (marks .entry)) (now (marks .exit)) (operandUses (now (sheet .entry)) (homeChart (now (sheet .entry)) k) m) ⌝ }
+    ensures { λ x. ⌜ (x ≡ numberOr0 (recordOf (now (sheet .entry)) nodes m) (λ r. 1)) × (x ≤ 1) × Marked m k (now (marks .entry)) (now (marks .exit)) (operandUses (now (sheet .entry)) (homeChart (now (sheet .entry)) k) m) ⌝ }
 {
     let Found::Present(r) = sheet_reader::read(sheet, directory, NODES, m) else {
         return 0;

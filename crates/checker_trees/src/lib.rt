@@ -72,7 +72,7 @@ pub fn nodes_fit(sheet: &[u8], directory: &Directory) -> bool
     requires { ⌜ now directory ≡ directoryOf (now sheet) ⌝ }
     ensures { λ x. ⌜ x ≡ nodesShape (now (sheet .entry)) ⌝ }
 {
-    let count = sheet_reader::count_in(directory, 4);
+    let count = sheet_reader::count_in(directory, CHARTS);
     let mut k: usize = 0;
     while k < count {
         let Found::Present(c) = sheet_reader::read(sheet, directory, CHARTS, k) else {

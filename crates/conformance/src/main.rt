@@ -11,6 +11,7 @@ use libc::STDIN_FILENO;
 use libc::STDOUT_FILENO;
 use machine::Answer;
 use machine::Handed;
+use program_input::EVENT_BYTES;
 use sheet_rules::Checked;
 ghost use Prim.Native.Nat.{_+_, _≤_};
 ghost use mathlib.Core.Path.{_≡_};
@@ -161,11 +162,11 @@ fn replay_event(sheet: &[u8]) -> bool {
 
 // Reads past `count` events, and gives whether they came.
 fn skip_events(count: usize) -> bool {
-    let mut ev = [0u8; 36];
+    let mut ev = [0u8; EVENT_BYTES];
     let mut left = count;
     while 0 < left {
         let came = program_input::read_all(STDIN_FILENO, &mut ev);
-        if came.count < 36 {
+        if came.count < EVENT_BYTES {
             return false;
         }
         left -= 1;

@@ -14,6 +14,7 @@ ghost use mathlib.Core.List.{List};
 ghost use Prim.Native.Nat.{ℕ, suc};
 ghost use lib.IntN.{ℤ};
 ghost use Rattle.sheet.specs.declared.Found.the-variants.{Present};
+ghost use Rattle.sheet.specs.Names.{names};
 ghost use Rattle.sheet.specs.Sheet.{directoryOf, recordOf};
 ghost use Rattle.sheet_rules.specs.Forms.{arm, clockAct};
 ghost use Rattle.sheet_rules.specs.Types.{clockOf};
@@ -42,7 +43,7 @@ fn arm_with(
     period: i32,
     left: u32,
 ) -> Ran
-    requires { ⌜ (now directory ≡ directoryOf (now sheet)) × Visit (now sheet) (now context) (now st) (now lo) n r arm × (recordOf (now sheet) 3 (r .f3) ≡ Present a) ⌝ }
+    requires { ⌜ (now directory ≡ directoryOf (now sheet)) × Visit (now sheet) (now context) (now st) (now lo) n r arm × (recordOf (now sheet) names (r .f3) ≡ Present a) ⌝ }
     ensures { λ o. ⌜ world o (now (st .exit)) (now (lo .entry)) ≡ armedWith (now (sheet .entry)) (now (context .entry)) (now (st .entry)) (now (lo .entry)) r a period left ⌝ }
 {
     let mut d = [0i32; DATA];

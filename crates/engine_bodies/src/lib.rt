@@ -13,6 +13,7 @@ use sheet::HEAD;
 use sheet::Record;
 ghost use mathlib.Core.Path.{_≡_};
 ghost use lib.ListN.{length};
+ghost use Rattle.sheet.specs.Names.{bodies};
 ghost use Rattle.sheet.specs.Sheet.{recordOf};
 ghost use Rattle.machine.specs.declared.Handed.the-variants.{Nothing};
 ghost use Rattle.machine.specs.Play.{ended, answer as answerOf, limitOf, ranBody, bodyEvent};
@@ -32,7 +33,7 @@ pub fn run_body(
     limit: u32,
 ) -> Ran
     requires { ⌜ ToRun (now sheet) (now directory) (now cells) (now st) e n c number (now d) × (limit ≡ limitOf (now sheet)) ⌝ }
-    ensures { λ r. ⌜ (r ≡ ranBody (now (sheet .entry)) (limitOf (now (sheet .entry))) e (recordOf (now (sheet .entry)) 5 number) (now (d .entry)) (now (st .entry)) .ran) × (now (st .exit) ≡ ranBody (now (sheet .entry)) (limitOf (now (sheet .entry))) e (recordOf (now (sheet .entry)) 5 number) (now (d .entry)) (now (st .entry)) .st) ⌝ }
+    ensures { λ r. ⌜ (r ≡ ranBody (now (sheet .entry)) (limitOf (now (sheet .entry))) e (recordOf (now (sheet .entry)) bodies number) (now (d .entry)) (now (st .entry)) .ran) × (now (st .exit) ≡ ranBody (now (sheet .entry)) (limitOf (now (sheet .entry))) e (recordOf (now (sheet .entry)) bodies number) (now (d .entry)) (now (st .entry)) .st) ⌝ }
 {
     let i = e - sheet_fields::field_at(sheet, directory, HEAD, 0, 1);
     let k = cells[ROW * i + FIRST_RECORD];
@@ -92,7 +93,7 @@ pub fn event_body(
     d: &Data,
 ) -> Answer
     requires { ⌜ ToRun (now sheet) (now directory) (now cells) (now st) e n c number (now d) × (length (now old) ≡ length (now st)) ⌝ }
-    ensures { λ a. ⌜ ended a (now (st .exit)) ≡ bodyEvent (now (sheet .entry)) (limitOf (now (sheet .entry))) (now (old .entry)) e (recordOf (now (sheet .entry)) 5 number) (now (d .entry)) (now (st .entry)) ⌝ }
+    ensures { λ a. ⌜ ended a (now (st .exit)) ≡ bodyEvent (now (sheet .entry)) (limitOf (now (sheet .entry))) (now (old .entry)) e (recordOf (now (sheet .entry)) bodies number) (now (d .entry)) (now (st .entry)) ⌝ }
 {
     let limit = engine_limit::limit(sheet, directory);
     let r = run_body(sheet, directory, cells, st, e, n, c, number, d, limit);

@@ -10,7 +10,7 @@ ghost use mathlib.Core.Path.{_≡_};
 ghost use mathlib.Core.Bool.{true};
 ghost use Prim.Native.Nat.{_+_, _<_, _≤_};
 ghost use lib.ListN.{length};
-ghost use Rattle.sheet.specs.Names.{chartVariables};
+ghost use Rattle.sheet.specs.Names.{chartVariables, charts};
 ghost use Rattle.sheet.specs.Sheet.{directoryOf, recordOf};
 ghost use Rattle.sheet_rules.specs.declared.Checked.the-variants.{Passed};
 ghost use Rattle.sheet_rules.specs.Fields.{elementsOf};
@@ -44,7 +44,7 @@ pub fn elements(sheet: &[u8], directory: &Directory) -> usize
 // The number of bound element e's chart, which the first record of its row names.
 pub fn chart_number(sheet: &[u8], directory: &Directory, cells: &CellLayout, e: usize) -> usize
     requires { ⌜ (now directory ≡ directoryOf (now sheet)) × (checkOf (now sheet) ≡ Passed) × CellTable (now sheet) (now cells) × (isBound (now sheet) e ≡ true) ⌝ }
-    ensures { λ n. ⌜ recordOf (now (sheet .entry)) 4 n ≡ chartOf (now (sheet .entry)) e ⌝ }
+    ensures { λ n. ⌜ recordOf (now (sheet .entry)) charts n ≡ chartOf (now (sheet .entry)) e ⌝ }
 {
     let i = e - sheet_fields::field_at(sheet, directory, HEAD, 0, 1);
     sheet_fields::field_at(sheet, directory, BINDINGS, cells[ROW * i + FIRST_RECORD], 0)

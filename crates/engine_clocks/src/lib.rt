@@ -10,16 +10,13 @@ ghost use Prim.Native.Nat.{ℕ, _+_, _<_, _≤_};
 ghost use lib.ListN.{getD};
 ghost use Rattle.sheet.specs.Names.{chartVariables};
 ghost use Rattle.sheet.specs.Sheet.{directoryOf};
-ghost use Rattle.sheet_rules.specs.declared.Checked.the-variants.{Passed};
 ghost use Rattle.sheet_rules.specs.Fields.{typeAt, externalsOf, elementsOf};
 ghost use Rattle.sheet_rules.specs.Indices.{cellsBefore};
 ghost use Rattle.sheet_rules.specs.Shape.{cellsOf};
-ghost use Rattle.sheet_rules.specs.Check.{checkOf};
 ghost use Rattle.machine.specs.Values.{firstCell};
 ghost use Rattle.machine.specs.State.{cellAt};
-ghost use Rattle.machine.specs.Valid.{OfSheet};
 ghost use Rattle.machine.specs.Play.{slicedCell, slicedCells, slicedFrom};
-ghost use Rattle.engine_cells.specs.Cells.{CellTable};
+ghost use Rattle.engine_cells.specs.Playing.{Playing};
 ghost use Rattle.engine_queue.specs.Changed.{changedTo};
 ghost use Rattle.engine_clocks.specs.Cells.{Cell, Cells};
 
@@ -80,7 +77,7 @@ fn slice_cells(
 
 // A slice: 0 with the state after it, or 6, 8 or 12 with a state that is of no use.
 pub fn slice(sheet: &[u8], directory: &Directory, cells: &CellLayout, st: &mut [i32]) -> u8
-    requires { ⌜ (now directory ≡ directoryOf (now sheet)) × (checkOf (now sheet) ≡ Passed) × CellTable (now sheet) (now cells) × OfSheet (now sheet) (now st) ⌝ }
+    requires { ⌜ Playing (now sheet) (now directory) (now cells) (now st) ⌝ }
     ensures { λ n. ⌜ slicedFrom (now (sheet .entry)) (elementsOf (now (sheet .entry))) (externalsOf (now (sheet .entry))) (now (st .entry)) ≡ changedTo n (now (st .exit)) ⌝ }
 {
     let first = sheet_fields::field_at(sheet, directory, HEAD, 0, 1);

@@ -13,16 +13,13 @@ use sheet::Record;
 ghost use mathlib.Core.Bool.{true, false};
 ghost use mathlib.Core.Path.{_≡_};
 ghost use lib.IntN.{natAbs};
-ghost use lib.ListN.{length};
 ghost use Rattle.machine.specs.declared.Handed.the-variants.{Outside};
 ghost use Rattle.sheet_rules.specs.Fields.{externalsOf};
 ghost use Rattle.sheet_rules.specs.Types.{reactsTo};
 ghost use Rattle.machine.specs.Values.{isBelow, isBound};
-ghost use Rattle.machine.specs.State.{isInternal};
-ghost use Rattle.machine.specs.Valid.{telegramFits};
 ghost use Rattle.machine.specs.Play.{ended, answer, elementBody, reacting, panicking, delivered, limitOf};
 ghost use Rattle.engine_cells.specs.Cells.{ChartAt};
-ghost use Rattle.engine_cells.specs.Playing.{Playing};
+ghost use Rattle.engine_delivery.specs.Arrived.{Beside, Arrived};
 
 // Runs the panic body of element e, whose chart c is number n.
 fn run_panic_body(
@@ -35,7 +32,7 @@ fn run_panic_body(
     n: usize,
     c: Record,
 ) -> Answer
-    requires { ⌜ Playing (now sheet) (now directory) (now cells) (now st) × (length (now old) ≡ length (now st)) × ChartAt (now sheet) e n c ⌝ }
+    requires { ⌜ Beside (now sheet) (now directory) (now cells) (now old) (now st) × ChartAt (now sheet) e n c ⌝ }
     ensures { λ a. ⌜ ended a (now (st .exit)) ≡ panicking (now (sheet .entry)) (limitOf (now (sheet .entry))) (now (old .entry)) e (now (st .entry)) ⌝ }
 {
     let j = engine_finders::with_role(sheet, directory, c, 1);
@@ -63,7 +60,7 @@ pub fn panicked(
     st: &mut [i32],
     e: usize,
 ) -> Answer
-    requires { ⌜ Playing (now sheet) (now directory) (now cells) (now st) × (length (now old) ≡ length (now st)) × (isBound (now sheet) e ≡ true) ⌝ }
+    requires { ⌜ Beside (now sheet) (now directory) (now cells) (now old) (now st) × (isBound (now sheet) e ≡ true) ⌝ }
     ensures { λ a. ⌜ ended a (now (st .exit)) ≡ panicking (now (sheet .entry)) (limitOf (now (sheet .entry))) (now (old .entry)) e (now (st .entry)) ⌝ }
 {
     let n = engine_cells::chart_number(sheet, directory, cells, e);
@@ -83,7 +80,7 @@ fn deliver_to_element(
     st: &mut [i32],
     t: Telegram,
 ) -> Answer
-    requires { ⌜ Playing (now sheet) (now directory) (now cells) (now st) × (length (now old) ≡ length (now st)) × (telegramFits (now sheet) t ≡ true) × (isInternal t ≡ false) × (isBelow (t .receiver) (externalsOf (now sheet)) ≡ false) ⌝ }
+    requires { ⌜ Arrived (now sheet) (now directory) (now cells) (now old) (now st) t false × (isBelow (t .receiver) (externalsOf (now sheet)) ≡ false) ⌝ }
     ensures { λ a. ⌜ ended a (now (st .exit)) ≡ delivered (now (sheet .entry)) (limitOf (now (sheet .entry))) (now (old .entry)) t (now (st .entry)) ⌝ }
 {
     let e = engine_valid_words::number(t.receiver);
@@ -139,7 +136,7 @@ pub fn delivers(
     st: &mut [i32],
     t: Telegram,
 ) -> Answer
-    requires { ⌜ Playing (now sheet) (now directory) (now cells) (now st) × (length (now old) ≡ length (now st)) × (telegramFits (now sheet) t ≡ true) × (isInternal t ≡ false) ⌝ }
+    requires { ⌜ Arrived (now sheet) (now directory) (now cells) (now old) (now st) t false ⌝ }
     ensures { λ a. ⌜ ended a (now (st .exit)) ≡ delivered (now (sheet .entry)) (limitOf (now (sheet .entry))) (now (old .entry)) t (now (st .entry)) ⌝ }
 {
     if engine_valid_words::is_below(t.receiver, engine_valid_values::externals(sheet, directory)) {
@@ -157,7 +154,7 @@ pub fn reacts(
     st: &mut [i32],
     t: Telegram,
 ) -> Answer
-    requires { ⌜ Playing (now sheet) (now directory) (now cells) (now st) × (length (now old) ≡ length (now st)) × (telegramFits (now sheet) t ≡ true) × (isInternal t ≡ true) ⌝ }
+    requires { ⌜ Arrived (now sheet) (now directory) (now cells) (now old) (now st) t true ⌝ }
     ensures { λ a. ⌜ ended a (now (st .exit)) ≡ reacting (now (sheet .entry)) (limitOf (now (sheet .entry))) (now (old .entry)) (natAbs (t .receiver)) (elementBody (now (sheet .entry)) (natAbs (t .receiver)) (reactsTo (natAbs (t .name)))) t (now (st .entry)) ⌝ }
 {
     let e = engine_valid_words::number(t.receiver);

@@ -5,6 +5,7 @@ use sheet::Found;
 use sheet::Record;
 ghost use mathlib.Core.Path.{_≡_};
 ghost use lib.Dec.{eqb};
+ghost use Rattle.sheet.specs.Names.{bodies};
 ghost use Rattle.sheet.specs.Sheet.{directoryOf, recordOf};
 ghost use Rattle.sheet_rules.specs.Fields.{holds};
 ghost use Rattle.sheet_rules.specs.Types.{reactsTo};
@@ -13,7 +14,7 @@ ghost use Rattle.machine_passed.specs.Places.{StandsAt};
 
 fn has_role(sheet: &[u8], directory: &Directory, i: usize, role: u16) -> bool
     requires { ⌜ now directory ≡ directoryOf (now sheet) ⌝ }
-    ensures { λ x. ⌜ x ≡ holds (recordOf (now (sheet .entry)) 5 i) (λ b. eqb (b .f0) role) ⌝ }
+    ensures { λ x. ⌜ x ≡ holds (recordOf (now (sheet .entry)) bodies i) (λ b. eqb (b .f0) role) ⌝ }
 {
     let Found::Present(b) = sheet_reader::read(sheet, directory, BODIES, i) else {
         return false;
@@ -40,7 +41,7 @@ pub fn with_role(sheet: &[u8], directory: &Directory, c: Record, role: u16) -> u
 
 fn reacts_on(sheet: &[u8], directory: &Directory, i: usize, port: usize, name: usize) -> bool
     requires { ⌜ now directory ≡ directoryOf (now sheet) ⌝ }
-    ensures { λ x. ⌜ x ≡ holds (recordOf (now (sheet .entry)) 5 i) (reactsOn port name) ⌝ }
+    ensures { λ x. ⌜ x ≡ holds (recordOf (now (sheet .entry)) bodies i) (reactsOn port name) ⌝ }
 {
     let Found::Present(b) = sheet_reader::read(sheet, directory, BODIES, i) else {
         return false;
@@ -79,7 +80,7 @@ pub fn reaction_on(
 
 fn reacts_to(sheet: &[u8], directory: &Directory, i: usize, name: usize) -> bool
     requires { ⌜ now directory ≡ directoryOf (now sheet) ⌝ }
-    ensures { λ x. ⌜ x ≡ holds (recordOf (now (sheet .entry)) 5 i) (reactsTo name) ⌝ }
+    ensures { λ x. ⌜ x ≡ holds (recordOf (now (sheet .entry)) bodies i) (reactsTo name) ⌝ }
 {
     let Found::Present(b) = sheet_reader::read(sheet, directory, BODIES, i) else {
         return false;

@@ -14,6 +14,7 @@ use sheet::Record;
 ghost use mathlib.Core.Path.{_≡_};
 ghost use Prim.Native.Nat.{suc, _+_, _<_};
 ghost use Rattle.sheet.specs.declared.Found.the-variants.{Present};
+ghost use Rattle.sheet.specs.Names.{nodes};
 ghost use Rattle.sheet.specs.Sheet.{directoryOf, recordOf};
 ghost use Rattle.sheet_rules.specs.Forms.{read, formOf};
 ghost use Rattle.machine.specs.State.{cellAt, wordOf};
@@ -104,7 +105,7 @@ pub fn variable(
     r: Record,
     left: u32,
 ) -> Work
-    requires { ⌜ (now directory ≡ directoryOf (now sheet)) × Ready (now sheet) (now context) (now st) (now lo) × IsExpression (now sheet) (now context) n × (recordOf (now sheet) 6 n ≡ Present r) × (formOf (r .f0) ≡ read) ⌝ }
+    requires { ⌜ (now directory ≡ directoryOf (now sheet)) × Ready (now sheet) (now context) (now st) (now lo) × IsExpression (now sheet) (now context) n × (recordOf (now sheet) nodes n ≡ Present r) × (formOf (r .f0) ≡ read) ⌝ }
     ensures { λ z. ⌜ z ≡ workOf (evalOf (now (sheet .entry)) (contextAt (now (sheet .entry)) (now (context .entry))) (now (st .entry)) (now (lo .entry)) n (suc left)) ⌝ }
 {
     let place = r.f1;

@@ -3,13 +3,12 @@ use engine_cells::CellLayout;
 use machine::ANSWER_WORDS;
 use machine::EVENT_WORDS;
 use sheet::Directory;
-ghost use Prim.Native.Nat.{_*_, _/_};
 ghost use mathlib.Core.Path.{_≡_};
-ghost use lib.ListN.{length};
 ghost use Rattle.machine.specs.Lists.{eventsOf};
 ghost use Rattle.engine_cells.specs.Playing.{Playing};
-ghost use Rattle.engine_answers.specs.Words.{wordsOfAnswer, eventsIn, written, inWords};
-ghost use Rattle.machine.specs.Play.{wordsOfEvent, limitOf};
+ghost use Rattle.engine_answers.specs.Words.{eventsIn, written, inWords};
+ghost use Rattle.machine.specs.Play.{limitOf};
+ghost use Rattle.engine_list_events.specs.Room.{Room};
 
 // Plays events, nine words each, on from a state of the sheet, which becomes the one that the list
 // leaves. Each answer goes into eleven words: number, steps, how many waiting telegrams were dropped,
@@ -23,7 +22,7 @@ pub fn play_on(
     spare: &mut [i32],
     answers: &mut [i32],
 )
-    requires { ⌜ Playing (now sheet) (now directory) (now cells) (now st) × (length (now spare) ≡ length (now st)) × (length (now answers) ≡ wordsOfAnswer * (length (now events) / wordsOfEvent)) ⌝ }
+    requires { ⌜ Room (now sheet) (now directory) (now cells) (now events) (now st) (now spare) (now answers) ⌝ }
     ensures { λ _. ⌜ Playing (now (sheet .entry)) (now (directory .entry)) (now (cells .entry)) (now (st .exit)) × (written (now (answers .exit)) (now (st .exit)) ≡ inWords (eventsOf (now (sheet .entry)) (limitOf (now (sheet .entry))) (now (st .entry)) (eventsIn (now (events .entry))))) ⌝ }
 {
     let count = events.len() / EVENT_WORDS;

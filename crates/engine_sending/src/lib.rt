@@ -17,7 +17,7 @@ ghost use Prim.Native.Nat.{ℕ, suc};
 ghost use lib.ListN.{length};
 ghost use lib.IntN.{ℤ};
 ghost use Rattle.sheet.specs.declared.Found.the-variants.{Present};
-ghost use Rattle.sheet.specs.Names.{dataOf};
+ghost use Rattle.sheet.specs.Names.{dataOf, names};
 ghost use Rattle.sheet.specs.Sheet.{directoryOf, recordOf};
 ghost use Rattle.sheet_rules.specs.Forms.{externalSend, internalSend};
 ghost use Rattle.machine.specs.State.{stateLength};
@@ -52,7 +52,7 @@ fn send(
     port: i32,
     left: u32,
 ) -> Ran
-    requires { ⌜ (now directory ≡ directoryOf (now sheet)) × Ready (now sheet) (now context) (now st) (now lo) × HasData (now sheet) (now context) (now st) (now lo) r (dataOf a) × (recordOf (now sheet) 3 (r .f3) ≡ Present a) ⌝ }
+    requires { ⌜ (now directory ≡ directoryOf (now sheet)) × Ready (now sheet) (now context) (now st) (now lo) × HasData (now sheet) (now context) (now st) (now lo) r (dataOf a) × (recordOf (now sheet) names (r .f3) ≡ Present a) ⌝ }
     ensures { λ o. ⌜ world o (now (st .exit)) (now (lo .entry)) ≡ sent (now (sheet .entry)) (now (context .entry)) (now (st .entry)) (now (lo .entry)) r a receiver port left ⌝ }
 {
     let mut d = [0i32; DATA];
@@ -94,7 +94,7 @@ fn send_to(
     receiver: i32,
     left: u32,
 ) -> Ran
-    requires { ⌜ (now directory ≡ directoryOf (now sheet)) × Visit (now sheet) (now context) (now st) (now lo) n r externalSend × (recordOf (now sheet) 3 (r .f3) ≡ Present a) ⌝ }
+    requires { ⌜ (now directory ≡ directoryOf (now sheet)) × Visit (now sheet) (now context) (now st) (now lo) n r externalSend × (recordOf (now sheet) names (r .f3) ≡ Present a) ⌝ }
     ensures { λ o. ⌜ world o (now (st .exit)) (now (lo .entry)) ≡ sentTo (now (sheet .entry)) (now (context .entry)) (now (st .entry)) (now (lo .entry)) r a receiver left ⌝ }
 {
     let x = engine_expressions::eval(sheet, directory, context, st, lo, r.f2 as usize, left);

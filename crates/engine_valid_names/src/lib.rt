@@ -3,11 +3,13 @@ use sheet::BODIES;
 use sheet::DECLARATIONS;
 use sheet::Directory;
 use sheet::Found;
+use sheet::NAMES;
 use sheet::Range;
 use sheet::Record;
 ghost use mathlib.Core.Path.{_≡_};
 ghost use Prim.Native.Nat.{_+_, _<_, _≤_};
 ghost use lib.ListN.{length};
+ghost use Rattle.sheet.specs.Names.{bodies};
 ghost use Rattle.sheet.specs.Sheet.{directoryOf, recordOf};
 ghost use Rattle.sheet_rules.specs.Fields.{holds};
 ghost use Rattle.sheet_rules.specs.Types.{reactsTo, hasReaction};
@@ -51,7 +53,7 @@ pub fn name_fits(sheet: &[u8], directory: &Directory, class: u16, st: &[i32], at
     requires { ⌜ (now directory ≡ directoryOf (now sheet)) × (at + 5 ≤ length (now st)) ⌝ }
     ensures { λ b. ⌜ b ≡ nameFits (now (sheet .entry)) class (wordOf (now (st .entry)) at) (λ j. wordOf (now (st .entry)) (at + 1 + j)) ⌝ }
 {
-    if !engine_valid_words::below_at(st, at, sheet_reader::count_in(directory, 3)) {
+    if !engine_valid_words::below_at(st, at, sheet_reader::count_in(directory, NAMES)) {
         return false;
     }
     let n = engine_valid_words::number_at(st, at);
@@ -72,7 +74,7 @@ pub fn name_fits(sheet: &[u8], directory: &Directory, class: u16, st: &[i32], at
 // Whether body i is an internal reaction to name n.
 fn reacts(sheet: &[u8], directory: &Directory, i: usize, n: usize) -> bool
     requires { ⌜ now directory ≡ directoryOf (now sheet) ⌝ }
-    ensures { λ b. ⌜ b ≡ holds (recordOf (now (sheet .entry)) 5 i) (reactsTo n) ⌝ }
+    ensures { λ b. ⌜ b ≡ holds (recordOf (now (sheet .entry)) bodies i) (reactsTo n) ⌝ }
 {
     let Found::Present(b) = sheet_reader::read(sheet, directory, BODIES, i) else {
         return false;

@@ -1,13 +1,31 @@
--- How many events are taken at once, and the room for their bytes and for text.
-use Prim.Native.Nat.{ℕ, _*_}
+-- What is lent to play events as they come and to list their answers.
+use Prim.Native.Nat.{ℕ, _+_, _*_, _<_, _≤_}
+use mathlib.Core.Path.{_≡_}
+use mathlib.Core.List.{List}
+use lib.ListN.{length}
+use lib.IntN.{ℤ}
 use Rattle.machine.specs.Play.{wordsOfEvent}
-
-abbrev pub roomEvents : ℕ
-roomEvents = 1000
-
--- "nine little-endian signed 32-bit words"
-abbrev pub bytesOfEvent : ℕ
-bytesOfEvent = 4 * wordsOfEvent
+use Rattle.engine_cells.specs.Playing.{Playing}
+use Rattle.engine_answers.specs.Words.{wordsOfAnswer}
+use Rattle.program_input.specs.Input.{roomEvents, bytesOfEvent}
 
 abbrev pub roomText : ℕ
 roomText = 24576
+
+-- `count` events and their answers in words, before which `done` were listed, and room for text
+pub record ListedRoom (words answers : List ℤ) (count done : ℕ) (out : List ℕ) : Type 0 where
+  pub words : wordsOfEvent * count ≤ length words
+  pub answers : wordsOfAnswer * count ≤ length answers
+  pub number : done + count < 18446744073709551616
+  pub text : length out ≡ roomText
+
+-- a state of the sheet, a second one's room, `count` events that came, before which `done` were played, and room for as many as are taken at once
+pub record RoundRoom (s d c : List ℕ) (st spare : List ℤ) (events : List ℕ) (count : ℕ) (words answers : List ℤ) (done : ℕ) (out : List ℕ) : Type 0 where
+  pub playing : Playing s d c st
+  pub spare : length spare ≡ length st
+  pub whole : bytesOfEvent * count ≤ length events
+  pub few : count ≤ roomEvents
+  pub words : length words ≡ roomEvents * wordsOfEvent
+  pub answers : length answers ≡ roomEvents * wordsOfAnswer
+  pub number : done + count < 18446744073709551616
+  pub text : length out ≡ roomText

@@ -4,24 +4,17 @@ use engine_cells::CellLayout;
 use libc::STDOUT_FILENO;
 use machine::ANSWER_WORDS;
 use machine::EVENT_WORDS;
+use program_input::EVENT_BYTES;
+use program_input::EVENT_ROOM;
+use program_input::EVENTS;
 use program_listing::LONGEST_LINE;
 use sheet::Directory;
-ghost use Prim.Native.Nat.{_+_, _*_, _<_, _≤_};
 ghost use mathlib.Core.Path.{_≡_};
 ghost use lib.ListN.{length};
-ghost use Rattle.machine.specs.Play.{wordsOfEvent};
 ghost use Rattle.engine_cells.specs.Playing.{Playing};
-ghost use Rattle.engine_answers.specs.Words.{wordsOfAnswer};
-ghost use Rattle.program_events.specs.Room.{roomEvents, bytesOfEvent, roomText};
+ghost use Rattle.program_events.specs.Room.{ListedRoom, RoundRoom};
 
-// How many events are taken at once, and the room for them in bytes and in words, for their answers
-// in words and for text.
-const EVENTS: usize = 1000;
-
-const EVENT_BYTES: usize = 4 * EVENT_WORDS;
-
-const BYTES: usize = EVENTS * EVENT_BYTES;
-
+// The room for the events that are taken at once, in words, for their answers in words and for text.
 const WORDS: usize = EVENTS * EVENT_WORDS;
 
 const ANSWERS: usize = EVENTS * ANSWER_WORDS;
@@ -31,7 +24,7 @@ const TEXT: usize = 24576;
 // Lists the answers to `count` events, both in words, before which `done` were listed, and gives
 // whether all were written out. It stops at the first that can't be.
 fn list_events(words: &[i32], answers: &[i32], count: usize, done: u64, out: &mut [u8]) -> bool
-    requires { ⌜ (wordsOfEvent * count ≤ length (now words)) × (wordsOfAnswer * count ≤ length (now answers)) × (done + count < 18446744073709551616) × (length (now out) ≡ roomText) ⌝ }
+    requires { ⌜ ListedRoom (now words) (now answers) count done (now out) ⌝ }
 {
     let mut at: usize = 0;
     let mut i: usize = 0;
@@ -64,7 +57,7 @@ fn round(
     done: u64,
     out: &mut [u8],
 ) -> bool
-    requires { ⌜ Playing (now sheet) (now directory) (now cells) (now st) × (length (now spare) ≡ length (now st)) × (bytesOfEvent * count ≤ length (now events)) × (count ≤ roomEvents) × (length (now words) ≡ roomEvents * wordsOfEvent) × (length (now answers) ≡ roomEvents * wordsOfAnswer) × (done + count < 18446744073709551616) × (length (now out) ≡ roomText) ⌝ }
+    requires { ⌜ RoundRoom (now sheet) (now directory) (now cells) (now st) (now spare) (now events) count (now words) (now answers) done (now out) ⌝ }
     ensures { λ _. ⌜ Playing (now (sheet .entry)) (now (directory .entry)) (now (cells .entry)) (now (st .exit)) ⌝ }
 {
     let n = EVENT_WORDS * count;
@@ -96,7 +89,7 @@ pub fn play_events(
 ) -> bool
     requires { ⌜ Playing (now sheet) (now directory) (now cells) (now st) × (length (now spare) ≡ length (now st)) ⌝ }
 {
-    let mut events = [0u8; BYTES];
+    let mut events = [0u8; EVENT_ROOM];
     let mut words = [0i32; WORDS];
     let mut answers = [0i32; ANSWERS];
     let mut out = [0u8; TEXT];

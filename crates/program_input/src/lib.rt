@@ -8,7 +8,7 @@ ghost use lib.IntN.{pos};
 ghost use lib.Signed.{ltZ};
 ghost use lib.ListN.{length, getD};
 ghost use Rattle.io.specs.Counts.{clamped};
-ghost use Rattle.program_input.specs.Input.{sheetSize};
+ghost use Rattle.program_input.specs.Input.{sheetSize, bytesOfEvent, roomBytes};
 
 // How many bytes came, and whether a read failed. Where none failed, fewer than there was room for are
 // the input's end.
@@ -92,22 +92,29 @@ pub fn read_sheet(fd: i32, sheet: &mut [u8]) -> Came
     read_all(fd, &mut sheet[..size])
 }
 
-// How many bytes a thousand events take, or `left` where these are fewer.
+// How many events are read at once, at most, and the bytes of one and of so many.
+pub const EVENTS: usize = 1000;
+
+pub const EVENT_BYTES: usize = 36;
+
+pub const EVENT_ROOM: usize = 36000;
+
+// How many bytes there is room for, or `left` events where these take fewer.
 fn room(left: u64) -> usize
-    ensures { λ r. ⌜ (r ≤ 36000) × (r ≤ 36 * left) × (0 < left → 36 ≤ r) ⌝ }
+    ensures { λ r. ⌜ (r ≤ roomBytes) × (r ≤ bytesOfEvent * left) × (0 < left → bytesOfEvent ≤ r) ⌝ }
 {
-    if left < 1000 {
-        return 36 * left as usize;
+    if left < EVENTS as u64 {
+        return EVENT_BYTES * left as usize;
     }
-    36000
+    EVENT_ROOM
 }
 
 // Reads what is there, behind the `have` bytes of an event that isn't whole yet and not past `left`
 // events, and waits only where nothing is there. Gives how many bytes there are then: `have` again
 // where the input has ended or the read failed.
 pub fn read_more(fd: i32, events: &mut [u8], have: usize, left: u64) -> Came
-    requires { ⌜ (length (now events) ≡ 36000) × (have < 36) × (0 < left) ⌝ }
-    ensures { λ r. ⌜ (have ≤ r .count) × (r .count ≤ 36000) × (r .count ≤ 36 * left) × (r .failed ≡ true → r .count ≡ have) ⌝ }
+    requires { ⌜ (length (now events) ≡ roomBytes) × (have < bytesOfEvent) × (0 < left) ⌝ }
+    ensures { λ r. ⌜ (have ≤ r .count) × (r .count ≤ roomBytes) × (r .count ≤ bytesOfEvent * left) × (r .failed ≡ true → r .count ≡ have) ⌝ }
 {
     let end = room(left);
     let more = read_some(fd, &mut events[have..end]);
@@ -121,9 +128,9 @@ pub fn read_more(fd: i32, events: &mut [u8], have: usize, left: u64) -> Came
 // many they are.
 pub fn keep_rest(events: &mut [u8], came: usize) -> usize
     requires { ⌜ came ≤ length (now events) ⌝ }
-    ensures { λ r. ⌜ (r ≡ came % 36) × ((k : ℕ) → k < r → getD (now (events .exit)) k 0 ≡ getD (now (events .entry)) (came - r + k) 0) ⌝ }
+    ensures { λ r. ⌜ (r ≡ came % bytesOfEvent) × ((k : ℕ) → k < r → getD (now (events .exit)) k 0 ≡ getD (now (events .entry)) (came - r + k) 0) ⌝ }
 {
-    let rest = came % 36;
+    let rest = came % EVENT_BYTES;
     let from = came - rest;
     if from == 0 {
         return rest;

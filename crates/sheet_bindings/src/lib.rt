@@ -48,7 +48,7 @@ pub fn elements_bound(sheet: &[u8], directory: &Directory) -> usize
     requires { ⌜ now directory ≡ directoryOf (now sheet) ⌝ }
     ensures { λ n. ⌜ (n ≡ elementsBoundIn (now (sheet .entry))) × (n < 65536) ⌝ }
 {
-    let count = sheet_reader::count_in(directory, 7);
+    let count = sheet_reader::count_in(directory, BINDINGS);
     let mut n: usize = 0;
     let mut k: usize = 0;
     while k < count {

@@ -57,7 +57,7 @@ pub fn index_exists(sheet: &[u8], directory: &Directory, i: u16) -> bool
     match i {
         0..=3 => true,
         4..=7 => false,
-        8..=60000 => i as usize - 8 < sheet_reader::count_in(directory, 1),
+        8..=60000 => i as usize - 8 < sheet_reader::count_in(directory, ENUMERATED_TYPES),
         60001..=60064 => true,
         _ => false,
     }

@@ -36,12 +36,12 @@ elements-requires c κs = search needs
 
 loop-holds : tie.Need-loop-holds Inv-loop μ-loop
 unfolding externalsOf fieldAt fieldOf
-loop-holds c = (omega arith, c .before .field-at .ensures .0, c .elements .ensures .0, after-first _ _ _ (c .before .before .before .pre .3), from-first _ _ _ _)
+loop-holds c = (omega arith, c .before .field-at .ensures .0, c .elements .ensures .0, after-first _ _ _ (c .before .before .before .pre .state), from-first _ _ _ _)
 
 add-chart-of : tie.Need-add-chart-of Inv-loop μ-loop
 add-chart-of c =
     let s = c .before .before .before .before .before .args .sheet .now in
-    let ok = c .before .before .before .before .before .pre .1 in
+    let ok = c .before .before .before .before .before .pre .passed in
     let l = c .loop-test .taken in
     let f = c .before .loop .inv .1 in
     let n = c .before .loop .inv .2 in
@@ -56,7 +56,7 @@ chart-of-requires c κs =
     let f = c .before .loop .inv .1 in
     let n = c .before .loop .inv .2 in
     let m : i < elementsOf s = omega arith in
-    (pre .0, pre .1, pre .2, subst (λ x. isBound s (x + i) ≡ true) (sym f) (number-bound s i m))
+    (pre .directory, pre .passed, pre .cells, subst (λ x. isBound s (x + i) ≡ true) (sym f) (number-bound s i m))
 
 enum-known-c : tie.Need-enum-known-c Inv-loop μ-loop
 enum-known-c c = search needs
@@ -73,7 +73,7 @@ never-taken-requires c κs =
     let n = c .before .before .before .before .loop .inv .2 in
     let m : i < elementsOf s = omega arith in
     let none = sym (c .before .before .chart-of .ensures) ∙ c .enum-told .given .1 in
-    has-chart s (c .before .before .before .before .before .before .before .before .pre .1) _ (number-bound s i m) (ap (λ x. chartOf s (x + i)) (sym f) ∙ none)
+    has-chart s (c .before .before .before .before .before .before .before .before .pre .passed) _ (number-bound s i m) (ap (λ x. chartOf s (x + i)) (sym f) ∙ none)
 
 same-length : tie.Need-same-length Inv-loop μ-loop
 same-length c = absurd (c .never-taken .ensures)
@@ -84,7 +84,7 @@ returns c = absurd (c .never-taken .ensures)
 add-slice-cells : tie.Need-add-slice-cells Inv-loop μ-loop
 add-slice-cells c =
     let s = c .before .before .before .before .before .before .before .before .before .before .args .sheet .now in
-    let ok = c .before .before .before .before .before .before .before .before .before .before .pre .1 in
+    let ok = c .before .before .before .before .before .before .before .before .before .before .pre .passed in
     let l = c .before .before .before .before .before .loop-test .taken in
     let f = c .before .before .before .before .before .before .loop .inv .1 in
     let n = c .before .before .before .before .before .before .loop .inv .2 in
@@ -93,7 +93,7 @@ add-slice-cells c =
 mul-slice-cells : tie.Need-mul-slice-cells Inv-loop μ-loop
 mul-slice-cells c =
     let s = c .before .before .before .before .before .before .before .before .before .before .args .sheet .now in
-    let ok = c .before .before .before .before .before .before .before .before .before .before .pre .1 in
+    let ok = c .before .before .before .before .before .before .before .before .before .before .pre .passed in
     let l = c .before .before .before .before .before .loop-test .taken in
     let n = c .before .before .before .before .before .before .loop .inv .2 in
     record { fits = omega (arith, bound-below s ok) }
@@ -104,21 +104,21 @@ slice-cells-requires c κs =
     let i = c .before .before .before .before .before .before .loop .i in
     let inv = c .before .before .before .before .before .before .loop .inv in
     let s = start .args .sheet .now in
-    let ok = start .pre .1 in
+    let ok = start .pre .passed in
     let l = c .before .before .before .before .before .loop-test .taken in
     let f = inv .1 in
     let n = inv .2 in
     let there = sym (c .before .before .before .before .chart-of .ensures) ∙ c .before .before .c .given .1 in
     let p = ap (λ x. chartOf s (x + i)) (sym f) ∙ there in
     let few = chart-variables s ok _ _ p in
-    let now = element-now s _ _ _ f p ok _ _ (start .pre .3) (inv .3) in
-    let row = element-row s _ _ _ f p _ (start .pre .2) in
-    (start .pre .0, omega (arith, elements-rest s ok, components-limit s ok), omega (arith, bound-below s ok, few), cells-limit s ok, now, row)
+    let now = element-now s _ _ _ f p ok _ _ (start .pre .state) (inv .3) in
+    let row = element-row s _ _ _ f p _ (start .pre .cells) in
+    (start .pre .directory, omega (arith, elements-rest s ok, components-limit s ok), omega (arith, bound-below s ok, few), cells-limit s ok, now, row)
 
 same-length-2 : tie.Need-same-length-2 Inv-loop μ-loop
 same-length-2 c =
     let whole = c .before .before .before .before .before .before .before .before .before .loop .inv .3 .whole in
-    c .before .st .given ∙ whole ∙ sym (c .before .before .before .before .before .before .before .before .before .before .before .before .before .pre .3 .whole)
+    c .before .st .given ∙ whole ∙ sym (c .before .before .before .before .before .before .before .before .before .before .before .before .before .pre .state .whole)
 
 returns-2 : tie.Need-returns-2 Inv-loop μ-loop
 returns-2 c =
@@ -158,7 +158,7 @@ loop-again c =
     (omega arith, f, n, after, inv .4 ∙ from-here s _ _ _ f p _ _ m ∙ then-done _ _ _ _ ran done)
 
 same-length-3 : tie.Need-same-length-3 Inv-loop μ-loop
-same-length-3 c = c .before .loop .inv .3 .whole ∙ sym (c .before .before .before .before .before .pre .3 .whole)
+same-length-3 c = c .before .loop .inv .3 .whole ∙ sym (c .before .before .before .before .before .pre .state .whole)
 
 returns-3 : tie.Need-returns-3 Inv-loop μ-loop
 unfolding changedTo

@@ -12,17 +12,17 @@ use Rattle.engine_delivery.proofs.deliver_to_element.Tie as tie
 number-requires : tie.Need-number-requires
 number-requires c κs =
     let pre = c .before .before .pre in
-    ap (leZ (pos 0)) (given (c .before .before .args .t .receiver) (c .struct-told .given .1 .0 .1)) ∙ receiver-number _ (pre .0 .passed) _ (pre .2)
+    ap (leZ (pos 0)) (given (c .before .before .args .t .receiver) (c .struct-told .given .1 .0 .1)) ∙ receiver-number _ (pre .0 .beside .playing .passed) _ (pre .0 .fits)
 
 chart-number-requires : tie.Need-chart-number-requires
 chart-number-requires c κs =
     let pre = c .before .before .before .pre in
     let word = c .before .before .before .args .t .receiver in
     let receiver = number-read word (c .before .struct-told .given .1 .0 .1) _ (c .number .ensures) in
-    (pre .0 .directory, pre .0 .passed, pre .0 .cells, receiver-bound _ (pre .0 .passed) _ (pre .2) (pre .3) (pre .4) _ receiver)
+    (pre .0 .beside .playing .directory, pre .0 .beside .playing .passed, pre .0 .beside .playing .cells, receiver-bound _ (pre .0 .beside .playing .passed) _ (pre .0 .fits) (pre .0 .class) (pre .1) _ receiver)
 
 read-requires : tie.Need-read-requires
-read-requires c κs = c .before .before .before .before .pre .0 .directory
+read-requires c κs = c .before .before .before .before .pre .0 .beside .playing .directory
 
 enum-known-c : tie.Need-enum-known-c
 enum-known-c c = search needs
@@ -35,9 +35,9 @@ never-taken-requires c κs =
     let pre = c .before .before .before .before .before .before .before .pre in
     let word = c .before .before .before .before .before .before .before .args .t .receiver in
     let receiver = number-read word (c .before .before .before .before .before .struct-told .given .1 .0 .1) _ (c .before .before .before .before .number .ensures) in
-    let bound = receiver-bound _ (pre .0 .passed) _ (pre .2) (pre .3) (pre .4) _ receiver in
+    let bound = receiver-bound _ (pre .0 .beside .playing .passed) _ (pre .0 .fits) (pre .0 .class) (pre .1) _ receiver in
     let none = sym (c .before .before .read .ensures) ∙ c .enum-told .given .1 in
-    has-chart _ (pre .0 .passed) _ bound (sym (c .before .before .before .chart-number .ensures) ∙ none)
+    has-chart _ (pre .0 .beside .playing .passed) _ bound (sym (c .before .before .before .chart-number .ensures) ∙ none)
 
 answered-requires : tie.Need-answered-requires
 answered-requires c κs = search needs
@@ -49,16 +49,16 @@ number-requires-2 : tie.Need-number-requires-2
 number-requires-2 c κs =
     let pre = c .before .before .before .before .before .before .before .before .before .pre in
     let read = given (c .before .before .before .before .before .before .before .before .before .args .t .port) (c .struct-told2 .given .1 .1 .0 .1) in
-    ap (leZ (pos 0)) read ∙ port-number _ (pre .0 .passed) _ (pre .2) (pre .3)
+    ap (leZ (pos 0)) read ∙ port-number _ (pre .0 .beside .playing .passed) _ (pre .0 .fits) (pre .0 .class)
 
 number-requires-3 : tie.Need-number-requires-3
 number-requires-3 c κs =
     let pre = c .before .before .before .before .before .before .before .before .before .before .before .pre in
     let read = given (c .before .before .before .before .before .before .before .before .before .before .before .args .t .name) (c .struct-told3 .given .1 .1 .1 .0 .1) in
-    ap (leZ (pos 0)) read ∙ name-number _ (pre .0 .passed) _ (pre .2) (pre .3)
+    ap (leZ (pos 0)) read ∙ name-number _ (pre .0 .beside .playing .passed) _ (pre .0 .fits) (pre .0 .class)
 
 reaction-on-requires : tie.Need-reaction-on-requires
-reaction-on-requires c κs = c .before .before .before .before .before .before .before .before .before .before .before .before .pre .0 .directory
+reaction-on-requires c κs = c .before .before .before .before .before .before .before .before .before .before .before .before .pre .0 .beside .playing .directory
 
 cast-if1 : tie.Need-cast-if1
 cast-if1 c = search needs
@@ -84,9 +84,9 @@ event-body-requires c κs =
     let there = sym (c .before .before .before .before .before .before .before .before .before .before .before .before .before .before .read .ensures) ∙ is in
     let bound = sym (c .before .before .before .before .before .before .before .before .before .before .before .before .before .before .before .chart-number .ensures) ∙ there in
     let found = c .before .before .before .before .before .before .reaction-on .ensures in
-    let ok = pre .0 .passed in
-    let called = reaction-called _ ok t (pre .2) (pre .3) (pre .4) _ receiver _ bound _ _ _ port name found (c .before .before .before .before .if1 .taken) _ brought in
-    (record { playing = pre .0; chart = record { there = there; bound = bound }; called = called }, pre .1)
+    let ok = pre .0 .beside .playing .passed in
+    let called = reaction-called _ ok t (pre .0 .fits) (pre .0 .class) (pre .1) _ receiver _ bound _ _ _ port name found (c .before .before .before .before .if1 .taken) _ brought in
+    (record { playing = pre .0 .beside .playing; chart = record { there = there; bound = bound }; called = called }, pre .0 .beside .long)
 
 same-length : tie.Need-same-length
 same-length c = search needs
@@ -107,8 +107,8 @@ returns-2 c =
     let bound = sym (c .before .before .before .before .before .before .before .before .before .before .before .before .before .before .before .before .before .chart-number .ensures) ∙ there in
     let found = c .before .before .before .before .before .before .before .before .reaction-on .ensures in
     let below = c .before .before .before .before .before .before .if1 .taken in
-    let ok = pre .0 .passed in
-    as-delivered _ ok t (pre .2) (pre .3) (pre .4) _ receiver _ bound _ _ _ port name found below _ brought _ _ _ (c .before .event-body .ensures)
+    let ok = pre .0 .beside .playing .passed in
+    as-delivered _ ok t (pre .0 .fits) (pre .0 .class) (pre .1) _ receiver _ bound _ _ _ port name found below _ brought _ _ _ (c .before .event-body .ensures)
 
 run-panic-body-requires : tie.Need-run-panic-body-requires
 run-panic-body-requires c κs =
@@ -116,7 +116,7 @@ run-panic-body-requires c κs =
     let is = c .before .before .before .before .before .before .before .before .before .c .given .1 in
     let there = sym (c .before .before .before .before .before .before .before .before .before .before .before .read .ensures) ∙ is in
     let bound = sym (c .before .before .before .before .before .before .before .before .before .before .before .before .chart-number .ensures) ∙ there in
-    (pre .0, pre .1, record { there = there; bound = bound })
+    (pre .0 .beside, record { there = there; bound = bound })
 
 same-length-2 : tie.Need-same-length-2
 same-length-2 c = search needs
@@ -134,8 +134,8 @@ returns-3 c =
     let there = sym (c .before .before .before .before .before .before .before .before .before .before .before .before .before .read .ensures) ∙ is in
     let bound = sym (c .before .before .before .before .before .before .before .before .before .before .before .before .before .before .chart-number .ensures) ∙ there in
     let found = c .before .before .before .before .before .reaction-on .ensures in
-    let ok = pre .0 .passed in
-    none-delivered _ ok t (pre .2) (pre .3) (pre .4) _ receiver _ bound _ _ _ port name found (c .before .before .before .if1 .left) _ _ _ (c .before .run-panic-body .ensures)
+    let ok = pre .0 .beside .playing .passed in
+    none-delivered _ ok t (pre .0 .fits) (pre .0 .class) (pre .1) _ receiver _ bound _ _ _ port name found (c .before .before .before .if1 .left) _ _ _ (c .before .run-panic-body .ensures)
 
 pub deliver-to-element-spec : {M : Type 1} → statement M
 deliver-to-element-spec =

@@ -30,7 +30,7 @@ deliver-to-element-requires c κs =
     let pre = c .before .before .before .before .before .before .pre in
     let word = ap (λ z. isBelow z (externalsOf (a .sheet .now))) (sym (given (a .t .receiver) (c .before .before .before .struct-told .given .1 .0 .1))) in
     let far = word ∙ ap (isBelow _) (sym (c .before .before .before .before .externals .ensures .0)) ∙ sym (c .before .before .is-below .ensures) ∙ c .before .if1 .left in
-    (pre .0, pre .1, pre .2, pre .3, far)
+    (pre, far)
 
 same-length : tie.Need-same-length
 same-length c = search needs

@@ -5,10 +5,10 @@ use Rattle.engine_delivery.proofs.panicked.Statement.{statement}
 use Rattle.engine_delivery.proofs.panicked.Tie as tie
 
 chart-number-requires : tie.Need-chart-number-requires
-chart-number-requires c κs = (c .before .pre .0 .directory, c .before .pre .0 .passed, c .before .pre .0 .cells, c .before .pre .2)
+chart-number-requires c κs = (c .before .pre .0 .playing .directory, c .before .pre .0 .playing .passed, c .before .pre .0 .playing .cells, c .before .pre .1)
 
 read-requires : tie.Need-read-requires
-read-requires c κs = c .before .before .pre .0 .directory
+read-requires c κs = c .before .before .pre .0 .playing .directory
 
 enum-known-c : tie.Need-enum-known-c
 enum-known-c c = search needs
@@ -19,7 +19,7 @@ enum-told c = search needs
 never-taken-requires : tie.Need-never-taken-requires
 never-taken-requires c κs =
     let pre = c .before .before .before .before .before .pre in
-    has-chart _ (pre .0 .passed) _ (pre .2) (sym (c .before .before .before .chart-number .ensures) ∙ sym (c .before .before .read .ensures) ∙ c .enum-told .given .1)
+    has-chart _ (pre .0 .playing .passed) _ (pre .1) (sym (c .before .before .before .chart-number .ensures) ∙ sym (c .before .before .read .ensures) ∙ c .enum-told .given .1)
 
 answered-requires : tie.Need-answered-requires
 answered-requires c κs = search needs
@@ -31,7 +31,7 @@ run-panic-body-requires : tie.Need-run-panic-body-requires
 run-panic-body-requires c κs =
     let pre = c .before .before .before .before .before .before .before .pre in
     let there = sym (c .before .before .before .before .read .ensures) ∙ c .before .before .c .given .1 in
-    (pre .0, pre .1, record { there = there; bound = sym (c .before .before .before .before .before .chart-number .ensures) ∙ there })
+    (pre .0, record { there = there; bound = sym (c .before .before .before .before .before .chart-number .ensures) ∙ there })
 
 same-length : tie.Need-same-length
 same-length c = search needs

@@ -12,17 +12,17 @@ use Rattle.engine_delivery.proofs.reacts.Tie as tie
 number-requires : tie.Need-number-requires
 number-requires c κs =
     let pre = c .before .before .pre in
-    ap (leZ (pos 0)) (given (c .before .before .args .t .receiver) (c .struct-told .given .1 .0 .1)) ∙ receiver-number _ (pre .0 .passed) _ (pre .2)
+    ap (leZ (pos 0)) (given (c .before .before .args .t .receiver) (c .struct-told .given .1 .0 .1)) ∙ receiver-number _ (pre .beside .playing .passed) _ (pre .fits)
 
 chart-number-requires : tie.Need-chart-number-requires
 chart-number-requires c κs =
     let pre = c .before .before .before .pre in
     let word = c .before .before .before .args .t .receiver in
     let receiver = number-read word (c .before .struct-told .given .1 .0 .1) _ (c .number .ensures) in
-    (pre .0 .directory, pre .0 .passed, pre .0 .cells, inner-bound _ (pre .0 .passed) _ (pre .2) (pre .3) _ receiver)
+    (pre .beside .playing .directory, pre .beside .playing .passed, pre .beside .playing .cells, inner-bound _ (pre .beside .playing .passed) _ (pre .fits) (pre .class) _ receiver)
 
 read-requires : tie.Need-read-requires
-read-requires c κs = c .before .before .before .before .pre .0 .directory
+read-requires c κs = c .before .before .before .before .pre .beside .playing .directory
 
 enum-known-c : tie.Need-enum-known-c
 enum-known-c c = search needs
@@ -35,9 +35,9 @@ never-taken-requires c κs =
     let pre = c .before .before .before .before .before .before .before .pre in
     let word = c .before .before .before .before .before .before .before .args .t .receiver in
     let receiver = number-read word (c .before .before .before .before .before .struct-told .given .1 .0 .1) _ (c .before .before .before .before .number .ensures) in
-    let bound = inner-bound _ (pre .0 .passed) _ (pre .2) (pre .3) _ receiver in
+    let bound = inner-bound _ (pre .beside .playing .passed) _ (pre .fits) (pre .class) _ receiver in
     let none = sym (c .before .before .read .ensures) ∙ c .enum-told .given .1 in
-    has-chart _ (pre .0 .passed) _ bound (sym (c .before .before .before .chart-number .ensures) ∙ none)
+    has-chart _ (pre .beside .playing .passed) _ bound (sym (c .before .before .before .chart-number .ensures) ∙ none)
 
 answered-requires : tie.Need-answered-requires
 answered-requires c κs = search needs
@@ -49,10 +49,10 @@ number-requires-2 : tie.Need-number-requires-2
 number-requires-2 c κs =
     let pre = c .before .before .before .before .before .before .before .before .before .pre in
     let read = given (c .before .before .before .before .before .before .before .before .before .args .t .name) (c .struct-told2 .given .1 .1 .1 .0 .1) in
-    ap (leZ (pos 0)) read ∙ inner-name _ (pre .0 .passed) _ (pre .2) (pre .3)
+    ap (leZ (pos 0)) read ∙ inner-name _ (pre .beside .playing .passed) _ (pre .fits) (pre .class)
 
 reaction-to-requires : tie.Need-reaction-to-requires
-reaction-to-requires c κs = c .before .before .before .before .before .before .before .before .before .before .pre .0 .directory
+reaction-to-requires c κs = c .before .before .before .before .before .before .before .before .before .before .pre .beside .playing .directory
 
 cast-event-body : tie.Need-cast-event-body
 cast-event-body c = search needs
@@ -74,8 +74,8 @@ event-body-requires c κs =
     let there = sym (c .before .before .before .before .before .before .before .before .before .before .read .ensures) ∙ is in
     let bound = sym (c .before .before .before .before .before .before .before .before .before .before .before .chart-number .ensures) ∙ there in
     let found = c .before .before .before .before .reaction-to .ensures in
-    let called = inner-asked _ (pre .0 .passed) t (pre .2) (pre .3) _ receiver _ bound _ _ name found _ brought in
-    (record { playing = pre .0; chart = record { there = there; bound = bound }; called = called }, pre .1)
+    let called = inner-asked _ (pre .beside .playing .passed) t (pre .fits) (pre .class) _ receiver _ bound _ _ name found _ brought in
+    (record { playing = pre .beside .playing; chart = record { there = there; bound = bound }; called = called }, pre .beside .long)
 
 same-length : tie.Need-same-length
 same-length c = search needs
@@ -94,7 +94,7 @@ returns-2 c =
     let there = sym (c .before .before .before .before .before .before .before .before .before .before .before .before .read .ensures) ∙ is in
     let bound = sym (c .before .before .before .before .before .before .before .before .before .before .before .before .before .chart-number .ensures) ∙ there in
     let found = c .before .before .before .before .before .before .reaction-to .ensures in
-    as-reacting _ (pre .0 .passed) t (pre .2) (pre .3) _ receiver _ bound _ _ name found _ brought _ _ _ (c .before .event-body .ensures)
+    as-reacting _ (pre .beside .playing .passed) t (pre .fits) (pre .class) _ receiver _ bound _ _ name found _ brought _ _ _ (c .before .event-body .ensures)
 
 pub reacts-spec : {M : Type 1} → statement M
 reacts-spec =

@@ -43,7 +43,7 @@ delivers-requires c κs =
     let t = c .before .before .taken .given in
     let w = takes h took _ (t .1) in
     let e = c .before .before .before .before .before .before .before .before .e2 .given in
-    (plays h w, old-long h w, fits h w, deliver-outer h w _ _ (e .1))
+    record { beside = record { playing = plays h w; long = old-long h w }; fits = fits h w; class = deliver-outer h w _ _ (e .1) }
 
 enum-known-e-3 : tie.Need-enum-known-e-3
 enum-known-e-3 c = search needs
@@ -77,7 +77,7 @@ panicked-requires c κs =
     let w = takes h took _ (t .1) in
     let e = c .before .before .before .before .before .before .before .before .before .before .e3 .given in
     let n = c .number .ensures ∙ ap natAbs (given (t .0 .0 .receiver) (c .before .struct-told .given .1 .0 .1)) in
-    (plays h w, old-long h w, corrupted-bound h w _ _ (e .1) _ n)
+    (record { playing = plays h w; long = old-long h w }, corrupted-bound h w _ _ (e .1) _ n)
 
 enum-known-e-4 : tie.Need-enum-known-e-4
 enum-known-e-4 c = search needs
@@ -101,7 +101,7 @@ reacts-requires c κs =
     let t = c .before .before .taken3 .given in
     let w = takes h took _ (t .1) in
     let e = c .before .before .before .before .before .before .before .before .e4 .given in
-    (plays h w, old-long h w, fits h w, inner-inside h w _ (e .1))
+    record { beside = record { playing = plays h w; long = old-long h w }; fits = fits h w; class = inner-inside h w _ (e .1) }
 
 enum-told-5 : tie.Need-enum-told-5
 enum-told-5 c = search needs

@@ -19,7 +19,7 @@ abbrev μ-loop : tie.MeasureT-loop
 μ-loop sheet directory cells events st₀ spare₀ answers₀ count i₀ st spare answers i = count - i
 
 loop-holds : tie.Need-loop-holds Inv-loop μ-loop
-loop-holds c = (c .before .pre .0, refl, refl, refl, omega arith, refl, no-event-yet (c .before .args .sheet .now) (c .before .args .events .now) _ (c .before .args .st .now) (c .before .args .answers .now))
+loop-holds c = (c .before .pre .playing, refl, refl, refl, omega arith, refl, no-event-yet (c .before .args .sheet .now) (c .before .args .events .now) _ (c .before .args .st .now) (c .before .args .answers .now))
 
 mul-from : tie.Need-mul-from Inv-loop μ-loop
 mul-from c = omega arith
@@ -40,7 +40,7 @@ part-next-end : tie.Need-part-next-end Inv-loop μ-loop
 part-next-end c = omega arith
 
 next-requires : tie.Need-next-requires Inv-loop μ-loop
-next-requires c κs = let v = c .before .before .before .before .loop .inv in (v .0, v .2 ∙ c .before .before .before .before .before .before .pre .1 ∙ sym (v .1))
+next-requires c κs = let v = c .before .before .before .before .loop .inv in (v .0, v .2 ∙ c .before .before .before .before .before .before .pre .spare ∙ sym (v .1))
 
 mul-put-answer : tie.Need-mul-put-answer Inv-loop μ-loop
 mul-put-answer c = omega arith
@@ -49,7 +49,7 @@ put-answer-requires : tie.Need-put-answer-requires Inv-loop μ-loop
 put-answer-requires c κs =
     let v = c .before .before .before .before .before .before .before .before .loop .inv in
     let l = c .before .before .before .before .before .before .before .loop-test .taken in
-    let m = c .before .before .before .before .before .before .before .before .before .before .pre .2 in
+    let m = c .before .before .before .before .before .before .before .before .before .before .pre .answers in
     (omega arith, steps-small (c .before .before .before .before .before .before .before .before .before .before .args .sheet .now) (λ k. omega (arith, c .before .before .before .before .before .before .before .before .before .shared-slice-known .given k)) (c .before .before .before .before .before .before .before .before .loop .st) _ (c .before .before .before .next .result) (c .before .before .before .next .last .1 .1 .1 .0) (c .before .before .before .next .ensures))
 
 add-i : tie.Need-add-i Inv-loop μ-loop
@@ -74,7 +74,7 @@ loop-again c =
     let one : from + wordsOfEvent - from ≡ wordsOfEvent = omega arith in
     let e : take (from + wordsOfEvent - from) (drop from (s .args .events .now)) ≡ eventAt (s .args .events .now) i =
     ap (λ n. take n (drop from (s .args .events .now))) one in
-    let room : length (loop .answers) ≡ wordsOfAnswer * (length (s .args .events .now) / wordsOfEvent) = v .3 ∙ s .pre .2 in (
+    let room : length (loop .answers) ≡ wordsOfAnswer * (length (s .args .events .now) / wordsOfEvent) = v .3 ∙ s .pre .answers in (
       record { directory = v .0 .directory; passed = v .0 .passed; cells = v .0 .cells; state = goes-on (s .args .sheet .now) (v .0 .passed) st _ (next .result) (next .last .1 .1 .1 .0) (v .0 .state) (next .ensures) },
       next .kept .1 .1 .1 .0 ∙ v .1,
       next .kept .1 .1 .1 .1 .0 ∙ v .2,
@@ -95,7 +95,7 @@ same-length-3 : tie.Need-same-length-3 Inv-loop μ-loop
 same-length-3 c = search needs
 
 returns : tie.Need-returns Inv-loop μ-loop
-returns c = let v = c .before .loop .inv in (v .0, all-events (c .before .before .before .args .sheet .now) (c .before .before .before .args .events .now) _ (c .before .loop .i) (c .before .loop .st) (c .before .loop .answers) _ (v .4) (c .loop-test .left) (v .3 ∙ c .before .before .before .pre .2) (v .6))
+returns c = let v = c .before .loop .inv in (v .0, all-events (c .before .before .before .args .sheet .now) (c .before .before .before .args .events .now) _ (c .before .loop .i) (c .before .loop .st) (c .before .loop .answers) _ (v .4) (c .loop-test .left) (v .3 ∙ c .before .before .before .pre .answers) (v .6))
 
 pub play-on-spec : {M : Type 1} → statement M
 play-on-spec =

@@ -73,16 +73,17 @@ play-on-requires c κs =
     let st = by-cells (args .sheet .now) _ _ _ _ (fill .ensures .0) (at8 .before .before .before .before .before .before .before .is-state .ensures) (not-false _ (at8 .before .before .before .before .before .before .if1 .left)) in
     let spare = by-cells (args .sheet .now) _ _ _ _ (fill .ensures .0) (at8 .before .before .before .before .before .is-state2 .ensures) (not-false _ (at8 .before .before .before .before .if2 .left)) in
     let list = whole-told (args .events .now) (args .answers .now) _ _ (at8 .before .before .before .is-list .ensures) (not-false _ (at8 .before .before .if3 .left)) in
-    let l = eqb-true _ _ st in (
-      record {
+    let l = eqb-true _ _ st in
+    record {
+      playing = record {
         directory = start .pre .0;
         passed = start .pre .1;
         cells = fill .ensures .1;
         state = begun (args .sheet .now) (start .pre .1) (args .st .now) (begin .result) (begin .last .1 .1 .1 .0) l (begin .ensures) (c .before .before .before .before .if4 .taken);
-      },
-      eqb-true _ _ spare ∙ sym l ∙ sym (begin .kept .1 .1 .1 .0),
-      answers-room (args .events .now) (args .answers .now) list,
-    )
+      };
+      spare = eqb-true _ _ spare ∙ sym l ∙ sym (begin .kept .1 .1 .1 .0);
+      answers = answers-room (args .events .now) (args .answers .now) list;
+    }
 
 same-length : tie.Need-same-length
 same-length c = search needs

@@ -8,7 +8,8 @@ use borrow.Author.Needs.{needs}
 use Rattle.machine.specs.Play.{wordsOfEvent}
 use Rattle.engine_cells.specs.Playing.{Playing}
 use Rattle.engine_answers.specs.Words.{wordsOfAnswer}
-use Rattle.program_events.specs.Room.{roomEvents, bytesOfEvent, roomText}
+use Rattle.program_input.specs.Input.{roomEvents, bytesOfEvent}
+use Rattle.program_events.specs.Room.{roomText}
 use Rattle.program_events.proofs.play_events.Statement.{statement}
 use Rattle.program_events.proofs.play_events.Tie as tie
 
@@ -67,7 +68,7 @@ round-requires c κs =
     let turn = c .before .before .before .before .before .before .before .before .before .before .loop-test .taken in
     let read-more = c .before .before .before .before .before .before .before .before .read-more in
     let k = read-more .kept .1 .0 in
-    (inv .0, inv .2 ∙ start .pre .1 ∙ sym (inv .1), omega arith, omega arith, inv .4, inv .5, omega arith, inv .6)
+    record { playing = inv .0; spare = inv .2 ∙ start .pre .1 ∙ sym (inv .1); whole = omega arith; few = omega arith; words = inv .4; answers = inv .5; number = omega arith; text = inv .6 }
 
 same-length-3 : tie.Need-same-length-3 Inv-loop μ-loop
 same-length-3 c =

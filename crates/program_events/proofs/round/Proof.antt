@@ -18,7 +18,7 @@ slice-aggregate-words : tie.Need-slice-aggregate-words
 slice-aggregate-words c = sym (length-take-le _ _ (slice-relend-prefix-words (c .before)))
 
 words-requires : tie.Need-words-requires
-words-requires c κs = words-room _ _ _ (c .before .before .before .before .pre .4) (c .before .before .before .before .pre .3) (c .before .before .before .before .pre .2)
+words-requires c κs = words-room _ _ _ (c .before .before .before .before .pre .words) (c .before .before .before .before .pre .few) (c .before .before .before .before .pre .whole)
 
 slice-reshare-prefix-play-on : tie.Need-slice-reshare-prefix-play-on
 slice-reshare-prefix-play-on c = search needs
@@ -35,7 +35,11 @@ slice-aggregate-play-on-2 c = sym (length-take-le _ _ (slice-relend-prefix-play-
 play-on-requires : tie.Need-play-on-requires
 play-on-requires c κs =
     let start = c .before .before .before .before .before .before .before .before .before .before in
-    (start .pre .0, start .pre .1, answers-room _ _ _ (slice-reshare-prefix-play-on (c .before .before .before .before)) (slice-relend-prefix-play-on (c .before)))
+    record {
+      playing = start .pre .playing;
+      spare = start .pre .spare;
+      answers = answers-room _ _ _ (slice-reshare-prefix-play-on (c .before .before .before .before)) (slice-relend-prefix-play-on (c .before));
+    }
 
 list-events-requires : tie.Need-list-events-requires
 list-events-requires c κs = search needs
