@@ -9,7 +9,7 @@ use Rattle.engine_answers.specs.Words.{wordsOfAnswer}
 use Rattle.engine_cells.specs.Playing.{Playing}
 
 -- a state of the sheet, a second one's room, and words for the answer to each event
-pub record Room (s d c : List ℕ) (events st spare answers : List ℤ) : Type 0 where
+pub record Room (s d c : List ℕ) (events st second room : List ℤ) : Type 0 where
   pub playing : Playing s d c st
-  pub spare : length spare ≡ length st
-  pub answers : length answers ≡ wordsOfAnswer * (length events / wordsOfEvent)
+  pub spare : length second ≡ length st
+  pub answers : length room ≡ wordsOfAnswer * (length events / wordsOfEvent)
