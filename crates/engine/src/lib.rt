@@ -9,7 +9,6 @@ ghost use mathlib.Core.Path.{_≡_};
 ghost use lib.ListN.{length};
 ghost use Rattle.sheet.specs.Sheet.{directoryOf};
 ghost use Rattle.sheet_rules.specs.declared.Checked.the-variants.{Passed};
-ghost use Rattle.machine.specs.State.{stateLength};
 ghost use Rattle.sheet_rules.specs.Check.{checkOf};
 ghost use Rattle.machine.specs.Lists.{StartGives, EventGives};
 ghost use Rattle.engine_cells.specs.Lent.{Lent};

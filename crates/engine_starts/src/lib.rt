@@ -14,7 +14,6 @@ ghost use lib.IntN.{pos};
 ghost use lib.ListN.{length, replicate};
 ghost use Rattle.machine.specs.declared.Handed.the-variants.{Nothing};
 ghost use Rattle.machine.specs.Values.{isBound};
-ghost use Rattle.machine.specs.State.{stateLength};
 ghost use Rattle.machine.specs.Play.{ended, answer, limitOf, isInitial, elementBody, alone, ranBody, started};
 ghost use Rattle.engine_cells.specs.Lent.{Lent};
 ghost use Rattle.engine_cells.specs.Playing.{Playing};

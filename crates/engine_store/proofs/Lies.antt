@@ -1,6 +1,6 @@
 -- A state's layout by its cells and words is that of the machine.
 use Prim.Native.Nat.{ℕ, _≤_}
-use mathlib.Core.Path.{_≡_, refl, sym, ap, _∙_}
+use mathlib.Core.Path.{_≡_}
 use mathlib.Core.List.{List}
 use native.Mathlib.Omega.{arith}
 use Rattle.sheet_rules.specs.Shape.{mostCells, cellsOf}
@@ -9,7 +9,7 @@ use Rattle.engine_store.specs.Layout.{wordsWith, shortest, longest, plac
 
 pub words-with : (s : List ℕ) (cells : ℕ) → cells ≡ cellsOf s → wordsWith cells ≡ stateLength s
 unfolding placeAt stateLength
-words-with s cells e = ap wordsWith e
+words-with s cells e = omega arith
 
 pub place-in : (s : List ℕ) (n j : ℕ) → n ≡ stateLength s → placeIn n j ≡ placeAt s j
 unfolding placeAt stateLength

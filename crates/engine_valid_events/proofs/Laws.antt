@@ -9,12 +9,11 @@ use lib.IntN.{ℤ, pos}
 use mir.Syntax.{w32}
 use mir.Val.{toZ, ofZ}
 use borrow.Author.Tests.{eq-eqb, ne-eqb}
-use Rattle.sheet.specs.All.{_and_}
 use Rattle.sheet.specs.Table.{lookUp}
 use Rattle.sheet.proofs.All.{first-fails, first-holds}
 use Rattle.machine.specs.Values.{fits32}
 use Rattle.machine.specs.State.{wordOf}
-use Rattle.machine.specs.Kinds.{Kind, outside, deliver, corrupt, inner, slice, noKind, kindOf}
+use Rattle.machine.specs.Kinds.{Kind, outside, deliver, corrupt, inner, slice, kindOf}
 use Rattle.machine.specs.Play.{wordsOfEvent, wellFormed, isEvent}
 use Rattle.machine_equations.proofs.EventKinds.{no-kind}
 use Rattle.machine_events.specs.declared.Event.{Event}

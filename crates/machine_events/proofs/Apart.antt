@@ -16,7 +16,7 @@ use Rattle.machine.specs.State.{stateLength, wordOf}
 use Rattle.machine.specs.Valid.{contentFits}
 use Rattle.machine.specs.Kinds as kind
 use Rattle.machine.specs.Kinds.{Kind, kindOf}
-use Rattle.machine.specs.Play.{Outcome, limitOf, restZero, boundWord, wellFormed, wordsOfEvent, isEvent, happensAs, happens, turnedDown, eventCall}
+use Rattle.machine.specs.Play.{limitOf, restZero, boundWord, wellFormed, wordsOfEvent, isEvent, happensAs, happens, eventCall}
 use Rattle.machine_events.specs.declared.Event.{Event}
 use Rattle.machine_events.specs.declared.Event.the-variants.{Malformed}
 use Rattle.machine_events.specs.Event.{eventAs, eventOf, isMalformed, happensBy}

@@ -10,7 +10,6 @@ use borrow.Author.Tests.{lt-ltb, le-ltb, eq-eqb, ne-eqb}
 use Rattle.sheet.specs.declared.Record.{Record}
 use Rattle.sheet.specs.declared.Found.the-variants.{Present, Absent}
 use Rattle.sheet.specs.All.{_and_}
-use Rattle.sheet.specs.Table.{lookUp}
 use Rattle.sheet.specs.Names.{bodyParameters, root}
 use Rattle.sheet.proofs.All.{and-first, and-second, and-true, false-and, and-false}
 use Rattle.sheet_rules.specs.declared.Checked.the-variants.{Passed, Shape, Static}
@@ -18,14 +17,13 @@ use Rattle.machine.specs.declared.Telegram.{Telegram}
 use Rattle.machine.specs.declared.Handed.the-variants.{Nothing, Outside}
 use Rattle.sheet_rules.specs.Fields.{holds, externalsOf, elementsOf}
 use Rattle.machine.specs.Values.{isBelow, bindingAt, chartOf}
-use Rattle.machine.specs.State.{stateLength, wordOf, waiting, Changed, lost, counted, telegramOf, withoutTelegram}
+use Rattle.machine.specs.State.{stateLength, waiting, Changed, lost, counted, telegramOf, withoutTelegram}
 use Rattle.machine.specs.Valid.{nameFits, externalFits, telegramFits, contentFits}
-use Rattle.machine.specs.Kinds.{kindOf}
 use Rattle.machine.specs.Run.{withRecord, provided, runOf, datum, localAt, listFrom, localsOf, localsThere}
 use Rattle.machine.specs.Play.{Outcome, ended, answer, limitOf, bodyWhere, hasPanic, isInitial, reactsOn, ranBody, elementBody, alone, eventEnd}
-use Rattle.machine.specs.Play.{bodyEvent, oldest, taking, brought, reacting, panicking, outside, bodiesThere, received}
-use Rattle.machine.specs.Play.{received, delivered, deliver, corrupt, inner, changeEnd, isEvent, telegramOfEvent, slicedFrom, slice}
-use Rattle.machine.specs.Play.{happensAs, happens, turnedDown, ifPassed, started, startCall, eventCall}
+use Rattle.machine.specs.Play.{bodyEvent, oldest, taking, brought, reacting, panicking, bodiesThere, received}
+use Rattle.machine.specs.Play.{delivered, changeEnd, isEvent, slicedFrom, slice}
+use Rattle.machine.specs.Play.{happens, turnedDown, ifPassed, started, startCall, eventCall}
 use Rattle.machine.specs.Play.{eventCall}
 use Rattle.sheet_rules.specs.Check.{checkOf}
 use Rattle.machine_passed.proofs.Declared.{has-head}

@@ -6,7 +6,7 @@ use lib.IntN.{ℤ, pos}
 use Rattle.sheet_rules.proofs.Samples.{sheetOf, rec3, rec6, body}
 use Rattle.machine.specs.declared.Handed.the-variants.{Nothing}
 use Rattle.machine.specs.State.{stateLength, waiting}
-use Rattle.machine.specs.Valid.{dataFit, nameFits, reactionAwaits, zeroWords, runningClock, clockCell, cellFits, variableFits, elementFits, internalFits, externalFits, telegramFits, headFits, cellsFit, waitingFit, unusedZero, classesFit, contentFits}
+use Rattle.machine.specs.Valid.{nameFits, reactionAwaits, zeroWords, runningClock, clockCell, cellFits, variableFits, elementFits, internalFits, externalFits, telegramFits, headFits, cellsFit, waitingFit, unusedZero, classesFit, contentFits}
 use Rattle.machine.specs.Play.{Outcome, ended, stuck, answer, restZero, wellFormed, isEvent, ifPassed, startCall, eventCall, limitOf}
 use Rattle.machine.proofs.Samples.{event, words, sent, row}
 

@@ -1,4 +1,3 @@
-use Rattle.machine.specs.State.{cellAt}
 use borrow.Author.Needs.{needs}
 use Rattle.engine_context.proofs.first_word.Statement.{statement}
 use Rattle.engine_context.proofs.first_word.Tie as tie

@@ -1,4 +1,4 @@
-use mathlib.Core.Path.{refl, _∙_}
+use mathlib.Core.Path.{refl}
 use native.Mathlib.Omega.{arith}
 use Rattle.engine_queue.proofs.Laws.{waiting-limit}
 use borrow.Author.Needs.{needs}

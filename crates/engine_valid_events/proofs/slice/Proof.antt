@@ -1,4 +1,4 @@
-use mathlib.Core.Path.{refl, sym, ap, _∙_}
+use mathlib.Core.Path.{refl, sym, _∙_}
 use Rattle.machine.specs.Kinds as kind
 use Rattle.machine.specs.Play.{wellFormed}
 use Rattle.machine_events.specs.Event.{eventAs}
