@@ -24,7 +24,6 @@ use Rattle.machine.specs.Play.{Outcome, ended, answer, limitOf, bodyWhere, hasP
 use Rattle.machine.specs.Play.{bodyEvent, oldest, taking, brought, reacting, panicking, bodiesThere, received}
 use Rattle.machine.specs.Play.{delivered, changeEnd, isEvent, slicedFrom, slice}
 use Rattle.machine.specs.Play.{happens, turnedDown, ifPassed, started, startCall, eventCall}
-use Rattle.machine.specs.Play.{eventCall}
 use Rattle.sheet_rules.specs.Check.{checkOf}
 use Rattle.machine_passed.proofs.Declared.{has-head}
 use Rattle.machine_promise.proofs.Events.{number-is}
