@@ -1,15 +1,15 @@
 // Which sheets pass.
 ghost use Rattle.std.specs.Prelude.{◌≡◌, ◌≤◌, length};
 ghost use Rattle.sheet.specs.Names.{nodes};
-ghost use Rattle.sheet.specs.Sheet.{count_of, directoryOf};
-ghost use Rattle.sheet_rules.specs.Check.{shape, checkOf, checkNumber, checkCall};
+ghost use Rattle.sheet.specs.Sheet.{count_of, directory_of};
+ghost use Rattle.sheet_rules.specs.Check.{shape, check_of, check_number, check_call};
 
 use sheet::{Directory, HEAD, NODES, RECORDS};
 use sheet_rules::Checked;
 
 // Whether the sheet has the shape. A mark is lent for each node.
 fn shape_holds(sheet: &[u8], directory: &Directory, marks: &mut [u16]) -> bool
-    requires directory_value { directory.now ≡ directoryOf sheet.now }
+    requires directory_value { directory.now ≡ directory_of sheet.now }
     requires nodes_in_bounds { count_of sheet.now nodes ≤ length marks.old }
     ensures { result ≡ shape sheet.now }
 {
@@ -39,7 +39,7 @@ fn shape_holds(sheet: &[u8], directory: &Directory, marks: &mut [u16]) -> bool
 
 // The same with marks of its own. An array is cleared when it is made, so a sheet of few nodes gets a short one.
 fn shaped(sheet: &[u8], directory: &Directory) -> bool
-    requires { directory.now ≡ directoryOf sheet.now }
+    requires { directory.now ≡ directory_of sheet.now }
     ensures { result ≡ shape sheet.now }
 {
     let count = sheet_reader::count_in(directory, NODES);
@@ -53,8 +53,8 @@ fn shaped(sheet: &[u8], directory: &Directory) -> bool
 
 // What check answers, and with it the paper's number, for a caller who has opened the directory.
 pub fn check_opened(sheet: &[u8], directory: &Directory) -> Checked
-    requires { directory.now ≡ directoryOf sheet.now }
-    ensures { (result ≡ checkOf sheet.now) × (checkNumber result ≡ checkCall sheet.now) }
+    requires { directory.now ≡ directory_of sheet.now }
+    ensures { (result ≡ check_of sheet.now) × (check_number result ≡ check_call sheet.now) }
 {
     if !shaped(sheet, directory) {
         return Checked::Shape;
@@ -67,7 +67,7 @@ pub fn check_opened(sheet: &[u8], directory: &Directory) -> Checked
 
 // What check answers for any bytes.
 pub fn check(sheet: &[u8]) -> Checked
-    ensures { (result ≡ checkOf sheet.now) × (checkNumber result ≡ checkCall sheet.now) }
+    ensures { (result ≡ check_of sheet.now) × (check_number result ≡ check_call sheet.now) }
 {
     let directory = sheet_reader::directory(sheet);
     check_opened(sheet, &directory)

@@ -1,15 +1,15 @@
 // What a node that reads or assigns an element of an array is: an expression of a type, a statement, or wrong.
 ghost use Rattle.std.specs.Prelude.{◌≡◌};
-ghost use Rattle.sheet.specs.Sheet.{directoryOf};
-ghost use Rattle.sheet_rules.specs.Types.{chartVariableIndex, indexedBy, readElementType, assignElementType};
+ghost use Rattle.sheet.specs.Sheet.{directory_of};
+ghost use Rattle.sheet_rules.specs.Types.{chart_variable_index, indexed_by, read_element_type, assign_element_type};
 
 use sheet::{DECLARATIONS, Directory, Found, Record};
 use sheet_rules::Typed;
 
 // "19 and 44 take nothing else, with an index of the array's index type (Int for a number)"
 fn indexed_by(sheet: &[u8], directory: &Directory, c: Record, n: u16, x: Typed) -> bool
-    requires { directory.now ≡ directoryOf sheet.now }
-    ensures { result ≡ indexedBy (chartVariableIndex sheet.now c n) x }
+    requires { directory.now ≡ directory_of sheet.now }
+    ensures { result ≡ indexed_by (chart_variable_index sheet.now c n) x }
 {
     let Found::Present(r) = sheet_reader::read(
         sheet,
@@ -37,8 +37,8 @@ pub fn read_element_type(
     r: Record,
     x: Typed,
 ) -> Typed
-    requires { directory.now ≡ directoryOf sheet.now }
-    ensures { result ≡ readElementType sheet.now c r x }
+    requires { directory.now ≡ directory_of sheet.now }
+    ensures { result ≡ read_element_type sheet.now c r x }
 {
     if !indexed_by(sheet, directory, c, r.f1, x) {
         return Typed::Wrong;
@@ -55,8 +55,8 @@ pub fn assign_element_type(
     x: Typed,
     y: Typed,
 ) -> Typed
-    requires { directory.now ≡ directoryOf sheet.now }
-    ensures { result ≡ assignElementType sheet.now c r x y }
+    requires { directory.now ≡ directory_of sheet.now }
+    ensures { result ≡ assign_element_type sheet.now c r x y }
 {
     if !indexed_by(sheet, directory, c, r.f1, x) {
         return Typed::Wrong;

@@ -1,14 +1,14 @@
 // The shape of bindings.
 ghost use Rattle.std.specs.Prelude.{◌≡◌, ◌≤◌, ◌<◌};
-ghost use Rattle.sheet.specs.Sheet.{directoryOf};
-ghost use Rattle.sheet_rules.specs.Shape.{constantsShape, secondShape, recordsShape, bindingShape, bindingsShape};
+ghost use Rattle.sheet.specs.Sheet.{directory_of};
+ghost use Rattle.sheet_rules.specs.Shape.{constants_shape, second_shape, records_shape, binding_shape, bindings_shape};
 
 use sheet::{BINDINGS, CHARTS, Directory, Found, Record};
 
 // The constants of the element bound to chart c whose first record is k.
 fn constants_fit(sheet: &[u8], directory: &Directory, k: usize, c: Record) -> bool
-    requires { (directory.now ≡ directoryOf sheet.now) × (k ≤ 131072) }
-    ensures { result ≡ constantsShape sheet.now k c }
+    requires { (directory.now ≡ directory_of sheet.now) × (k ≤ 131072) }
+    ensures { result ≡ constants_shape sheet.now k c }
 {
     let count = c.f1 as usize;
     let mut j: usize = 0;
@@ -32,8 +32,8 @@ fn constants_fit(sheet: &[u8], directory: &Directory, k: usize, c: Record) -> bo
 
 // Whether record k is a second one, with n constants.
 fn second_fits(sheet: &[u8], directory: &Directory, k: usize, n: usize) -> bool
-    requires { (directory.now ≡ directoryOf sheet.now) × (n < 65536) }
-    ensures { result ≡ secondShape sheet.now k n }
+    requires { (directory.now ≡ directory_of sheet.now) × (n < 65536) }
+    ensures { result ≡ second_shape sheet.now k n }
 {
     let Found::Present(r) = sheet_reader::read(sheet, directory, BINDINGS, k) else {
         return false;
@@ -46,8 +46,8 @@ fn second_fits(sheet: &[u8], directory: &Directory, k: usize, n: usize) -> bool
 
 // The records from k on, the first one being r, of an element bound to chart c.
 fn records_fit(sheet: &[u8], directory: &Directory, k: usize, r: Record, c: Record) -> bool
-    requires { (directory.now ≡ directoryOf sheet.now) × (k ≤ 131072) }
-    ensures { result ≡ recordsShape sheet.now k r c }
+    requires { (directory.now ≡ directory_of sheet.now) × (k ≤ 131072) }
+    ensures { result ≡ records_shape sheet.now k r c }
 {
     if !constants_fit(sheet, directory, k, c) {
         return false;
@@ -64,8 +64,8 @@ fn records_fit(sheet: &[u8], directory: &Directory, k: usize, r: Record, c: Reco
 
 // The records of the element whose first one is k.
 fn binding_fits(sheet: &[u8], directory: &Directory, k: usize) -> bool
-    requires { (directory.now ≡ directoryOf sheet.now) × (k ≤ 131072) }
-    ensures { result ≡ bindingShape sheet.now k }
+    requires { (directory.now ≡ directory_of sheet.now) × (k ≤ 131072) }
+    ensures { result ≡ binding_shape sheet.now k }
 {
     let Found::Present(r) = sheet_reader::read(sheet, directory, BINDINGS, k) else {
         return false;
@@ -78,8 +78,8 @@ fn binding_fits(sheet: &[u8], directory: &Directory, k: usize) -> bool
 
 // The whole section, element by element.
 pub fn bindings_fit(sheet: &[u8], directory: &Directory) -> bool
-    requires { directory.now ≡ directoryOf sheet.now }
-    ensures { result ≡ bindingsShape sheet.now }
+    requires { directory.now ≡ directory_of sheet.now }
+    ensures { result ≡ bindings_shape sheet.now }
 {
     let count = sheet_reader::count_in(directory, BINDINGS);
     let mut k: usize = 0;

@@ -1,14 +1,14 @@
 // The shape of bodies.
 ghost use Rattle.std.specs.Prelude.{◌≡◌};
-ghost use Rattle.sheet.specs.Sheet.{directoryOf};
-ghost use Rattle.sheet_rules.specs.Shape.{reactionShape, bodyShape};
+ghost use Rattle.sheet.specs.Sheet.{directory_of};
+ghost use Rattle.sheet_rules.specs.Shape.{reaction_shape, body_shape};
 
 use sheet::{DECLARATIONS, Directory, HEAD, NAMES, NODES, Record};
 
 // The port and the name of a reaction are there, and 0 in another body.
 fn reaction_fits(sheet: &[u8], directory: &Directory, r: Record) -> bool
-    requires { directory.now ≡ directoryOf sheet.now }
-    ensures { result ≡ reactionShape sheet.now r }
+    requires { directory.now ≡ directory_of sheet.now }
+    ensures { result ≡ reaction_shape sheet.now r }
 {
     let role = r.f0;
     match role {
@@ -35,8 +35,8 @@ fn reaction_fits(sheet: &[u8], directory: &Directory, r: Record) -> bool
 }
 
 pub fn body_fits(sheet: &[u8], directory: &Directory, r: Record) -> bool
-    requires { directory.now ≡ directoryOf sheet.now }
-    ensures { result ≡ bodyShape sheet.now r }
+    requires { directory.now ≡ directory_of sheet.now }
+    ensures { result ≡ body_shape sheet.now r }
 {
     if 4 < r.f0 {
         return false;

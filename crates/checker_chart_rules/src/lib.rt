@@ -1,16 +1,16 @@
 // The static rules of a chart and its bodies.
 ghost use Rattle.std.specs.Prelude.{◌≡◌};
-ghost use Rattle.sheet.specs.Sheet.{directoryOf};
-ghost use Rattle.sheet_rules.specs.Static.{bodyStatic, bodiesStatic, chartStatic};
+ghost use Rattle.sheet.specs.Sheet.{directory_of};
+ghost use Rattle.sheet_rules.specs.Static.{body_static, bodies_static, chart_static};
 ghost use Rattle.sheet_types.specs.Table.{Table};
 ghost use Rattle.checker_reactions.specs.Entries.{Ready};
 
 use sheet::{BODIES, ByRecord, Directory, Found, Range, Record};
 
 fn body_static(sheet: &[u8], directory: &Directory, table: &ByRecord, c: Record, b: Record) -> bool
-    requires directory_value { directory.now ≡ directoryOf sheet.now }
+    requires directory_value { directory.now ≡ directory_of sheet.now }
     requires table { Table sheet.now c table.now }
-    ensures { result ≡ bodyStatic sheet.now c b }
+    ensures { result ≡ body_static sheet.now c b }
 {
     if !checker_roles::plain_data(sheet, directory, checker_roles::parameters(b)) {
         return false;
@@ -32,9 +32,9 @@ fn bodies_static(
     previous: &mut ByRecord,
     c: Record,
 ) -> bool
-    requires directory_value { directory.now ≡ directoryOf sheet.now }
+    requires directory_value { directory.now ≡ directory_of sheet.now }
     requires ready { Ready sheet.now table.old last.old previous.old }
-    ensures { (result ≡ bodiesStatic sheet.now c) × Ready sheet.now table.new last.new previous.new }
+    ensures { (result ≡ bodies_static sheet.now c) × Ready sheet.now table.new last.new previous.new }
 {
     checker_reactions::fill(sheet, directory, table, c);
     let first = c.f4 as usize;
@@ -65,9 +65,9 @@ pub fn chart_static(
     previous: &mut ByRecord,
     c: Record,
 ) -> bool
-    requires directory_value { directory.now ≡ directoryOf sheet.now }
+    requires directory_value { directory.now ≡ directory_of sheet.now }
     requires ready { Ready sheet.now table.old last.old previous.old }
-    ensures { (result ≡ chartStatic sheet.now c) × Ready sheet.now table.new last.new previous.new }
+    ensures { (result ≡ chart_static sheet.now c) × Ready sheet.now table.new last.new previous.new }
 {
     let g = Range {
         first: c.f0 as usize,

@@ -1,14 +1,14 @@
 // The shape of charts.
 ghost use Rattle.std.specs.Prelude.{◌≡◌};
-ghost use Rattle.sheet.specs.Sheet.{directoryOf};
-ghost use Rattle.sheet_rules.specs.Shape.{bodiesUpTo, chartShape, bodiesCovered};
+ghost use Rattle.sheet.specs.Sheet.{directory_of};
+ghost use Rattle.sheet_rules.specs.Shape.{bodies_up_to, chart_shape, bodies_covered};
 
 use sheet::{BODIES, CHARTS, DECLARATIONS, Directory, Found, Record};
 
 // Where the bodies of the charts before chart k end.
 fn bodies_up_to(sheet: &[u8], directory: &Directory, k: usize) -> usize
-    requires { directory.now ≡ directoryOf sheet.now }
-    ensures { result ≡ bodiesUpTo sheet.now k }
+    requires { directory.now ≡ directory_of sheet.now }
+    ensures { result ≡ bodies_up_to sheet.now k }
 {
     if k == 0 {
         return 0;
@@ -20,8 +20,8 @@ fn bodies_up_to(sheet: &[u8], directory: &Directory, k: usize) -> usize
 }
 
 pub fn chart_fits(sheet: &[u8], directory: &Directory, k: usize, r: Record) -> bool
-    requires { directory.now ≡ directoryOf sheet.now }
-    ensures { result ≡ chartShape sheet.now k r }
+    requires { directory.now ≡ directory_of sheet.now }
+    ensures { result ≡ chart_shape sheet.now k r }
 {
     if !sheet_fields::in_section(sheet, directory, DECLARATIONS, r.f0, r.f1) {
         return false;
@@ -42,8 +42,8 @@ pub fn chart_fits(sheet: &[u8], directory: &Directory, k: usize, r: Record) -> b
 }
 
 pub fn bodies_covered(sheet: &[u8], directory: &Directory) -> bool
-    requires { directory.now ≡ directoryOf sheet.now }
-    ensures { result ≡ bodiesCovered sheet.now }
+    requires { directory.now ≡ directory_of sheet.now }
+    ensures { result ≡ bodies_covered sheet.now }
 {
     bodies_up_to(sheet, directory, sheet_reader::count_in(directory, CHARTS))
         == sheet_reader::count_in(directory, BODIES)

@@ -1,10 +1,10 @@
 // Marks of nodes: what a binding adds to the marks of its constants.
 ghost use Rattle.std.specs.Prelude.{◌≡◌, ◌+◌, ◌<◌, ◌≤◌, length};
 ghost use Rattle.sheet.specs.Names.{bindings};
-ghost use Rattle.sheet.specs.Sheet.{count_of, recordOf, directoryOf};
-ghost use Rattle.sheet_rules.specs.Fields.{numberOr0};
-ghost use Rattle.sheet_rules.specs.Uses.{constantUses};
-ghost use Rattle.checker_pass.specs.Marks.{Marked, constantsNamed, goneTo};
+ghost use Rattle.sheet.specs.Sheet.{count_of, record_of, directory_of};
+ghost use Rattle.sheet_rules.specs.Fields.{number_or0};
+ghost use Rattle.sheet_rules.specs.Uses.{constant_uses};
+ghost use Rattle.checker_pass.specs.Marks.{Marked, constants_named, gone_to};
 
 use sheet::{BINDINGS, CHARTS, Directory, Found, Record};
 
@@ -13,7 +13,7 @@ use sheet::{BINDINGS, CHARTS, Directory, Found, Record};
 fn mark_constants(marks: &mut [u16], count: usize, b: Record, n: usize)
     requires count_in_bounds { count ≤ length marks.old }
     requires n_bound { n < 65536 }
-    ensures { Marked count 0 marks.old marks.new (constantsNamed b n) }
+    ensures { Marked count 0 marks.old marks.new (constants_named b n) }
 {
     let mut j: usize = 0;
     while j < n {
@@ -31,10 +31,10 @@ fn mark_second(
     k: usize,
     n: usize,
 ) -> usize
-    requires directory_value { directory.now ≡ directoryOf sheet.now }
+    requires directory_value { directory.now ≡ directory_of sheet.now }
     requires count_in_bounds { count ≤ length marks.old }
     requires n_bound { n < 65536 }
-    ensures { (result ≡ numberOr0 (recordOf sheet.now bindings k) (λ b. 1)) × (result ≤ 1) × Marked count 0 marks.old marks.new (λ m. numberOr0 (recordOf sheet.now bindings k) (λ b. constantsNamed b n m)) }
+    ensures { (result ≡ number_or0 (record_of sheet.now bindings k) (λ b. 1)) × (result ≤ 1) × Marked count 0 marks.old marks.new (λ m. number_or0 (record_of sheet.now bindings k) (λ b. constants_named b n m)) }
 {
     let Found::Present(b) = sheet_reader::read(sheet, directory, BINDINGS, k) else {
         return 0;
@@ -51,10 +51,10 @@ pub fn mark_binding(
     count: usize,
     k: usize,
 ) -> usize
-    requires directory_value { directory.now ≡ directoryOf sheet.now }
+    requires directory_value { directory.now ≡ directory_of sheet.now }
     requires count_in_bounds { count ≤ length marks.old }
     requires k_bound { k < count_of sheet.now bindings }
-    ensures { (k + result ≡ goneTo sheet.now k) × (result ≤ 2) × Marked count 0 marks.old marks.new (λ n. constantUses sheet.now n k) }
+    ensures { (k + result ≡ gone_to sheet.now k) × (result ≤ 2) × Marked count 0 marks.old marks.new (λ n. constant_uses sheet.now n k) }
 {
     let Found::Present(b) = sheet_reader::read(sheet, directory, BINDINGS, k) else {
         sheet_branches::never_taken();

@@ -1,13 +1,13 @@
 // The constants of bindings have their parameters' types.
 ghost use Rattle.std.specs.Prelude.{◌≡◌, ◌≤◌};
-ghost use Rattle.sheet.specs.Sheet.{directoryOf};
-ghost use Rattle.sheet_rules.specs.Static.{constantStatic, constantsStatic, bindingStatic, bindingsStatic};
+ghost use Rattle.sheet.specs.Sheet.{directory_of};
+ghost use Rattle.sheet_rules.specs.Static.{constant_static, constants_static, binding_static, bindings_static};
 
 use sheet::{BINDINGS, Directory, Found, NODES, Record};
 
 fn constant_static(sheet: &[u8], directory: &Directory, n: usize, t: usize) -> bool
-    requires { directory.now ≡ directoryOf sheet.now }
-    ensures { result ≡ constantStatic sheet.now n t }
+    requires { directory.now ≡ directory_of sheet.now }
+    ensures { result ≡ constant_static sheet.now n t }
 {
     let Found::Present(r) = sheet_reader::read(sheet, directory, NODES, n) else {
         return false;
@@ -17,8 +17,8 @@ fn constant_static(sheet: &[u8], directory: &Directory, n: usize, t: usize) -> b
 
 // The constants of the element bound to chart c whose first record is k.
 fn constants_static(sheet: &[u8], directory: &Directory, k: usize, c: Record) -> bool
-    requires { (directory.now ≡ directoryOf sheet.now) × (k ≤ 131072) }
-    ensures { result ≡ constantsStatic sheet.now k c }
+    requires { (directory.now ≡ directory_of sheet.now) × (k ≤ 131072) }
+    ensures { result ≡ constants_static sheet.now k c }
 {
     let first = c.f0 as usize;
     let count = c.f1 as usize;
@@ -44,8 +44,8 @@ fn constants_static(sheet: &[u8], directory: &Directory, k: usize, c: Record) ->
 
 // The records of the element whose first one is k.
 fn binding_static(sheet: &[u8], directory: &Directory, k: usize) -> bool
-    requires { (directory.now ≡ directoryOf sheet.now) × (k ≤ 131072) }
-    ensures { result ≡ bindingStatic sheet.now k }
+    requires { (directory.now ≡ directory_of sheet.now) × (k ≤ 131072) }
+    ensures { result ≡ binding_static sheet.now k }
 {
     let Found::Present(c) = sheet_bindings::chart_bound(sheet, directory, k) else {
         return false;
@@ -55,8 +55,8 @@ fn binding_static(sheet: &[u8], directory: &Directory, k: usize) -> bool
 
 // The whole section, element by element.
 pub fn bindings_static(sheet: &[u8], directory: &Directory) -> bool
-    requires { directory.now ≡ directoryOf sheet.now }
-    ensures { result ≡ bindingsStatic sheet.now }
+    requires { directory.now ≡ directory_of sheet.now }
+    ensures { result ≡ bindings_static sheet.now }
 {
     let count = sheet_reader::count_in(directory, BINDINGS);
     let mut k: usize = 0;

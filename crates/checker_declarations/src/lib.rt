@@ -1,12 +1,12 @@
 // The shape of the head, enumerated types, declarations and telegram names.
 ghost use Rattle.std.specs.Prelude.{◌≡◌};
-ghost use Rattle.sheet.specs.Sheet.{directoryOf};
-ghost use Rattle.sheet_rules.specs.Shape.{headShape, enumeratedShape, typeExists, declarationShape, nameShape};
+ghost use Rattle.sheet.specs.Sheet.{directory_of};
+ghost use Rattle.sheet_rules.specs.Shape.{head_shape, enumerated_shape, type_exists, declaration_shape, name_shape};
 
 use sheet::{DECLARATIONS, Directory, ENUMERATED_TYPES, Record};
 
 pub fn head_fits(r: Record) -> bool
-    ensures { result ≡ headShape r }
+    ensures { result ≡ head_shape r }
 {
     if 64 < r.f0 {
         return false;
@@ -27,7 +27,7 @@ pub fn head_fits(r: Record) -> bool
 }
 
 pub fn enumerated_fits(r: Record) -> bool
-    ensures { result ≡ enumeratedShape r }
+    ensures { result ≡ enumerated_shape r }
 {
     if r.f0 < 1 {
         return false;
@@ -42,8 +42,8 @@ pub fn enumerated_fits(r: Record) -> bool
 }
 
 fn type_exists(sheet: &[u8], directory: &Directory, t: usize) -> bool
-    requires { directory.now ≡ directoryOf sheet.now }
-    ensures { result ≡ typeExists sheet.now t }
+    requires { directory.now ≡ directory_of sheet.now }
+    ensures { result ≡ type_exists sheet.now t }
 {
     if t <= 6 {
         return true;
@@ -55,8 +55,8 @@ fn type_exists(sheet: &[u8], directory: &Directory, t: usize) -> bool
 }
 
 pub fn declaration_fits(sheet: &[u8], directory: &Directory, r: Record) -> bool
-    requires { directory.now ≡ directoryOf sheet.now }
-    ensures { result ≡ declarationShape sheet.now r }
+    requires { directory.now ≡ directory_of sheet.now }
+    ensures { result ≡ declaration_shape sheet.now r }
 {
     if !type_exists(sheet, directory, r.f0 as usize) {
         return false;
@@ -68,8 +68,8 @@ pub fn declaration_fits(sheet: &[u8], directory: &Directory, r: Record) -> bool
 }
 
 pub fn name_fits(sheet: &[u8], directory: &Directory, r: Record) -> bool
-    requires { directory.now ≡ directoryOf sheet.now }
-    ensures { result ≡ nameShape sheet.now r }
+    requires { directory.now ≡ directory_of sheet.now }
+    ensures { result ≡ name_shape sheet.now r }
 {
     if !sheet_fields::in_section(sheet, directory, DECLARATIONS, r.f0, r.f1) {
         return false;

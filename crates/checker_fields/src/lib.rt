@@ -1,15 +1,15 @@
 // What the fields of a node number, form by form.
 ghost use Rattle.std.specs.Prelude.{◌≡◌};
-ghost use Rattle.sheet.specs.Sheet.{directoryOf};
+ghost use Rattle.sheet.specs.Sheet.{directory_of};
 ghost use Rattle.sheet_rules.specs.Forms.{form_of};
-ghost use Rattle.sheet_rules.specs.Shape.{fieldsShape};
+ghost use Rattle.sheet_rules.specs.Shape.{fields_shape};
 
 use sheet::{Directory, Record};
 
 // What the fields of a node number exists, and fields not named are 0.
 pub fn fields_fit(sheet: &[u8], directory: &Directory, c: Record, b: Record, r: Record) -> bool
-    requires { directory.now ≡ directoryOf sheet.now }
-    ensures { result ≡ fieldsShape sheet.now c b r (form_of r.f0) }
+    requires { directory.now ≡ directory_of sheet.now }
+    ensures { result ≡ fields_shape sheet.now c b r (form_of r.f0) }
 {
     let op = r.f0;
     match op {

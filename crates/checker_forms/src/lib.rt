@@ -1,13 +1,13 @@
 // What a node of each form is, but for those that name a variable, sends and calls, by what its operands
 // are: an expression of a type, a statement, or wrong.
 ghost use Rattle.std.specs.Prelude.{◌≡◌};
-ghost use Rattle.sheet_rules.specs.Types.{notType, binaryType, choiceType, loopType, sequenceType};
+ghost use Rattle.sheet_rules.specs.Types.{not_type, binary_type, choice_type, loop_type, sequence_type};
 
 use sheet_rules::Typed;
 
 // Operators 9 to 16.
 pub fn binary_type(op: u16, x: Typed, y: Typed) -> Typed
-    ensures { result ≡ binaryType op x y }
+    ensures { result ≡ binary_type op x y }
 {
     match op {
         9 => {
@@ -44,7 +44,7 @@ pub fn binary_type(op: u16, x: Typed, y: Typed) -> Typed
 }
 
 pub fn choice_type(x: Typed, y: Typed, z: Typed) -> Typed
-    ensures { result ≡ choiceType x y z }
+    ensures { result ≡ choice_type x y z }
 {
     if !sheet_types::is_of(x, 0) {
         return Typed::Wrong;
@@ -53,7 +53,7 @@ pub fn choice_type(x: Typed, y: Typed, z: Typed) -> Typed
 }
 
 pub fn loop_type(x: Typed, y: Typed) -> Typed
-    ensures { result ≡ loopType x y }
+    ensures { result ≡ loop_type x y }
 {
     if !sheet_types::is_of(x, 0) {
         return Typed::Wrong;
@@ -65,7 +65,7 @@ pub fn loop_type(x: Typed, y: Typed) -> Typed
 }
 
 pub fn sequence_type(x: Typed, y: Typed) -> Typed
-    ensures { result ≡ sequenceType x y }
+    ensures { result ≡ sequence_type x y }
 {
     if !sheet_types::is_statement(x) {
         return Typed::Wrong;
@@ -77,7 +77,7 @@ pub fn sequence_type(x: Typed, y: Typed) -> Typed
 }
 
 pub fn not_type(x: Typed) -> Typed
-    ensures { result ≡ notType x }
+    ensures { result ≡ not_type x }
 {
     if !sheet_types::is_of(x, 0) {
         return Typed::Wrong;

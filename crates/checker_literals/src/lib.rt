@@ -1,13 +1,13 @@
 // The shape of literals, and of a constant of a binding, which is one.
 ghost use Rattle.std.specs.Prelude.{◌≡◌};
-ghost use Rattle.sheet.specs.Sheet.{directoryOf};
-ghost use Rattle.sheet_rules.specs.Shape.{literalShape, constantShape};
+ghost use Rattle.sheet.specs.Sheet.{directory_of};
+ghost use Rattle.sheet_rules.specs.Shape.{literal_shape, constant_shape};
 
 use sheet::{Directory, ENUMERATED_TYPES, Found, HEAD, NODES, Record};
 
 pub fn literal_fits(sheet: &[u8], directory: &Directory, r: Record) -> bool
-    requires { directory.now ≡ directoryOf sheet.now }
-    ensures { result ≡ literalShape sheet.now r }
+    requires { directory.now ≡ directory_of sheet.now }
+    ensures { result ≡ literal_shape sheet.now r }
 {
     let op = r.f0;
     match op {
@@ -43,8 +43,8 @@ pub fn literal_fits(sheet: &[u8], directory: &Directory, r: Record) -> bool
 }
 
 pub fn constant_fits(sheet: &[u8], directory: &Directory, n: usize) -> bool
-    requires { directory.now ≡ directoryOf sheet.now }
-    ensures { result ≡ constantShape sheet.now n }
+    requires { directory.now ≡ directory_of sheet.now }
+    ensures { result ≡ constant_shape sheet.now n }
 {
     let Found::Present(r) = sheet_reader::read(sheet, directory, NODES, n) else {
         return false;

@@ -1,9 +1,9 @@
 // Marks of nodes: what names a node adds to its mark, and what the bodies of a chart add to those of their roots.
 ghost use Rattle.std.specs.Prelude.{◌≡◌, ◌+◌, ◌<◌, ◌≤◌, length, eqb};
 ghost use Rattle.sheet.specs.Names.{root, bodies, charts};
-ghost use Rattle.sheet.specs.Sheet.{recordOf, directoryOf};
-ghost use Rattle.sheet_rules.specs.Fields.{oneIf, numberOr0};
-ghost use Rattle.sheet_rules.specs.Uses.{overBodies, rootUses};
+ghost use Rattle.sheet.specs.Sheet.{record_of, directory_of};
+ghost use Rattle.sheet_rules.specs.Fields.{one_if, number_or0};
+ghost use Rattle.sheet_rules.specs.Uses.{over_bodies, root_uses};
 ghost use Rattle.checker_pass.specs.Marks.{named, marked, Marked};
 
 use sheet::{BODIES, CHARTS, Directory, Found};
@@ -34,7 +34,7 @@ fn with_home(v: u16, k: u16) -> u16
 pub fn mark(marks: &mut [u16], top: usize, n: usize, k: u16)
     requires top_in_bounds { top ≤ length marks.old }
     requires k_bound { k < 16384 }
-    ensures { Marked top k marks.old marks.new (λ i. oneIf (eqb n i)) }
+    ensures { Marked top k marks.old marks.new (λ i. one_if (eqb n i)) }
 {
     if top <= n {
         return;
@@ -51,10 +51,10 @@ fn mark_root(
     number: usize,
     k: u16,
 ) -> usize
-    requires directory_value { directory.now ≡ directoryOf sheet.now }
+    requires directory_value { directory.now ≡ directory_of sheet.now }
     requires count_in_bounds { count ≤ length marks.old }
     requires k_bound { k < 16384 }
-    ensures { (result ≡ numberOr0 (recordOf sheet.now bodies number) (λ b. 1)) × (result ≤ 1) × Marked count k marks.old marks.new (λ n. numberOr0 (recordOf sheet.now bodies number) (λ b. oneIf (eqb (root b) n))) }
+    ensures { (result ≡ number_or0 (record_of sheet.now bodies number) (λ b. 1)) × (result ≤ 1) × Marked count k marks.old marks.new (λ n. number_or0 (record_of sheet.now bodies number) (λ b. one_if (eqb (root b) n))) }
 {
     let Found::Present(b) = sheet_reader::read(sheet, directory, BODIES, number) else {
         return 0;
@@ -71,9 +71,9 @@ pub fn mark_chart(
     count: usize,
     i: usize,
 ) -> usize
-    requires directory_value { directory.now ≡ directoryOf sheet.now }
+    requires directory_value { directory.now ≡ directory_of sheet.now }
     requires count_in_bounds { count ≤ length marks.old }
-    ensures { (result ≡ numberOr0 (recordOf sheet.now charts i) (overBodies sheet.now (λ b. 1))) × (result < 65536) × Marked count (i + 1) marks.old marks.new (λ n. numberOr0 (recordOf sheet.now charts i) (rootUses sheet.now n)) }
+    ensures { (result ≡ number_or0 (record_of sheet.now charts i) (over_bodies sheet.now (λ b. 1))) × (result < 65536) × Marked count (i + 1) marks.old marks.new (λ n. number_or0 (record_of sheet.now charts i) (root_uses sheet.now n)) }
 {
     let Found::Present(c) = sheet_reader::read(sheet, directory, CHARTS, i) else {
         return 0;

@@ -1,10 +1,10 @@
 // What a node that names its operands adds to their marks.
 ghost use Rattle.std.specs.Prelude.{◌≡◌, ◌<◌, ◌≤◌, length};
 ghost use Rattle.sheet.specs.Names.{nodes};
-ghost use Rattle.sheet.specs.Sheet.{recordOf, directoryOf};
-ghost use Rattle.sheet_rules.specs.Fields.{numberOr0};
-ghost use Rattle.sheet_rules.specs.Forms.{operandsOf};
-ghost use Rattle.sheet_rules.specs.Uses.{homeChart, operandUses};
+ghost use Rattle.sheet.specs.Sheet.{record_of, directory_of};
+ghost use Rattle.sheet_rules.specs.Fields.{number_or0};
+ghost use Rattle.sheet_rules.specs.Forms.{operands_of};
+ghost use Rattle.sheet_rules.specs.Uses.{home_chart, operand_uses};
 ghost use Rattle.sheet_fields.specs.Small.{Small};
 ghost use Rattle.checker_pass.specs.Marks.{Marked};
 
@@ -13,8 +13,8 @@ use sheet_rules::Operands;
 
 // The chart of a home, one without bodies for none.
 fn home_chart(sheet: &[u8], directory: &Directory, k: u16) -> Record
-    requires { directory.now ≡ directoryOf sheet.now }
-    ensures { result ≡ homeChart sheet.now k }
+    requires { directory.now ≡ directory_of sheet.now }
+    ensures { result ≡ home_chart sheet.now k }
 {
     let none = Record {
         f0: 0,
@@ -37,8 +37,8 @@ fn home_chart(sheet: &[u8], directory: &Directory, k: u16) -> Record
 
 // Where the operands of a node with home k stand. Only those of a call depend on it.
 fn operands_at(sheet: &[u8], directory: &Directory, k: u16, r: Record) -> Operands
-    requires { directory.now ≡ directoryOf sheet.now }
-    ensures { (result ≡ operandsOf sheet.now (homeChart sheet.now k) r) × Small result }
+    requires { directory.now ≡ directory_of sheet.now }
+    ensures { (result ≡ operands_of sheet.now (home_chart sheet.now k) r) × Small result }
 {
     if r.f0 == 40 {
         let c = home_chart(sheet, directory, k);
@@ -56,10 +56,10 @@ pub fn mark_operands(
     m: usize,
     k: u16,
 ) -> usize
-    requires directory_value { directory.now ≡ directoryOf sheet.now }
+    requires directory_value { directory.now ≡ directory_of sheet.now }
     requires m_in_bounds { m ≤ length marks.old }
     requires k_bound { k < 16384 }
-    ensures { (result ≡ numberOr0 (recordOf sheet.now nodes m) (λ r. 1)) × (result ≤ 1) × Marked m k marks.old marks.new (operandUses sheet.now (homeChart sheet.now k) m) }
+    ensures { (result ≡ number_or0 (record_of sheet.now nodes m) (λ r. 1)) × (result ≤ 1) × Marked m k marks.old marks.new (operand_uses sheet.now (home_chart sheet.now k) m) }
 {
     let Found::Present(r) = sheet_reader::read(sheet, directory, NODES, m) else {
         return 0;

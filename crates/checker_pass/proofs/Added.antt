@@ -10,174 +10,174 @@ use borrow.Author.Tests.{le-leb, lt-leb}
 use Rattle.sheet.specs.declared.Record.{Record}
 use Rattle.sheet.specs.declared.Found.{Found}
 use Rattle.sheet.specs.declared.Found.TheVariants.{Present, Absent}
-use Rattle.sheet.specs.Names.{charts, bodies, nodes, bindings, root, chartBodies, chartParameters, boundChart}
-use Rattle.sheet.specs.Sheet.{count_of, recordOf}
-use Rattle.sheet.proofs.Sheet.{record-present, record-absent, present-below}
+use Rattle.sheet.specs.Names.{charts, bodies, nodes, bindings, root, chart_bodies, chart_parameters, bound_chart}
+use Rattle.sheet.specs.Sheet.{count_of, record_of}
+use Rattle.sheet.proofs.Sheet.{record_present, record_absent, present-below}
 use Rattle.sheet_rules.specs.declared.Operands.{Operands}
-use Rattle.sheet_rules.specs.Fields.{oneIf, field_of, fieldAt, holds, numberOr0, sumBelow, countBelow}
-use Rattle.sheet_rules.specs.Bindings.{constantsInRecord, recordsFor, chartBound, behind, firstBinding, elementsBoundIn, constantBinding, constantField, constant_of}
-use Rattle.sheet_rules.specs.Forms.{operandsOf, operandCount, operand_at}
-use Rattle.sheet_rules.specs.Uses.{overBodies, noChart, chartOr, homeChart, operandUses, rootUses, constantUses}
-use Rattle.sheet_rules.proofs.Fields.{holds-present, holds-absent, number-present, number-absent}
-use Rattle.sheet_rules.proofs.Bindings.{one-record, two_records, bound-chart, behind-near, Walk, walk_begins, walk-on, walk_ends, constant-first, constant-second}
-use Rattle.sheet_rules.proofs.Sums.{sum_same, sum-zero, sum-split}
-use Rattle.sheet_uses.proofs.Trees.{no-operands, uses-are}
-use Rattle.checker_pass.specs.Marks.{Marked, constantsNamed, goneTo}
-use Rattle.checker_pass.proofs.Marking.{marked-as, marked-none, marked-then}
+use Rattle.sheet_rules.specs.Fields.{one_if, field_of, field_at, holds, number_or0, sum_below, count_below}
+use Rattle.sheet_rules.specs.Bindings.{constants_in_record, records_for, chart_bound, behind, first_binding, elements_bound_in, constant_binding, constant_field, constant_of}
+use Rattle.sheet_rules.specs.Forms.{operands_of, operand_count, operand_at}
+use Rattle.sheet_rules.specs.Uses.{over_bodies, no_chart, chart_or, home_chart, operand_uses, root_uses, constant_uses}
+use Rattle.sheet_rules.proofs.Fields.{holds-present, holds_absent, number-present, number_absent}
+use Rattle.sheet_rules.proofs.Bindings.{one_record, two_records, bound-chart, behind_near, Walk, walk_begins, walk_on_lem, walk_ends, constant_first, constant_second}
+use Rattle.sheet_rules.proofs.Sums.{sum_same, sum-zero, sum_split}
+use Rattle.sheet_uses.proofs.Trees.{no_operands, uses-are}
+use Rattle.checker_pass.specs.Marks.{Marked, constants_named, gone_to}
+use Rattle.checker_pass.proofs.Marking.{marked_as, marked-none, marked_then}
 
 -- ---- the chart of a home
 
 module _ (s : List ℕ) where
-  pub home-none : (k : ℕ) → k ≡ 0 → noChart ≡ homeChart s k
-  unfolding homeChart
+  pub home-none : (k : ℕ) → k ≡ 0 → no_chart ≡ home_chart s k
+  unfolding home_chart
   home-none k e = rw e refl
 
-  pub home-absent : (k : ℕ) → recordOf s charts (k - 1) ≡ Absent → noChart ≡ homeChart s k
-  unfolding homeChart chartOr
-  home-absent zero p = refl
-  home-absent (suc k) p = rw (ap (recordOf s charts) (let e : k ≡ suc k - 1 = omega arith in e) ∙ p) refl
+  pub home_absent : (k : ℕ) → record_of s charts (k - 1) ≡ Absent → no_chart ≡ home_chart s k
+  unfolding home_chart chart_or
+  home_absent zero p = refl
+  home_absent (suc k) p = rw (ap (record_of s charts) (let e : k ≡ suc k - 1 = omega arith in e) ∙ p) refl
 
-  pub home-there : (k : ℕ) (c : Record) → (k ≡ 0 → ⊥) → recordOf s charts (k - 1) ≡ Present c → c ≡ homeChart s k
-  unfolding homeChart chartOr
+  pub home-there : (k : ℕ) (c : Record) → (k ≡ 0 → ⊥) → record_of s charts (k - 1) ≡ Present c → c ≡ home_chart s k
+  unfolding home_chart chart_or
   home-there zero c n p = absurd (n refl)
-  home-there (suc k) c n p = rw (ap (recordOf s charts) (let e : k ≡ suc k - 1 = omega arith in e) ∙ p) refl
+  home-there (suc k) c n p = rw (ap (record_of s charts) (let e : k ≡ suc k - 1 = omega arith in e) ∙ p) refl
 
 -- ---- a record that is gone over, or isn't there
 
 module _ (top k : ℕ) (a : List ℕ) where
-  pub over-absent : (f : Found) (g : Record → ℕ → ℕ) → f ≡ Absent → (0 ≡ numberOr0 f (λ r. 1)) × (0 ≤ 1) × Marked top k a a (λ n. numberOr0 f (λ r. g r n))
-  over-absent f g p = (sym (number-absent f (λ r. 1) p), omega arith, marked-none top k a _ (λ n l. number-absent f (λ r. g r n) p))
+  pub over_absent : (f : Found) (g : Record → ℕ → ℕ) → f ≡ Absent → (0 ≡ number_or0 f (λ r. 1)) × (0 ≤ 1) × Marked top k a a (λ n. number_or0 f (λ r. g r n))
+  over_absent f g p = (sym (number_absent f (λ r. 1) p), omega arith, marked-none top k a _ (λ n l. number_absent f (λ r. g r n) p))
 
-  pub over-present : (d : List ℕ) (f : Found) (r : Record) (g : Record → ℕ → ℕ) → f ≡ Present r → Marked top k a d (g r) → (1 ≡ numberOr0 f (λ r. 1)) × (1 ≤ 1) × Marked top k a d (λ n. numberOr0 f (λ r. g r n))
-  over-present d f r g p h = (sym (number-present f r (λ r. 1) p), omega arith, marked-as top k a d _ _ (λ n l. sym (number-present f r (λ r. g r n) p)) h)
+  pub over-present : (d : List ℕ) (f : Found) (r : Record) (g : Record → ℕ → ℕ) → f ≡ Present r → Marked top k a d (g r) → (1 ≡ number_or0 f (λ r. 1)) × (1 ≤ 1) × Marked top k a d (λ n. number_or0 f (λ r. g r n))
+  over-present d f r g p h = (sym (number-present f r (λ r. 1) p), omega arith, marked_as top k a d _ _ (λ n l. sym (number-present f r (λ r. g r n) p)) h)
 
 -- ---- in turn j: a body's root, a constant, an operand
 
 module _ (s : List ℕ) where
-  abbrev pub rootTurn : ℕ → ℕ → ℕ → ℕ
-  rootTurn first n j = numberOr0 (recordOf s bodies (first + j)) (λ b. oneIf (eqb (root b) n))
+  abbrev pub root_turn : ℕ → ℕ → ℕ → ℕ
+  root_turn first n j = number_or0 (record_of s bodies (first + j)) (λ b. one_if (eqb (root b) n))
 
-  abbrev pub bodyTurn : ℕ → ℕ → ℕ
-  bodyTurn first j = numberOr0 (recordOf s bodies (first + j)) (λ b. 1)
+  abbrev pub body_turn : ℕ → ℕ → ℕ
+  body_turn first j = number_or0 (record_of s bodies (first + j)) (λ b. 1)
 
-  abbrev pub chartTurn : ℕ → ℕ
-  chartTurn i = numberOr0 (recordOf s charts i) (overBodies s (λ b. 1))
+  abbrev pub chart_turn : ℕ → ℕ
+  chart_turn i = number_or0 (record_of s charts i) (over_bodies s (λ b. 1))
 
-  abbrev pub bindingTurn : ℕ → ℕ → ℕ
-  bindingTurn n i = constantUses s n (firstBinding s i)
+  abbrev pub binding_turn : ℕ → ℕ → ℕ
+  binding_turn n i = constant_uses s n (first_binding s i)
 
-abbrev pub constantTurn : Record → ℕ → ℕ → ℕ
-constantTurn r n j = oneIf (eqb (field_of r (1 + j)) n)
+abbrev pub constant_turn : Record → ℕ → ℕ → ℕ
+constant_turn r n j = one_if (eqb (field_of r (1 + j)) n)
 
-abbrev pub operandTurn : Record → Operands → ℕ → ℕ → ℕ
-operandTurn r o n j = oneIf (eqb (operand_at r o j) n)
+abbrev pub operand_turn : Record → Operands → ℕ → ℕ → ℕ
+operand_turn r o n j = one_if (eqb (operand_at r o j) n)
 
 module _ (s : List ℕ) (top k : ℕ) (a : List ℕ) where
-  pub chart-absent : (i : ℕ) → recordOf s charts i ≡ Absent → (0 ≡ numberOr0 (recordOf s charts i) (overBodies s (λ b. 1))) × (0 < 65536) × Marked top k a a (λ n. numberOr0 (recordOf s charts i) (rootUses s n))
-  chart-absent i p = (sym (number-absent _ _ p), omega arith, marked-none top k a _ (λ n l. number-absent _ _ p))
+  pub chart_absent : (i : ℕ) → record_of s charts i ≡ Absent → (0 ≡ number_or0 (record_of s charts i) (over_bodies s (λ b. 1))) × (0 < 65536) × Marked top k a a (λ n. number_or0 (record_of s charts i) (root_uses s n))
+  chart_absent i p = (sym (number_absent _ _ p), omega arith, marked-none top k a _ (λ n l. number_absent _ _ p))
 
-  pub chart-added : (d : List ℕ) (i x : ℕ) (c : Record) → recordOf s charts i ≡ Present c → x ≡ sumBelow (chartBodies c).count (bodyTurn s (chartBodies c).first) → x < 65536 → Marked top k a d (λ n. sumBelow (chartBodies c).count (rootTurn s (chartBodies c).first n)) → (x ≡ numberOr0 (recordOf s charts i) (overBodies s (λ b. 1))) × (x < 65536) × Marked top k a d (λ n. numberOr0 (recordOf s charts i) (rootUses s n))
-  unfolding overBodies rootUses
-  chart-added d i x c p e l h = (e ∙ sym (number-present _ c (overBodies s (λ b. 1)) p), l, marked-as top k a d _ _ (λ n _. sym (number-present _ c (rootUses s n) p)) h)
+  pub chart_added : (d : List ℕ) (i x : ℕ) (c : Record) → record_of s charts i ≡ Present c → x ≡ sum_below (chart_bodies c).count (body_turn s (chart_bodies c).first) → x < 65536 → Marked top k a d (λ n. sum_below (chart_bodies c).count (root_turn s (chart_bodies c).first n)) → (x ≡ number_or0 (record_of s charts i) (over_bodies s (λ b. 1))) × (x < 65536) × Marked top k a d (λ n. number_or0 (record_of s charts i) (root_uses s n))
+  unfolding over_bodies root_uses
+  chart_added d i x c p e l h = (e ∙ sym (number-present _ c (over_bodies s (λ b. 1)) p), l, marked_as top k a d _ _ (λ n _. sym (number-present _ c (root_uses s n) p)) h)
 
 -- ---- the constants of the element whose first binding record is k
 
-module _ (s : List ℕ) (k : ℕ) (b : Record) (here : recordOf s bindings k ≡ Present b) (total : ℕ) (total-is : total ≡ fieldAt s charts (boundChart b) 1) where
-  parameters-are : numberOr0 (chartBound s k) (λ c. (chartParameters c).count) ≡ total
-  unfolding fieldAt field_of
-  parameters-are = ap (λ f. numberOr0 f (λ c. (chartParameters c).count)) (bound-chart s k b here) ∙ sym total-is
+module _ (s : List ℕ) (k : ℕ) (b : Record) (here : record_of s bindings k ≡ Present b) (total : ℕ) (total-is : total ≡ field_at s charts (bound_chart b) 1) where
+  parameters_are : number_or0 (chart_bound s k) (λ c. (chart_parameters c).count) ≡ total
+  unfolding field_at field_of
+  parameters_are = ap (λ f. number_or0 f (λ c. (chart_parameters c).count)) (bound-chart s k b here) ∙ sym total-is
 
   -- as many as its chart has parameters, none where there is no such chart
-  uses-total : (n : ℕ) → constantUses s n k ≡ sumBelow total (λ j. oneIf (holds (constantBinding s k j) (λ b. eqb (constant_of b j) n)))
-  unfolding constantUses countBelow numberOr0 sumBelow
-  uses-total n = go (chartBound s k) ∙ ap (λ (x : ℕ). sumBelow x (λ j. oneIf (holds (constantBinding s k j) (λ b. eqb (constant_of b j) n)))) parameters-are
+  uses_total : (n : ℕ) → constant_uses s n k ≡ sum_below total (λ j. one_if (holds (constant_binding s k j) (λ b. eqb (constant_of b j) n)))
+  unfolding constant_uses count_below number_or0 sum_below
+  uses_total n = go (chart_bound s k) ∙ ap (λ (x : ℕ). sum_below x (λ j. one_if (holds (constant_binding s k j) (λ b. eqb (constant_of b j) n)))) parameters_are
     where
-      go : (f : Found) → numberOr0 f (λ c. sumBelow (chartParameters c).count (λ j. oneIf (holds (constantBinding s k j) (λ b. eqb (constant_of b j) n)))) ≡ sumBelow (numberOr0 f (λ c. (chartParameters c).count)) (λ j. oneIf (holds (constantBinding s k j) (λ b. eqb (constant_of b j) n)))
+      go : (f : Found) → number_or0 f (λ c. sum_below (chart_parameters c).count (λ j. one_if (holds (constant_binding s k j) (λ b. eqb (constant_of b j) n)))) ≡ sum_below (number_or0 f (λ c. (chart_parameters c).count)) (λ j. one_if (holds (constant_binding s k j) (λ b. eqb (constant_of b j) n)))
       go (Present c) = refl
       go Absent = refl
 
   -- a constant in the first record, and in the second
-  first-turn : (n j : ℕ) → j < constantsInRecord → oneIf (holds (constantBinding s k j) (λ b. eqb (constant_of b j) n)) ≡ constantTurn b n j
-  first-turn n j l = let e = constant-first k j l in ap oneIf (holds-present _ b _ (ap (recordOf s bindings) e.0 ∙ here)) ∙ ap (λ (x : ℕ). oneIf (eqb (field_of b x) n)) e.1
+  first_turn : (n j : ℕ) → j < constants_in_record → one_if (holds (constant_binding s k j) (λ b. eqb (constant_of b j) n)) ≡ constant_turn b n j
+  first_turn n j l = let e = constant_first k j l in ap one_if (holds-present _ b _ (ap (record_of s bindings) e.0 ∙ here)) ∙ ap (λ (x : ℕ). one_if (eqb (field_of b x) n)) e.1
 
-  second-turn : (n j : ℕ) → oneIf (holds (constantBinding s k (constantsInRecord + j)) (λ b. eqb (constant_of b (constantsInRecord + j)) n)) ≡ numberOr0 (recordOf s bindings (k + 1)) (λ d. constantTurn d n j)
-  unfolding numberOr0
-  second-turn n j = let e = constant-second k (constantsInRecord + j) (omega arith) in go (recordOf s bindings (k + 1)) (ap (recordOf s bindings) e.0) (e.1 ∙ (let z : 1 + (constantsInRecord + j - constantsInRecord) ≡ 1 + j = omega arith in z))
+  second_turn : (n j : ℕ) → one_if (holds (constant_binding s k (constants_in_record + j)) (λ b. eqb (constant_of b (constants_in_record + j)) n)) ≡ number_or0 (record_of s bindings (k + 1)) (λ d. constant_turn d n j)
+  unfolding number_or0
+  second_turn n j = let e = constant_second k (constants_in_record + j) (omega arith) in go (record_of s bindings (k + 1)) (ap (record_of s bindings) e.0) (e.1 ∙ (let z : 1 + (constants_in_record + j - constants_in_record) ≡ 1 + j = omega arith in z))
     where
-      go : (f : Found) → constantBinding s k (constantsInRecord + j) ≡ f → constantField (constantsInRecord + j) ≡ 1 + j → oneIf (holds (constantBinding s k (constantsInRecord + j)) (λ b. eqb (constant_of b (constantsInRecord + j)) n)) ≡ numberOr0 f (λ d. constantTurn d n j)
-      go (Present d) p q = ap oneIf (holds-present _ d _ p) ∙ ap (λ (x : ℕ). oneIf (eqb (field_of d x) n)) q
-      go Absent p q = ap oneIf (holds-absent _ _ p)
+      go : (f : Found) → constant_binding s k (constants_in_record + j) ≡ f → constant_field (constants_in_record + j) ≡ 1 + j → one_if (holds (constant_binding s k (constants_in_record + j)) (λ b. eqb (constant_of b (constants_in_record + j)) n)) ≡ number_or0 f (λ d. constant_turn d n j)
+      go (Present d) p q = ap one_if (holds-present _ d _ p) ∙ ap (λ (x : ℕ). one_if (eqb (field_of d x) n)) q
+      go Absent p q = ap one_if (holds_absent _ _ p)
 
   inside : k < count_of s bindings
   inside = present-below s bindings k b here
 
   module _ (top : ℕ) (a d : List ℕ) where
     -- one record
-    pub few-added : total ≤ constantsInRecord → Marked top 0 a d (constantsNamed b total) → (k + 1 ≡ goneTo s k) × (1 ≤ 2) × Marked top 0 a d (λ n. constantUses s n k)
-    unfolding goneTo behind constantsNamed countBelow
-    few-added l h =
-        (sym (ap (λ (x : Bool). elim x [ true ↦ behind s k | false ↦ count_of s bindings ]) (le-leb _ _ (let z : behind s k ≤ count_of s bindings = omega (arith, next, inside) in z)) ∙ next), omega arith, marked-as top 0 a d _ _ (λ n _. sym (uses-total n ∙ sum_same total _ _ (λ j m. first-turn n j (omega arith)))) h)
+    pub few_added : total ≤ constants_in_record → Marked top 0 a d (constants_named b total) → (k + 1 ≡ gone_to s k) × (1 ≤ 2) × Marked top 0 a d (λ n. constant_uses s n k)
+    unfolding gone_to behind constants_named count_below
+    few_added l h =
+        (sym (ap (λ (x : Bool). elim x [ true ↦ behind s k | false ↦ count_of s bindings ]) (le-leb _ _ (let z : behind s k ≤ count_of s bindings = omega (arith, next, inside) in z)) ∙ next), omega arith, marked_as top 0 a d _ _ (λ n _. sym (uses_total n ∙ sum_same total _ _ (λ j m. first_turn n j (omega arith)))) h)
       where
         next : behind s k ≡ k + 1
-        next = ap (λ (n : ℕ). k + recordsFor n) parameters-are ∙ ap (λ (n : ℕ). k + n) (one-record total l)
+        next = ap (λ (n : ℕ). k + records_for n) parameters_are ∙ ap (λ (n : ℕ). k + n) (one_record total l)
 
-  module _ (many : constantsInRecord < total) where
-    next-but-one : behind s k ≡ k + 2
+  module _ (many : constants_in_record < total) where
+    next_but_one : behind s k ≡ k + 2
     unfolding behind
-    next-but-one = ap (λ (n : ℕ). k + recordsFor n) parameters-are ∙ ap (λ (n : ℕ). k + n) (two_records total many)
+    next_but_one = ap (λ (n : ℕ). k + records_for n) parameters_are ∙ ap (λ (n : ℕ). k + n) (two_records total many)
 
-    gone-two : (x : ℕ) → x ≡ numberOr0 (recordOf s bindings (k + 1)) (λ b. 1) → k + (1 + x) ≡ goneTo s k
-    unfolding goneTo
-    gone-two x x-is = elim (dec_lt (k + 1) (count_of s bindings)) [
-      | yes q ↦ (let z : k + (1 + x) ≡ behind s k = omega (arith, next-but-one, x-is ∙ number-present _ _ (λ b. 1) (record-present s bindings (k + 1) q)) in z) ∙ sym (ap (λ (x : Bool). elim x [ true ↦ behind s k | false ↦ count_of s bindings ]) (le-leb (behind s k) (count_of s bindings) (omega (arith, next-but-one))))
-      | no q ↦ (let z : k + (1 + x) ≡ count_of s bindings = omega (arith, inside, x-is ∙ number-absent _ (λ b. 1) (record-absent s bindings (k + 1) (omega arith))) in z) ∙ sym (ap (λ (x : Bool). elim x [ true ↦ behind s k | false ↦ count_of s bindings ]) (lt-leb (behind s k) (count_of s bindings) (omega (arith, next-but-one))))
+    gone_two : (x : ℕ) → x ≡ number_or0 (record_of s bindings (k + 1)) (λ b. 1) → k + (1 + x) ≡ gone_to s k
+    unfolding gone_to
+    gone_two x x-is = elim (dec_lt (k + 1) (count_of s bindings)) [
+      | yes q ↦ (let z : k + (1 + x) ≡ behind s k = omega (arith, next_but_one, x-is ∙ number-present _ _ (λ b. 1) (record_present s bindings (k + 1) q)) in z) ∙ sym (ap (λ (x : Bool). elim x [ true ↦ behind s k | false ↦ count_of s bindings ]) (le-leb (behind s k) (count_of s bindings) (omega (arith, next_but_one))))
+      | no q ↦ (let z : k + (1 + x) ≡ count_of s bindings = omega (arith, inside, x-is ∙ number_absent _ (λ b. 1) (record_absent s bindings (k + 1) (omega arith))) in z) ∙ sym (ap (λ (x : Bool). elim x [ true ↦ behind s k | false ↦ count_of s bindings ]) (lt-leb (behind s k) (count_of s bindings) (omega (arith, next_but_one))))
     ]
 
-    uses-two : (n : ℕ) → constantUses s n k ≡ constantsNamed b constantsInRecord n + numberOr0 (recordOf s bindings (k + 1)) (λ d. constantsNamed d (total - constantsInRecord) n)
-    unfolding constantsNamed countBelow numberOr0
-    uses-two n =
-        uses-total n
-        ∙ ap (λ (x : ℕ). sumBelow x (λ j. oneIf (holds (constantBinding s k j) (λ b. eqb (constant_of b j) n)))) (let z : total ≡ constantsInRecord + (total - constantsInRecord) = omega arith in z)
-        ∙ sum-split constantsInRecord (total - constantsInRecord) _
-        ∙ both (sum_same constantsInRecord _ _ (first-turn n)) (sum_same (total - constantsInRecord) _ _ (λ j m. second-turn n j) ∙ absorbed (recordOf s bindings (k + 1)))
+    uses_two : (n : ℕ) → constant_uses s n k ≡ constants_named b constants_in_record n + number_or0 (record_of s bindings (k + 1)) (λ d. constants_named d (total - constants_in_record) n)
+    unfolding constants_named count_below number_or0
+    uses_two n =
+        uses_total n
+        ∙ ap (λ (x : ℕ). sum_below x (λ j. one_if (holds (constant_binding s k j) (λ b. eqb (constant_of b j) n)))) (let z : total ≡ constants_in_record + (total - constants_in_record) = omega arith in z)
+        ∙ sum_split constants_in_record (total - constants_in_record) _
+        ∙ both (sum_same constants_in_record _ _ (first_turn n)) (sum_same (total - constants_in_record) _ _ (λ j m. second_turn n j) ∙ absorbed (record_of s bindings (k + 1)))
       where
         both : {a b c d : ℕ} → a ≡ b → c ≡ d → a + c ≡ b + d
         both p q = omega (arith, p, q)
 
-        absorbed : (f : Found) → sumBelow (total - constantsInRecord) (λ j. numberOr0 f (λ d. constantTurn d n j)) ≡ numberOr0 f (λ d. sumBelow (total - constantsInRecord) (constantTurn d n))
+        absorbed : (f : Found) → sum_below (total - constants_in_record) (λ j. number_or0 f (λ d. constant_turn d n j)) ≡ number_or0 f (λ d. sum_below (total - constants_in_record) (constant_turn d n))
         absorbed (Present r) = refl
-        absorbed Absent = sum-zero (total - constantsInRecord) _ (λ j m. refl)
+        absorbed Absent = sum-zero (total - constants_in_record) _ (λ j m. refl)
 
     -- two records
-    pub many-added : (top x : ℕ) (a e d : List ℕ) → x ≡ numberOr0 (recordOf s bindings (k + 1)) (λ b. 1) → x ≤ 1 → Marked top 0 a e (constantsNamed b constantsInRecord) → Marked top 0 e d (λ m. numberOr0 (recordOf s bindings (k + 1)) (λ b. constantsNamed b (total - constantsInRecord) m)) → (k + (1 + x) ≡ goneTo s k) × (1 + x ≤ 2) × Marked top 0 a d (λ n. constantUses s n k)
-    many-added top x a e d x-is l g h = (gone-two x x-is, omega arith, marked-as top 0 a d _ _ (λ n _. sym (uses-two n)) (marked-then top 0 a e d _ _ g h))
+    pub many_added : (top x : ℕ) (a e d : List ℕ) → x ≡ number_or0 (record_of s bindings (k + 1)) (λ b. 1) → x ≤ 1 → Marked top 0 a e (constants_named b constants_in_record) → Marked top 0 e d (λ m. number_or0 (record_of s bindings (k + 1)) (λ b. constants_named b (total - constants_in_record) m)) → (k + (1 + x) ≡ gone_to s k) × (1 + x ≤ 2) × Marked top 0 a d (λ n. constant_uses s n k)
+    many_added top x a e d x-is l g h = (gone_two x x-is, omega arith, marked_as top 0 a d _ _ (λ n _. sym (uses_two n)) (marked_then top 0 a e d _ _ g h))
 
 -- from element i's first record to the next element's, or to the section's end where it is the last one, perhaps with a record too few
 pub record Reached (s : List ℕ) (i k : ℕ) : Type 0 where
   pub inside : k ≤ count_of s bindings
   pub walk : k < count_of s bindings → Walk s k i
-  pub all : count_of s bindings ≤ k → elementsBoundIn s ≡ i
+  pub all : count_of s bindings ≤ k → elements_bound_in s ≡ i
 
 module _ (s : List ℕ) where
   pub reached-first : Reached s 0 0
   reached-first = record { inside = omega arith; walk = λ _. walk_begins s; all = λ l. walk_ends s 0 0 (walk_begins s) l }
 
-  pub reached-next : (i k n : ℕ) → Reached s i k → k < count_of s bindings → n ≡ goneTo s k → (k < n) × Reached s (i + 1) n
-  unfolding goneTo
-  reached-next i k n w l e =
-      let on = walk-on s k i (w.walk l) (behind s k) refl l in
+  pub reached_next : (i k n : ℕ) → Reached s i k → k < count_of s bindings → n ≡ gone_to s k → (k < n) × Reached s (i + 1) n
+  unfolding gone_to
+  reached_next i k n w l e =
+      let on = walk_on_lem s k i (w.walk l) (behind s k) refl l in
       elim (dec_lt (count_of s bindings) (behind s k)) [
         | yes q ↦ (let end : n ≡ count_of s bindings = e ∙ ap reach (lt-leb (behind s k) (count_of s bindings) q) in (omega arith, record { inside = omega arith; walk = λ m. absurd (omega arith); all = λ _. walk_ends s (behind s k) (i + 1) on (omega arith) }))
-        | no q ↦ (let next : n ≡ behind s k = e ∙ ap reach (le-leb (behind s k) (count_of s bindings) (omega arith)) in (omega (arith, (behind-near s k).0), record { inside = omega arith; walk = λ _. walk-on s k i (w.walk l) n next l; all = λ m. walk_ends s (behind s k) (i + 1) on (omega arith) }))
+        | no q ↦ (let next : n ≡ behind s k = e ∙ ap reach (le-leb (behind s k) (count_of s bindings) (omega arith)) in (omega (arith, (behind_near s k).0), record { inside = omega arith; walk = λ _. walk_on_lem s k i (w.walk l) n next l; all = λ m. walk_ends s (behind s k) (i + 1) on (omega arith) }))
       ]
     where
       reach : Bool → ℕ
       reach b = elim b [ true ↦ behind s k | false ↦ count_of s bindings ]
 
 module _ (s : List ℕ) (m k : ℕ) (a : List ℕ) where
-  pub operands-absent : (c : Record) → recordOf s nodes m ≡ Absent → (0 ≡ numberOr0 (recordOf s nodes m) (λ r. 1)) × (0 ≤ 1) × Marked m k a a (operandUses s c m)
-  operands-absent c p = (sym (number-absent _ _ p), omega arith, marked-none m k a _ (λ n l. no-operands s c m n p))
+  pub operands_absent : (c : Record) → record_of s nodes m ≡ Absent → (0 ≡ number_or0 (record_of s nodes m) (λ r. 1)) × (0 ≤ 1) × Marked m k a a (operand_uses s c m)
+  operands_absent c p = (sym (number_absent _ _ p), omega arith, marked-none m k a _ (λ n l. no_operands s c m n p))
 
-  pub operands-added : (d : List ℕ) (c : Record) (r : Record) (o : Operands) → recordOf s nodes m ≡ Present r → o ≡ operandsOf s c r → Marked m k a d (λ n. sumBelow (operandCount o) (operandTurn r o n)) → (1 ≡ numberOr0 (recordOf s nodes m) (λ r. 1)) × (1 ≤ 1) × Marked m k a d (operandUses s c m)
-  unfolding countBelow
-  operands-added d c r o p e h = (sym (number-present _ r (λ r. 1) p), omega arith, marked-as m k a d _ _ (λ n l. ap (λ (o : Operands). sumBelow (operandCount o) (operandTurn r o n)) e ∙ sym (uses-are s c m n r p l)) h)
+  pub operands_added : (d : List ℕ) (c : Record) (r : Record) (o : Operands) → record_of s nodes m ≡ Present r → o ≡ operands_of s c r → Marked m k a d (λ n. sum_below (operand_count o) (operand_turn r o n)) → (1 ≡ number_or0 (record_of s nodes m) (λ r. 1)) × (1 ≤ 1) × Marked m k a d (operand_uses s c m)
+  unfolding count_below
+  operands_added d c r o p e h = (sym (number-present _ r (λ r. 1) p), omega arith, marked_as m k a d _ _ (λ n l. ap (λ (o : Operands). sum_below (operand_count o) (operand_turn r o n)) e ∙ sym (uses-are s c m n r p l)) h)

@@ -3,15 +3,15 @@
 use Rattle.std.specs.Prelude.{ℕ, ◌+◌, ◌-◌, ◌<◌, ◌≤◌, ◌≡◌, List, Bool, true, false, length, get_or, ltb, eqb}
 use Rattle.sheet.specs.declared.Record.{Record}
 use Rattle.sheet.specs.All.{◌and◌}
-use Rattle.sheet.specs.Names.{bodies, role, reactionName}
-use Rattle.sheet.specs.Sheet.{recordOf}
+use Rattle.sheet.specs.Names.{bodies, role, reaction_name}
+use Rattle.sheet.specs.Sheet.{record_of}
 use Rattle.sheet_rules.specs.Fields.{holds}
-use Rattle.sheet_rules.specs.Shape.{isReaction}
-use Rattle.sheet_rules.specs.Types.{reactsTo}
+use Rattle.sheet_rules.specs.Shape.{is_reaction}
+use Rattle.sheet_rules.specs.Types.{reacts_to}
 
 -- body i is there and meets a test
 abbrev pub is_a : List ℕ → ℕ → (Record → Bool) → Bool
-is_a s i p = holds (recordOf s bodies i) p
+is_a s i p = holds (record_of s bodies i) p
 
 -- what stands at name n is a body that meets the test `p n`
 pub record Entries (s : List ℕ) (p : ℕ → Record → Bool) (t : List ℕ) : Type 0 where
@@ -28,7 +28,7 @@ pub record Entered (s : List ℕ) (p : ℕ → Record → Bool) (i : ℕ) (t t' 
 
 -- an external or internal reaction to name n
 abbrev pub named : ℕ → Record → Bool
-named n b = isReaction (role b) and eqb (reactionName b) n
+named n b = is_reaction (role b) and eqb (reaction_name b) n
 
 -- an entry, if it is a body before body i
 unfoldable pub up_to : ℕ → ℕ → ℕ
@@ -50,7 +50,7 @@ pub record Chains (s : List ℕ) (first i : ℕ) (last previous : List ℕ) : Ty
 -- body i, which is b, was entered
 pub record Linked (b : Record) (i : ℕ) (last last' previous previous' : List ℕ) : Type 0 where
   pub size : length last' ≡ 4096
-  pub previous-size : length previous' ≡ 4096
+  pub previous_size : length previous' ≡ 4096
   pub new : (n : ℕ) → n < 4096 → named n b ≡ true → get_or last' n 0 ≡ i + 1
   pub old : (n : ℕ) → n < 4096 → named n b ≡ false → get_or last' n 0 ≡ get_or last n 0
   pub before : (n : ℕ) → n < 4096 → named n b ≡ true → get_or previous' i 0 ≡ get_or last n 0
@@ -58,6 +58,6 @@ pub record Linked (b : Record) (i : ℕ) (last last' previous previous' : List �
 
 -- the arrays as they are handed from chart to chart
 pub record Ready (s : List ℕ) (table last previous : List ℕ) : Type 0 where
-  pub table-entries : Entries s reactsTo table
-  pub last-entries : Entries s named last
-  pub previous-size : length previous ≡ 4096
+  pub table_entries : Entries s reacts_to table
+  pub last_entries : Entries s named last
+  pub previous_size : length previous ≡ 4096

@@ -1,7 +1,7 @@
 // The internal reactions of a chart by name, in an array that holds a body's number plus 1, or 0.
 ghost use Rattle.std.specs.Prelude.{◌≡◌, length};
-ghost use Rattle.sheet.specs.Sheet.{directoryOf};
-ghost use Rattle.sheet_rules.specs.Types.{reactsTo};
+ghost use Rattle.sheet.specs.Sheet.{directory_of};
+ghost use Rattle.sheet_rules.specs.Types.{reacts_to};
 ghost use Rattle.sheet_types.specs.Table.{Table};
 ghost use Rattle.checker_reactions.specs.Entries.{Entries, Entered};
 
@@ -9,9 +9,9 @@ use sheet::{BODIES, ByRecord, Directory, Found, Record};
 
 // Enters body i in the table of internal reactions, if it is one.
 fn enter(sheet: &[u8], directory: &Directory, table: &mut ByRecord, i: usize)
-    requires directory_value { directory.now ≡ directoryOf sheet.now }
+    requires directory_value { directory.now ≡ directory_of sheet.now }
     requires table_len { length table.old ≡ 4096 }
-    ensures { Entered sheet.now reactsTo i table.old table.new }
+    ensures { Entered sheet.now reacts_to i table.old table.new }
 {
     let Found::Present(b) = sheet_reader::read(sheet, directory, BODIES, i) else {
         return;
@@ -29,9 +29,9 @@ fn enter(sheet: &[u8], directory: &Directory, table: &mut ByRecord, i: usize)
 // Enters the internal reactions of chart c. What other charts left there stays: a body that is not
 // of this chart, or one that reacts to that name in it too.
 pub fn fill(sheet: &[u8], directory: &Directory, table: &mut ByRecord, c: Record)
-    requires directory_value { directory.now ≡ directoryOf sheet.now }
-    requires entries { Entries sheet.now reactsTo table.old }
-    ensures { Entries sheet.now reactsTo table.new × Table sheet.now c table.new }
+    requires directory_value { directory.now ≡ directory_of sheet.now }
+    requires entries { Entries sheet.now reacts_to table.old }
+    ensures { Entries sheet.now reacts_to table.new × Table sheet.now c table.new }
 {
     let first = c.f4 as usize;
     let count = c.f5 as usize;

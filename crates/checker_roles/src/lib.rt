@@ -1,16 +1,16 @@
 // Declaration ranges without clocks and arrays, and what a body's role asks of it.
 ghost use Rattle.std.specs.Prelude.{◌≡◌, ◌<◌, ◌≤◌};
-ghost use Rattle.sheet.specs.Names.{bodyParameters, bodyLocals};
-ghost use Rattle.sheet.specs.Sheet.{directoryOf};
-ghost use Rattle.sheet_rules.specs.Fields.{oneIf};
-ghost use Rattle.sheet_rules.specs.Static.{plainData, sameTypes, reactionStatic, roleStatic, bodiesWith, hasRole};
+ghost use Rattle.sheet.specs.Names.{body_parameters, body_locals};
+ghost use Rattle.sheet.specs.Sheet.{directory_of};
+ghost use Rattle.sheet_rules.specs.Fields.{one_if};
+ghost use Rattle.sheet_rules.specs.Static.{plain_data, same_types, reaction_static, role_static, bodies_with, has_role};
 
 use sheet::{BODIES, Directory, Found, Range, Record};
 
 // "clocks .. stand in no declaration range but chart variables", nor does an array.
 pub fn plain_data(sheet: &[u8], directory: &Directory, g: Range) -> bool
-    requires { (directory.now ≡ directoryOf sheet.now) × (g.first < 65536) × (g.count < 65536) }
-    ensures { result ≡ plainData sheet.now g }
+    requires { (directory.now ≡ directory_of sheet.now) × (g.first < 65536) × (g.count < 65536) }
+    ensures { result ≡ plain_data sheet.now g }
 {
     let first = g.first;
     let count = g.count;
@@ -29,8 +29,8 @@ pub fn plain_data(sheet: &[u8], directory: &Directory, g: Range) -> bool
 
 // Whether two ranges of declarations have the same types in order.
 fn same_types(sheet: &[u8], directory: &Directory, g: Range, h: Range) -> bool
-    requires { (directory.now ≡ directoryOf sheet.now) × (g.first < 65536) × (g.count < 65536) × (h.first < 65536) }
-    ensures { result ≡ sameTypes sheet.now g h }
+    requires { (directory.now ≡ directory_of sheet.now) × (g.first < 65536) × (g.count < 65536) × (h.first < 65536) }
+    ensures { result ≡ same_types sheet.now g h }
 {
     let count = g.count;
     let from = g.first;
@@ -51,7 +51,7 @@ fn same_types(sheet: &[u8], directory: &Directory, g: Range, h: Range) -> bool
 }
 
 pub fn parameters(b: Record) -> Range
-    ensures { (result ≡ bodyParameters b) × (result.first < 65536) × (result.count < 65536) }
+    ensures { (result ≡ body_parameters b) × (result.first < 65536) × (result.count < 65536) }
 {
     Range {
         first: b.f3 as usize,
@@ -60,7 +60,7 @@ pub fn parameters(b: Record) -> Range
 }
 
 pub fn locals(b: Record) -> Range
-    ensures { (result ≡ bodyLocals b) × (result.first < 65536) × (result.count < 65536) }
+    ensures { (result ≡ body_locals b) × (result.first < 65536) × (result.count < 65536) }
 {
     Range {
         first: b.f5 as usize,
@@ -69,8 +69,8 @@ pub fn locals(b: Record) -> Range
 }
 
 fn reaction_static(sheet: &[u8], directory: &Directory, b: Record) -> bool
-    requires { directory.now ≡ directoryOf sheet.now }
-    ensures { result ≡ reactionStatic sheet.now b }
+    requires { directory.now ≡ directory_of sheet.now }
+    ensures { result ≡ reaction_static sheet.now b }
 {
     let name = b.f2 as usize;
     if b.f0 == 2 {
@@ -96,8 +96,8 @@ fn reaction_static(sheet: &[u8], directory: &Directory, b: Record) -> bool
 }
 
 pub fn role_static(sheet: &[u8], directory: &Directory, b: Record) -> bool
-    requires { directory.now ≡ directoryOf sheet.now }
-    ensures { result ≡ roleStatic sheet.now b }
+    requires { directory.now ≡ directory_of sheet.now }
+    ensures { result ≡ role_static sheet.now b }
 {
     let role = b.f0;
     match role {
@@ -109,8 +109,8 @@ pub fn role_static(sheet: &[u8], directory: &Directory, b: Record) -> bool
 
 // How many bodies of chart c have a role.
 pub fn bodies_with(sheet: &[u8], directory: &Directory, c: Record, role: u16) -> usize
-    requires { directory.now ≡ directoryOf sheet.now }
-    ensures { result ≡ bodiesWith sheet.now c role }
+    requires { directory.now ≡ directory_of sheet.now }
+    ensures { result ≡ bodies_with sheet.now c role }
 {
     let first = c.f4 as usize;
     let count = c.f5 as usize;
@@ -125,8 +125,8 @@ pub fn bodies_with(sheet: &[u8], directory: &Directory, c: Record, role: u16) ->
 
 // 1 if body i has a role, else 0.
 fn role_count(sheet: &[u8], directory: &Directory, i: usize, role: u16) -> usize
-    requires { directory.now ≡ directoryOf sheet.now }
-    ensures { (result ≡ oneIf (hasRole sheet.now i role)) × (result ≤ 1) }
+    requires { directory.now ≡ directory_of sheet.now }
+    ensures { (result ≡ one_if (has_role sheet.now i role)) × (result ≤ 1) }
 {
     let Found::Present(b) = sheet_reader::read(sheet, directory, BODIES, i) else {
         return 0;

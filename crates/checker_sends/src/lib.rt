@@ -1,7 +1,7 @@
 // Sends, armings and calls as statements, by what their operands are and whether their data match.
 ghost use Rattle.std.specs.Prelude.{◌≡◌, ◌<◌, length, get_or};
-ghost use Rattle.sheet.specs.Sheet.{directoryOf};
-ghost use Rattle.sheet_rules.specs.Types.{internalName, clockOf, externalType, internalType, armType, callType};
+ghost use Rattle.sheet.specs.Sheet.{directory_of};
+ghost use Rattle.sheet_rules.specs.Types.{internal_name, clock_of, external_type, internal_type, arm_type, call_type};
 ghost use Rattle.sheet_types.specs.Table.{tabled, Table};
 
 use sheet::{ByRecord, Directory, Found, Record};
@@ -27,9 +27,9 @@ fn has_reaction(table: &ByRecord, c: Record, n: u16) -> bool
 }
 
 fn internal_name(sheet: &[u8], directory: &Directory, table: &ByRecord, c: Record, n: u16) -> bool
-    requires directory_value { directory.now ≡ directoryOf sheet.now }
+    requires directory_value { directory.now ≡ directory_of sheet.now }
     requires table { Table sheet.now c table.now }
-    ensures { result ≡ internalName sheet.now c n }
+    ensures { result ≡ internal_name sheet.now c n }
 {
     if !sheet_types::has_class(sheet, directory, n as usize, 1) {
         return false;
@@ -45,8 +45,8 @@ pub fn external_type(
     y: Typed,
     d: bool,
 ) -> Typed
-    requires { directory.now ≡ directoryOf sheet.now }
-    ensures { result ≡ externalType sheet.now r x y d }
+    requires { directory.now ≡ directory_of sheet.now }
+    ensures { result ≡ external_type sheet.now r x y d }
 {
     if !sheet_types::is_of(x, 2) {
         return Typed::Wrong;
@@ -71,9 +71,9 @@ pub fn internal_type(
     r: Record,
     d: bool,
 ) -> Typed
-    requires directory_value { directory.now ≡ directoryOf sheet.now }
+    requires directory_value { directory.now ≡ directory_of sheet.now }
     requires table { Table sheet.now c table.now }
-    ensures { result ≡ internalType sheet.now c r d }
+    ensures { result ≡ internal_type sheet.now c r d }
 {
     if !internal_name(sheet, directory, table, c, r.f3) {
         return Typed::Wrong;
@@ -85,7 +85,7 @@ pub fn internal_type(
 }
 
 fn clock_of(op: u16) -> usize
-    ensures { result ≡ clockOf op }
+    ensures { result ≡ clock_of op }
 {
     match op {
         36 => 5,
@@ -103,9 +103,9 @@ pub fn arm_type(
     x: Typed,
     d: bool,
 ) -> Typed
-    requires directory_value { directory.now ≡ directoryOf sheet.now }
+    requires directory_value { directory.now ≡ directory_of sheet.now }
     requires table { Table sheet.now c table.now }
-    ensures { result ≡ armType sheet.now c r x d }
+    ensures { result ≡ arm_type sheet.now c r x d }
 {
     if sheet_types::chart_variable_type(sheet, directory, c, r.f1) != clock_of(r.f0) {
         return Typed::Wrong;
@@ -117,8 +117,8 @@ pub fn arm_type(
 }
 
 pub fn call_type(sheet: &[u8], directory: &Directory, c: Record, r: Record, d: bool) -> Typed
-    requires { directory.now ≡ directoryOf sheet.now }
-    ensures { result ≡ callType sheet.now c r d }
+    requires { directory.now ≡ directory_of sheet.now }
+    ensures { result ≡ call_type sheet.now c r d }
 {
     let Found::Present(p) = sheet_types::called_body(sheet, directory, c, r) else {
         return Typed::Wrong;

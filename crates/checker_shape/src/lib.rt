@@ -1,14 +1,14 @@
 // The shape of a sheet, record by record.
 ghost use Rattle.std.specs.Prelude.{◌≡◌};
-ghost use Rattle.sheet.specs.Sheet.{directoryOf};
-ghost use Rattle.sheet_rules.specs.Shape.{recordShape, eachShape, sectionShape};
-ghost use Rattle.sheet_rules.specs.Check.{sectionsShape};
+ghost use Rattle.sheet.specs.Sheet.{directory_of};
+ghost use Rattle.sheet_rules.specs.Shape.{record_shape, each_shape, section_shape};
+ghost use Rattle.sheet_rules.specs.Check.{sections_shape};
 
 use sheet::{Directory, Found, Record};
 
 fn record_fits(sheet: &[u8], directory: &Directory, k: usize, i: usize, r: Record) -> bool
-    requires { directory.now ≡ directoryOf sheet.now }
-    ensures { result ≡ recordShape sheet.now k i r }
+    requires { directory.now ≡ directory_of sheet.now }
+    ensures { result ≡ record_shape sheet.now k i r }
 {
     match k {
         0 => checker_declarations::head_fits(r),
@@ -22,8 +22,8 @@ fn record_fits(sheet: &[u8], directory: &Directory, k: usize, i: usize, r: Recor
 }
 
 fn records_fit(sheet: &[u8], directory: &Directory, k: usize) -> bool
-    requires { directory.now ≡ directoryOf sheet.now }
-    ensures { result ≡ eachShape sheet.now k }
+    requires { directory.now ≡ directory_of sheet.now }
+    ensures { result ≡ each_shape sheet.now k }
 {
     let count = sheet_reader::count_in(directory, k);
     let mut i: usize = 0;
@@ -41,8 +41,8 @@ fn records_fit(sheet: &[u8], directory: &Directory, k: usize) -> bool
 
 // Nodes are judged in the tree that they stand in, bindings element by element.
 fn section_fits(sheet: &[u8], directory: &Directory, k: usize) -> bool
-    requires { directory.now ≡ directoryOf sheet.now }
-    ensures { result ≡ sectionShape sheet.now k }
+    requires { directory.now ≡ directory_of sheet.now }
+    ensures { result ≡ section_shape sheet.now k }
 {
     if k == 6 {
         return true;
@@ -54,8 +54,8 @@ fn section_fits(sheet: &[u8], directory: &Directory, k: usize) -> bool
 }
 
 pub fn sections_fit(sheet: &[u8], directory: &Directory) -> bool
-    requires { directory.now ≡ directoryOf sheet.now }
-    ensures { result ≡ sectionsShape sheet.now }
+    requires { directory.now ≡ directory_of sheet.now }
+    ensures { result ≡ sections_shape sheet.now }
 {
     let mut k: usize = 0;
     while k < 8 {

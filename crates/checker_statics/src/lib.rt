@@ -1,14 +1,14 @@
 // The static rules beside the types of nodes.
 ghost use Rattle.std.specs.Prelude.{◌≡◌, List, ℕ};
-ghost use Rattle.sheet.specs.Sheet.{directoryOf};
-ghost use Rattle.sheet_rules.specs.Static.{declarationStatic, nameStatic, recordStatic, eachStatic, sectionStatic, static};
+ghost use Rattle.sheet.specs.Sheet.{directory_of};
+ghost use Rattle.sheet_rules.specs.Static.{declaration_static, name_static, record_static, each_static, section_static, static};
 ghost use Rattle.checker_reactions.specs.Entries.{Ready};
 
 use sheet::{ByRecord, Directory, Found, RECORDS, Range, Record};
 
 // "An array .. of clocks, gets 2", wherever it stands.
 fn declaration_static(r: Record) -> bool
-    ensures { (s : List ℕ) → result ≡ declarationStatic s r }
+    ensures { (s : List ℕ) → result ≡ declaration_static s r }
 {
     if !sheet_types::is_clock(r.f0 as usize) {
         return true;
@@ -17,8 +17,8 @@ fn declaration_static(r: Record) -> bool
 }
 
 fn name_static(sheet: &[u8], directory: &Directory, r: Record) -> bool
-    requires { directory.now ≡ directoryOf sheet.now }
-    ensures { result ≡ nameStatic sheet.now r }
+    requires { directory.now ≡ directory_of sheet.now }
+    ensures { result ≡ name_static sheet.now r }
 {
     let g = Range {
         first: r.f0 as usize,
@@ -36,9 +36,9 @@ fn record_static(
     k: usize,
     r: Record,
 ) -> bool
-    requires directory_value { directory.now ≡ directoryOf sheet.now }
+    requires directory_value { directory.now ≡ directory_of sheet.now }
     requires ready { Ready sheet.now table.old last.old previous.old }
-    ensures { (result ≡ recordStatic sheet.now k r) × Ready sheet.now table.new last.new previous.new }
+    ensures { (result ≡ record_static sheet.now k r) × Ready sheet.now table.new last.new previous.new }
 {
     match k {
         2 => declaration_static(r),
@@ -56,9 +56,9 @@ fn records_static(
     previous: &mut ByRecord,
     k: usize,
 ) -> bool
-    requires directory_value { directory.now ≡ directoryOf sheet.now }
+    requires directory_value { directory.now ≡ directory_of sheet.now }
     requires ready { Ready sheet.now table.old last.old previous.old }
-    ensures { (result ≡ eachStatic sheet.now k) × Ready sheet.now table.new last.new previous.new }
+    ensures { (result ≡ each_static sheet.now k) × Ready sheet.now table.new last.new previous.new }
 {
     let count = sheet_reader::count_in(directory, k);
     let mut i: usize = 0;
@@ -83,9 +83,9 @@ fn section_static(
     previous: &mut ByRecord,
     k: usize,
 ) -> bool
-    requires directory_value { directory.now ≡ directoryOf sheet.now }
+    requires directory_value { directory.now ≡ directory_of sheet.now }
     requires ready { Ready sheet.now table.old last.old previous.old }
-    ensures { (result ≡ sectionStatic sheet.now k) × Ready sheet.now table.new last.new previous.new }
+    ensures { (result ≡ section_static sheet.now k) × Ready sheet.now table.new last.new previous.new }
 {
     if k == 6 {
         return true;
@@ -98,7 +98,7 @@ fn section_static(
 
 // Whether every static rule holds.
 pub fn rules_hold(sheet: &[u8], directory: &Directory) -> bool
-    requires { directory.now ≡ directoryOf sheet.now }
+    requires { directory.now ≡ directory_of sheet.now }
     ensures { result ≡ static sheet.now }
 {
     let mut table = [0u16; RECORDS];

@@ -1,8 +1,8 @@
 // The shape of the trees of nodes.
 ghost use Rattle.std.specs.Prelude.{◌≡◌};
-ghost use Rattle.sheet.specs.Sheet.{directoryOf};
-ghost use Rattle.sheet_rules.specs.Shape.{treeShape, treesShape};
-ghost use Rattle.sheet_rules.specs.Check.{nodesShape};
+ghost use Rattle.sheet.specs.Sheet.{directory_of};
+ghost use Rattle.sheet_rules.specs.Shape.{tree_shape, trees_shape};
+ghost use Rattle.sheet_rules.specs.Check.{nodes_shape};
 
 use sheet::{BODIES, CHARTS, Directory, Found, NODES, Record};
 
@@ -15,8 +15,8 @@ fn tree_fits(
     levels: usize,
     n: usize,
 ) -> bool
-    requires { directory.now ≡ directoryOf sheet.now }
-    ensures { result ≡ treeShape sheet.now c b levels n }
+    requires { directory.now ≡ directory_of sheet.now }
+    ensures { result ≡ tree_shape sheet.now c b levels n }
 {
     if levels == 0 {
         return false;
@@ -45,8 +45,8 @@ fn tree_fits(
 
 // The trees of the bodies of chart c.
 fn trees_fit(sheet: &[u8], directory: &Directory, c: Record) -> bool
-    requires { directory.now ≡ directoryOf sheet.now }
-    ensures { result ≡ treesShape sheet.now c }
+    requires { directory.now ≡ directory_of sheet.now }
+    ensures { result ≡ trees_shape sheet.now c }
 {
     let first = c.f4 as usize;
     let count = c.f5 as usize;
@@ -65,8 +65,8 @@ fn trees_fit(sheet: &[u8], directory: &Directory, c: Record) -> bool
 
 // The trees of every chart's bodies.
 pub fn nodes_fit(sheet: &[u8], directory: &Directory) -> bool
-    requires { directory.now ≡ directoryOf sheet.now }
-    ensures { result ≡ nodesShape sheet.now }
+    requires { directory.now ≡ directory_of sheet.now }
+    ensures { result ≡ nodes_shape sheet.now }
 {
     let count = sheet_reader::count_in(directory, CHARTS);
     let mut k: usize = 0;

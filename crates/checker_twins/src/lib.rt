@@ -1,15 +1,15 @@
 // Two reactions of a chart to the same: reactions by name, from the latest one back, in arrays that hold a
 // body's number plus 1, or 0.
 ghost use Rattle.std.specs.Prelude.{◌≡◌, true, ◌+◌, ◌<◌, ◌≤◌, length};
-ghost use Rattle.sheet.specs.Sheet.{directoryOf};
-ghost use Rattle.sheet_rules.specs.Shape.{isReaction};
-ghost use Rattle.sheet_rules.specs.Static.{sameReaction, noTwin};
+ghost use Rattle.sheet.specs.Sheet.{directory_of};
+ghost use Rattle.sheet_rules.specs.Shape.{is_reaction};
+ghost use Rattle.sheet_rules.specs.Static.{same_reaction, no_twin};
 ghost use Rattle.checker_reactions.specs.Entries.{up_to, Chains, Linked};
 
 use sheet::{BODIES, ByRecord, Directory, Found, Record};
 
 fn is_reaction(b: Record) -> bool
-    ensures { result ≡ isReaction b.f0 }
+    ensures { result ≡ is_reaction b.f0 }
 {
     if b.f0 < 2 {
         return false;
@@ -18,7 +18,7 @@ fn is_reaction(b: Record) -> bool
 }
 
 fn same_reaction(a: Record, b: Record) -> bool
-    ensures { result ≡ sameReaction a b }
+    ensures { result ≡ same_reaction a b }
 {
     if a.f0 < 2 {
         return false;
@@ -56,12 +56,12 @@ pub fn no_twin(
     j: usize,
     b: Record,
 ) -> bool
-    requires directory_value { directory.now ≡ directoryOf sheet.now }
+    requires directory_value { directory.now ≡ directory_of sheet.now }
     requires j_bound { j < 65536 }
     requires j_bound_2 { c.f4 + j < 4096 }
     requires chains { Chains sheet.now c.f4 (c.f4 + j) last.now previous.now }
-    requires f2_bound { isReaction b.f0 ≡ true → b.f2 < 4096 }
-    ensures { result ≡ noTwin sheet.now c j b }
+    requires f2_bound { is_reaction b.f0 ≡ true → b.f2 < 4096 }
+    ensures { result ≡ no_twin sheet.now c j b }
 {
     if !is_reaction(b) {
         return true;
@@ -84,7 +84,7 @@ pub fn no_twin(
 // Enters body i, which is b, as the latest reaction to its name.
 pub fn link(last: &mut ByRecord, previous: &mut ByRecord, i: usize, b: Record)
     requires last_len { (length last.old ≡ 4096) × (length previous.old ≡ 4096) × (i < 4096) }
-    requires f2_bound { isReaction b.f0 ≡ true → b.f2 < 4096 }
+    requires f2_bound { is_reaction b.f0 ≡ true → b.f2 < 4096 }
     ensures { Linked b i last.old last.new previous.old previous.new }
 {
     if !is_reaction(b) {

@@ -1,7 +1,7 @@
 // The type of an expression, and what is a statement.
 ghost use Rattle.std.specs.Prelude.{◌≡◌, ◌<◌};
-ghost use Rattle.sheet.specs.Sheet.{directoryOf};
-ghost use Rattle.sheet_rules.specs.Types.{dataMatch, lowerType, type_of};
+ghost use Rattle.sheet.specs.Sheet.{directory_of};
+ghost use Rattle.sheet_rules.specs.Types.{data_match, lower_type, type_of};
 ghost use Rattle.sheet_types.specs.Table.{Table};
 
 use sheet::{ByRecord, Directory, Found, NODES, Range, Record};
@@ -18,9 +18,9 @@ fn operand_type(
     n: usize,
     m: u16,
 ) -> Typed
-    requires directory_value { directory.now ≡ directoryOf sheet.now }
+    requires directory_value { directory.now ≡ directory_of sheet.now }
     requires table { Table sheet.now c table.now }
-    ensures { result ≡ lowerType n (type_of sheet.now c b) m }
+    ensures { result ≡ lower_type n (type_of sheet.now c b) m }
 {
     if (m as usize) < n {
         type_of(sheet, directory, table, c, b, m as usize)
@@ -41,10 +41,10 @@ fn data_match(
     g: Range,
     r: Record,
 ) -> bool
-    requires directory_value { directory.now ≡ directoryOf sheet.now }
+    requires directory_value { directory.now ≡ directory_of sheet.now }
     requires table { Table sheet.now c table.now }
     requires first_bound { (g.first < 65536) × (g.count < 65536) }
-    ensures { result ≡ dataMatch sheet.now (lowerType n (type_of sheet.now c b)) g r }
+    ensures { result ≡ data_match sheet.now (lower_type n (type_of sheet.now c b)) g r }
 {
     let first = g.first;
     let count = g.count;
@@ -70,7 +70,7 @@ pub fn type_of(
     b: Record,
     n: usize,
 ) -> Typed
-    requires directory_value { directory.now ≡ directoryOf sheet.now }
+    requires directory_value { directory.now ≡ directory_of sheet.now }
     requires table { Table sheet.now c table.now }
     ensures { result ≡ type_of sheet.now c b n }
 {

@@ -2,8 +2,8 @@
 ghost use Rattle.std.specs.Prelude.{◌≡◌, ℕ, ◌≤◌, ◌<◌, length, get_or, eqb};
 ghost use Rattle.sheet.specs.All.{◌and◌};
 ghost use Rattle.sheet.specs.Names.{charts, bindings, nodes};
-ghost use Rattle.sheet.specs.Sheet.{count_of, directoryOf};
-ghost use Rattle.sheet_rules.specs.Uses.{overBodies, overCharts, overBindings, constantUses};
+ghost use Rattle.sheet.specs.Sheet.{count_of, directory_of};
+ghost use Rattle.sheet_rules.specs.Uses.{over_bodies, over_charts, over_bindings, constant_uses};
 ghost use Rattle.checker_pass.specs.Marks.{Cleared, Marked, RootsMarked};
 ghost use Rattle.checker_pass.specs.Test.{TestGives};
 
@@ -24,10 +24,10 @@ fn clear(marks: &mut [u16], count: usize)
 
 // All bodies name their roots. How many bodies were gone over.
 fn mark_charts(sheet: &[u8], directory: &Directory, marks: &mut [u16], count: usize) -> usize
-    requires directory_value { directory.now ≡ directoryOf sheet.now }
+    requires directory_value { directory.now ≡ directory_of sheet.now }
     requires count_in_bounds { count ≤ length marks.old }
     requires by_index { (n : ℕ) → n < count → get_or marks.old n 0 ≡ 0 }
-    ensures { (result ≡ overCharts sheet.now (overBodies sheet.now (λ b. 1))) × (result ≤ 268369920) × RootsMarked sheet.now (count_of sheet.now charts) count marks.old marks.new }
+    ensures { (result ≡ over_charts sheet.now (over_bodies sheet.now (λ b. 1))) × (result ≤ 268369920) × RootsMarked sheet.now (count_of sheet.now charts) count marks.old marks.new }
 {
     let total = sheet_reader::count_in(directory, CHARTS);
     let mut gone: usize = 0;
@@ -42,9 +42,9 @@ fn mark_charts(sheet: &[u8], directory: &Directory, marks: &mut [u16], count: us
 // All bindings name their constants. How many binding records were gone over: the number of the next one
 // tells it.
 fn mark_bindings(sheet: &[u8], directory: &Directory, marks: &mut [u16], count: usize) -> usize
-    requires directory_value { directory.now ≡ directoryOf sheet.now }
+    requires directory_value { directory.now ≡ directory_of sheet.now }
     requires count_in_bounds { count ≤ length marks.old }
-    ensures { (result ≡ count_of sheet.now bindings) × Marked count 0 marks.old marks.new (λ n. overBindings sheet.now (constantUses sheet.now n)) }
+    ensures { (result ≡ count_of sheet.now bindings) × Marked count 0 marks.old marks.new (λ n. over_bindings sheet.now (constant_uses sheet.now n)) }
 {
     let total = sheet_reader::count_in(directory, BINDINGS);
     let mut k: usize = 0;
@@ -67,7 +67,7 @@ fn still_once(once: bool, used: u16) -> bool
 // Whether each node is used exactly once. A mark for each node is lent, whatever it holds, and ends as 0, 1 or 2.
 // Operands are lower, so going down from the last node, whatever uses a node has been gone over before it.
 pub fn used_once(sheet: &[u8], directory: &Directory, marks: &mut [u16]) -> Tested
-    requires directory_value { directory.now ≡ directoryOf sheet.now }
+    requires directory_value { directory.now ≡ directory_of sheet.now }
     requires nodes_in_bounds { count_of sheet.now nodes ≤ length marks.old }
     ensures { TestGives sheet.now marks.old marks.new result }
 {

@@ -1,16 +1,16 @@
 // What a node that names a variable is, armings and elements of arrays aside: an expression of a type, a
 // statement, or wrong.
 ghost use Rattle.std.specs.Prelude.{◌≡◌};
-ghost use Rattle.sheet.specs.Sheet.{directoryOf};
-ghost use Rattle.sheet_rules.specs.Types.{readType, clockType, assignType, clockActType};
+ghost use Rattle.sheet.specs.Sheet.{directory_of};
+ghost use Rattle.sheet_rules.specs.Types.{read_type, clock_type, assign_type, clock_act_type};
 
 use sheet::{Directory, Record};
 use sheet_rules::Typed;
 
 // "operators 7 and 33 don't take an array"
 pub fn read_type(sheet: &[u8], directory: &Directory, c: Record, b: Record, r: Record) -> Typed
-    requires { directory.now ≡ directoryOf sheet.now }
-    ensures { result ≡ readType sheet.now c b r }
+    requires { directory.now ≡ directory_of sheet.now }
+    ensures { result ≡ read_type sheet.now c b r }
 {
     let d = sheet_types::variable_at(c, b, r.f1, r.f2);
     let t = sheet_types::type_at(sheet, directory, d);
@@ -24,8 +24,8 @@ pub fn read_type(sheet: &[u8], directory: &Directory, c: Record, b: Record, r: R
 }
 
 pub fn clock_type(sheet: &[u8], directory: &Directory, c: Record, r: Record) -> Typed
-    requires { directory.now ≡ directoryOf sheet.now }
-    ensures { result ≡ clockType sheet.now c r }
+    requires { directory.now ≡ directory_of sheet.now }
+    ensures { result ≡ clock_type sheet.now c r }
 {
     if !sheet_types::is_clock(sheet_types::chart_variable_type(sheet, directory, c, r.f1)) {
         return Typed::Wrong;
@@ -44,8 +44,8 @@ pub fn assign_type(
     r: Record,
     x: Typed,
 ) -> Typed
-    requires { directory.now ≡ directoryOf sheet.now }
-    ensures { result ≡ assignType sheet.now c b r x }
+    requires { directory.now ≡ directory_of sheet.now }
+    ensures { result ≡ assign_type sheet.now c b r x }
 {
     if r.f1 == 0 {
         return Typed::Wrong;
@@ -61,8 +61,8 @@ pub fn assign_type(
 }
 
 pub fn clock_act_type(sheet: &[u8], directory: &Directory, c: Record, r: Record) -> Typed
-    requires { directory.now ≡ directoryOf sheet.now }
-    ensures { result ≡ clockActType sheet.now c r }
+    requires { directory.now ≡ directory_of sheet.now }
+    ensures { result ≡ clock_act_type sheet.now c r }
 {
     let t = sheet_types::chart_variable_type(sheet, directory, c, r.f1);
     if r.f0 == 38 {

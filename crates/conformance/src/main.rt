@@ -7,7 +7,7 @@
 // that it doesn't take; and an answer that can't be written or an input that can't be read, which is
 // said on standard error.
 ghost use Rattle.std.specs.Prelude.{◌+◌, ◌≤◌, ◌≡◌, length};
-ghost use Rattle.sheet_rules.specs.Check.{checkNumber};
+ghost use Rattle.sheet_rules.specs.Check.{check_number};
 
 use libc::{STDERR_FILENO, STDIN_FILENO, STDOUT_FILENO};
 use machine::{Answer, Handed};
@@ -103,7 +103,7 @@ fn print_event(a: Answer, res: &[i32]) -> bool {
 
 // The paper's number.
 fn answer(r: Checked) -> u64
-    ensures { result ≡ checkNumber r }
+    ensures { result ≡ check_number r }
 {
     match r {
         Checked::Passed => 0,

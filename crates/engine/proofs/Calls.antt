@@ -7,69 +7,69 @@ use lib.ListN.{length}
 use lib.Dec.{eqb}
 use lib.IntN.{ℤ}
 use borrow.Author.Tests.{eqb-false}
-use Rattle.sheet.specs.Sheet.{directoryOf}
+use Rattle.sheet.specs.Sheet.{directory_of}
 use Rattle.machine.specs.declared.Answer.{Answer}
 use Rattle.sheet_rules.specs.declared.Checked.TheVariants.{Passed, Shape, Static}
 use Rattle.machine.specs.declared.Handed.TheVariants.{Nothing}
-use Rattle.machine.specs.State.{stateLength}
-use Rattle.machine.specs.Valid.{contentFits, OfSheet}
-use Rattle.machine.specs.Play.{ended, answer, isEvent, limitOf}
-use Rattle.sheet_rules.specs.Check.{checkOf}
+use Rattle.machine.specs.State.{state_length}
+use Rattle.machine.specs.Valid.{content_fits, OfSheet}
+use Rattle.machine.specs.Play.{ended, answer, is_event, limit_of}
+use Rattle.sheet_rules.specs.Check.{check_of}
 use Rattle.machine.specs.Lists.{EventGives}
 use Rattle.machine.proofs.Calls.{event-played}
-use Rattle.machine_states.proofs.Parts.{of-content, content-of}
-use Rattle.machine_events.proofs.Laws.{event-shape, event-static, event-old-length, event-result-length, event-content, event-malformed}
+use Rattle.machine_states.proofs.Parts.{of_content, content_of_lem}
+use Rattle.machine_events.proofs.Laws.{event-shape, event-static, event-old_length, event_result_length, event_content, event_malformed}
 use Rattle.machine_events.specs.declared.Event.{Event}
-use Rattle.machine_events.specs.Event.{eventOf, isMalformed, happensBy}
-use Rattle.machine_events.proofs.Apart.{malformed-is, happens-by, event-by}
+use Rattle.machine_events.specs.Event.{event_of, is_malformed, happens_by}
+use Rattle.machine_events.proofs.Apart.{malformed_is, happens_by_lem, event_by}
 use Rattle.engine_cells.specs.Cells.{CellTable}
 use Rattle.engine_cells.specs.Playing.{Playing}
 use Rattle.engine_kinds.proofs.Calls.{down}
 
 -- ---- the next event of a list
 
-pub next-gives : (s d t : List ℕ) (st ev : List ℤ) → Playing s d t st → (e : Event) → e ≡ eventOf s ev → (a : Answer) (new : List ℤ) → ended a new ≡ happensBy s (limitOf s) st e → EventGives s (limitOf s) st st ev a new
-next-gives s d t st ev p e q a new h = h ∙ ap (happensBy s (limitOf s) st) q ∙ event-by s ev p.passed st p.state.whole (of-content s st p.state)
+pub next_gives_lem : (s d t : List ℕ) (st ev : List ℤ) → Playing s d t st → (e : Event) → e ≡ event_of s ev → (a : Answer) (new : List ℤ) → ended a new ≡ happens_by s (limit_of s) st e → EventGives s (limit_of s) st st ev a new
+next_gives_lem s d t st ev p e q a new h = h ∙ ap (happens_by s (limit_of s) st) q ∙ event_by s ev p.passed st p.state.whole (of_content s st p.state)
 
 -- ---- any state and words, on a passed sheet
 
-not-of : (a b : Bool) → not a ≡ b → a ≡ not b
-not-of true b e = ap not e
-not-of false b e = ap not e
+not_of_lem : (a b : Bool) → not a ≡ b → a ≡ not b
+not_of_lem true b e = ap not e
+not_of_lem false b e = ap not e
 
-module _ (s : List ℕ) (old result ev : List ℤ) (ok : checkOf s ≡ Passed) where
-  pub old-long : eqb (length old) (stateLength s) ≡ false → (a : Answer) → a ≡ answer 3 0 Nothing → EventGives s (limitOf s) old result ev a result
-  old-long h a e = down a 3 0 result _ e (event-old-length s old result ev ok (eqb-false _ _ h))
+module _ (s : List ℕ) (old result ev : List ℤ) (ok : check_of s ≡ Passed) where
+  pub old-long : eqb (length old) (state_length s) ≡ false → (a : Answer) → a ≡ answer 3 0 Nothing → EventGives s (limit_of s) old result ev a result
+  old-long h a e = down a 3 0 result _ e (event-old_length s old result ev ok (eqb-false _ _ h))
 
-  pub result-long : eqb (length result) (stateLength s) ≡ false → (a : Answer) → a ≡ answer 3 0 Nothing → EventGives s (limitOf s) old result ev a result
-  result-long h a e = down a 3 0 result _ e (event-result-length s old result ev ok (eqb-false _ _ h))
+  pub result_long : eqb (length result) (state_length s) ≡ false → (a : Answer) → a ≡ answer 3 0 Nothing → EventGives s (limit_of s) old result ev a result
+  result_long h a e = down a 3 0 result _ e (event_result_length s old result ev ok (eqb-false _ _ h))
 
-  module _ (h : length old ≡ stateLength s) (k : length result ≡ stateLength s) where
-    pub other-content : (a : Answer) → a ≡ answer 3 0 Nothing → contentFits s old ≡ false → EventGives s (limitOf s) old result ev a result
-    other-content a e c = down a 3 0 result _ e (event-content s old result ev ok h k c)
+  module _ (h : length old ≡ state_length s) (k : length result ≡ state_length s) where
+    pub other_content : (a : Answer) → a ≡ answer 3 0 Nothing → content_fits s old ≡ false → EventGives s (limit_of s) old result ev a result
+    other_content a e c = down a 3 0 result _ e (event_content s old result ev ok h k c)
 
     -- the event taken apart
-    module _ (c : contentFits s old ≡ true) (e : Event) (q : e ≡ eventOf s ev) where
-      formed : (b : Bool) → isMalformed e ≡ b → isEvent s ev ≡ not b
-      formed b m = not-of (isEvent s ev) b (sym (malformed-is s ev) ∙ ap isMalformed (sym q) ∙ m)
+    module _ (c : content_fits s old ≡ true) (e : Event) (q : e ≡ event_of s ev) where
+      formed : (b : Bool) → is_malformed e ≡ b → is_event s ev ≡ not b
+      formed b m = not_of_lem (is_event s ev) b (sym (malformed_is s ev) ∙ ap is_malformed (sym q) ∙ m)
 
-      pub malformed-event : isMalformed e ≡ true → (a : Answer) → a ≡ answer 4 0 Nothing → EventGives s (limitOf s) old result ev a result
-      malformed-event m a g = down a 4 0 result _ g (event-malformed s old result ev ok h k c (formed true m))
+      pub malformed_event : is_malformed e ≡ true → (a : Answer) → a ≡ answer 4 0 Nothing → EventGives s (limit_of s) old result ev a result
+      malformed_event m a g = down a 4 0 result _ g (event_malformed s old result ev ok h k c (formed true m))
 
-      pub happened-event : isMalformed e ≡ false → (st : List ℤ) → st ≡ old → (a : Answer) (new : List ℤ) → ended a new ≡ happensBy s (limitOf s) st e → EventGives s (limitOf s) old result ev a new
-      happened-event m st o a new g =
+      pub happened_event : is_malformed e ≡ false → (st : List ℤ) → st ≡ old → (a : Answer) (new : List ℤ) → ended a new ≡ happens_by s (limit_of s) st e → EventGives s (limit_of s) old result ev a new
+      happened_event m st o a new g =
           g
-          ∙ ap (λ o. happensBy s (limitOf s) o e) o
-          ∙ ap (happensBy s (limitOf s) old) q
-          ∙ sym (event-played s (limitOf s) old result ev ok h k c (formed false m) ∙ happens-by s ev (limitOf s) old (formed false m))
+          ∙ ap (λ o. happens_by s (limit_of s) o e) o
+          ∙ ap (happens_by s (limit_of s) old) q
+          ∙ sym (event-played s (limit_of s) old result ev ok h k c (formed false m) ∙ happens_by_lem s ev (limit_of s) old (formed false m))
 
-    pub copy-plays : (d t : List ℕ) → d ≡ directoryOf s → CellTable s t → contentFits s old ≡ true → (st : List ℤ) → st ≡ old → Playing s d t st
-    copy-plays d t q w c st o = record { directory = q; passed = ok; cells = w; state = subst (OfSheet s) (sym o) (content-of s old h c) }
+    pub copy_plays : (d t : List ℕ) → d ≡ directory_of s → CellTable s t → content_fits s old ≡ true → (st : List ℤ) → st ≡ old → Playing s d t st
+    copy_plays d t q w c st o = record { directory = q; passed = ok; cells = w; state = subst (OfSheet s) (sym o) (content_of_lem s old h c) }
 
 -- ---- any sheet
 
-pub shape-event : (s : List ℕ) (old result ev : List ℤ) (a : Answer) → a ≡ answer 1 0 Nothing → checkOf s ≡ Shape → EventGives s (limitOf s) old result ev a result
+pub shape-event : (s : List ℕ) (old result ev : List ℤ) (a : Answer) → a ≡ answer 1 0 Nothing → check_of s ≡ Shape → EventGives s (limit_of s) old result ev a result
 shape-event s old result ev a e h = down a 1 0 result _ e (event-shape s old result ev h)
 
-pub static-event : (s : List ℕ) (old result ev : List ℤ) (a : Answer) → a ≡ answer 2 0 Nothing → checkOf s ≡ Static → EventGives s (limitOf s) old result ev a result
+pub static-event : (s : List ℕ) (old result ev : List ℤ) (a : Answer) → a ≡ answer 2 0 Nothing → check_of s ≡ Static → EventGives s (limit_of s) old result ev a result
 static-event s old result ev a e h = down a 2 0 result _ e (event-static s old result ev h)

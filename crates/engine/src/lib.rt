@@ -1,12 +1,12 @@
 // Plays: start, one event, and one event after another.
 ghost use Rattle.std.specs.Prelude.{◌≡◌, length};
-ghost use Rattle.sheet.specs.Sheet.{directoryOf};
+ghost use Rattle.sheet.specs.Sheet.{directory_of};
 ghost use Rattle.sheet_rules.specs.declared.Checked.TheVariants.{Passed};
-ghost use Rattle.sheet_rules.specs.Check.{checkOf};
+ghost use Rattle.sheet_rules.specs.Check.{check_of};
 ghost use Rattle.machine.specs.Lists.{StartGives, EventGives};
 ghost use Rattle.engine_cells.specs.Lent.{Lent};
 ghost use Rattle.engine_cells.specs.Playing.{Playing};
-ghost use Rattle.machine.specs.Play.{limitOf};
+ghost use Rattle.machine.specs.Play.{limit_of};
 
 use engine_answering::answered;
 use engine_cells::{CellLayout, LAYOUT};
@@ -25,7 +25,7 @@ pub fn next(
     ev: &[i32],
 ) -> Answer
     requires { Playing sheet.now directory.now cells.now st.old × (length spare.old ≡ length st.old) }
-    ensures { EventGives sheet.now (limitOf sheet.now) st.old st.old ev.now result st.new }
+    ensures { EventGives sheet.now (limit_of sheet.now) st.old st.old ev.now result st.new }
 {
     let e = engine_valid_events::event_of(sheet, directory, ev);
     let j = engine_sought::sought(st, e);
@@ -37,7 +37,7 @@ pub fn next(
 
 // An event on any sheet, state and words.
 pub fn event(sheet: &[u8], old: &[i32], res: &mut [i32], ev: &[i32]) -> Answer
-    ensures { EventGives sheet.now (limitOf sheet.now) old.now res.old ev.now result res.new }
+    ensures { EventGives sheet.now (limit_of sheet.now) old.now res.old ev.now result res.new }
 {
     let directory = sheet_reader::directory(sheet);
     match checker::check_opened(sheet, &directory) {
@@ -54,8 +54,8 @@ fn on_passed(
     res: &mut [i32],
     ev: &[i32],
 ) -> Answer
-    requires { (directory.now ≡ directoryOf sheet.now) × (checkOf sheet.now ≡ Passed) }
-    ensures { EventGives sheet.now (limitOf sheet.now) old.now res.old ev.now result res.new }
+    requires { (directory.now ≡ directory_of sheet.now) × (check_of sheet.now ≡ Passed) }
+    ensures { EventGives sheet.now (limit_of sheet.now) old.now res.old ev.now result res.new }
 {
     let mut cells = [0usize; LAYOUT];
     let count = engine_cells::fill(sheet, directory, &mut cells);
@@ -80,14 +80,14 @@ fn on_passed(
 // Start on a passed sheet.
 pub fn begin(sheet: &[u8], directory: &Directory, cells: &CellLayout, st: &mut [i32]) -> Answer
     requires { Lent sheet.now directory.now cells.now st.old }
-    ensures { StartGives sheet.now (limitOf sheet.now) st.old result st.new }
+    ensures { StartGives sheet.now (limit_of sheet.now) st.old result st.new }
 {
     engine_starts::from_defaults(sheet, directory, cells, st)
 }
 
 // Start on any sheet and state.
 pub fn start(sheet: &[u8], res: &mut [i32]) -> Answer
-    ensures { StartGives sheet.now (limitOf sheet.now) res.old result res.new }
+    ensures { StartGives sheet.now (limit_of sheet.now) res.old result res.new }
 {
     let directory = sheet_reader::directory(sheet);
     match checker::check_opened(sheet, &directory) {
@@ -98,8 +98,8 @@ pub fn start(sheet: &[u8], res: &mut [i32]) -> Answer
 }
 
 fn start_passed(sheet: &[u8], directory: &Directory, res: &mut [i32]) -> Answer
-    requires { (directory.now ≡ directoryOf sheet.now) × (checkOf sheet.now ≡ Passed) }
-    ensures { StartGives sheet.now (limitOf sheet.now) res.old result res.new }
+    requires { (directory.now ≡ directory_of sheet.now) × (check_of sheet.now ≡ Passed) }
+    ensures { StartGives sheet.now (limit_of sheet.now) res.old result res.new }
 {
     let mut cells = [0usize; LAYOUT];
     let count = engine_cells::fill(sheet, directory, &mut cells);

@@ -1,14 +1,14 @@
 // Answers of a list in words: eleven for each.
 ghost use Rattle.std.specs.Prelude.{◌+◌, ◌<◌, ◌≤◌, ◌≡◌, length};
-ghost use Rattle.machine.specs.State.{word_of, putWords};
-ghost use Rattle.machine_lists.specs.Words.{wordsOfAnswer, answerWords, numberBelow, handedIn, answer_in};
+ghost use Rattle.machine.specs.State.{word_of, put_words};
+ghost use Rattle.machine_lists.specs.Words.{words_of_answer, answer_words, number_below, handed_in, answer_in};
 
 use machine::{Answer, Handed};
 
 // An answer in eleven words.
 pub fn put_answer(answers: &mut [i32], at: usize, a: Answer)
-    requires { (at + wordsOfAnswer ≤ length answers.old) × (a.steps < 2147483648) }
-    ensures { answers.new ≡ putWords answers.old at (answerWords a) }
+    requires { (at + words_of_answer ≤ length answers.old) × (a.steps < 2147483648) }
+    ensures { answers.new ≡ put_words answers.old at (answer_words a) }
 {
     answers[at] = a.number as i32;
     answers[at + 1] = a.steps as i32;
@@ -34,7 +34,7 @@ pub fn put_answer(answers: &mut [i32], at: usize, a: Answer)
 // A word as a number below `end`. What `put_answer` put is one; any other word is 0.
 fn number_below(answers: &[i32], at: usize, end: usize) -> usize
     requires { (at < length answers.now) × (0 < end) }
-    ensures { (result ≡ numberBelow end (word_of answers.now at)) × (result < end) }
+    ensures { (result ≡ number_below end (word_of answers.now at)) × (result < end) }
 {
     if engine_valid_words::below_at(answers, at, end) {
         return engine_valid_words::number_at(answers, at);
@@ -45,7 +45,7 @@ fn number_below(answers: &[i32], at: usize, end: usize) -> usize
 // What an answer handed outside, by the last eight of its words.
 fn handed_at(answers: &[i32], at: usize) -> Handed
     requires { at + 8 ≤ length answers.now }
-    ensures { result ≡ handedIn answers.now at }
+    ensures { result ≡ handed_in answers.now at }
 {
     if engine_valid_words::zero_at(answers, at) {
         return Handed::Nothing;
@@ -55,7 +55,7 @@ fn handed_at(answers: &[i32], at: usize) -> Handed
 
 // An answer from its eleven words.
 pub fn answer_at(answers: &[i32], at: usize) -> Answer
-    requires { at + wordsOfAnswer ≤ length answers.now }
+    requires { at + words_of_answer ≤ length answers.now }
     ensures { result ≡ answer_in answers.now at }
 {
     let number = number_below(answers, at, 256);

@@ -2,13 +2,13 @@
 ghost use Rattle.std.specs.Prelude.{◌≡◌, List, ℕ, suc, ℤ};
 ghost use Rattle.sheet.specs.declared.Found.TheVariants.{Present};
 ghost use Rattle.sheet.specs.Names.{names};
-ghost use Rattle.sheet.specs.Sheet.{directoryOf, recordOf};
-ghost use Rattle.sheet_rules.specs.Forms.{arm, clockAct};
-ghost use Rattle.sheet_rules.specs.Types.{clockOf};
+ghost use Rattle.sheet.specs.Sheet.{directory_of, record_of};
+ghost use Rattle.sheet_rules.specs.Forms.{arm, clock_act};
+ghost use Rattle.sheet_rules.specs.Types.{clock_of};
 ghost use Rattle.machine.specs.Run.{world, run_of};
-ghost use Rattle.engine_ready.specs.Ready.{contextAt, Lies};
+ghost use Rattle.engine_ready.specs.Ready.{context_at, Lies};
 ghost use Rattle.engine_data.specs.Visit.{Visit};
-ghost use Rattle.engine_arming.specs.Armed.{armedValue, armedWith};
+ghost use Rattle.engine_arming.specs.Armed.{armed_value, armed_with};
 
 use engine_context::{Frame, Locals};
 use engine_ints::Work;
@@ -17,7 +17,7 @@ use sheet::{Directory, Found, NAMES, Range, Record};
 
 // "Arming a Timeout sets its value to the period, a Cycler's to 0"
 fn first_value(op: u16, period: i32) -> i32
-    ensures { result ≡ armedValue (clockOf op) period }
+    ensures { result ≡ armed_value (clock_of op) period }
 {
     if op == 36 { period } else { 0 }
 }
@@ -35,8 +35,8 @@ fn arm_with(
     period: i32,
     left: u32,
 ) -> Ran
-    requires { (directory.now ≡ directoryOf sheet.now) × Visit sheet.now context.now st.old lo.now n r arm × (recordOf sheet.now names r.f3 ≡ Present a) }
-    ensures { world result st.new lo.now ≡ armedWith sheet.now context.now st.old lo.now r a period left }
+    requires { (directory.now ≡ directory_of sheet.now) × Visit sheet.now context.now st.old lo.now n r arm × (record_of sheet.now names r.f3 ≡ Present a) }
+    ensures { world result st.new lo.now ≡ armed_with sheet.now context.now st.old lo.now r a period left }
 {
     let mut d = [0i32; DATA];
     let g = Range {
@@ -75,8 +75,8 @@ pub fn arming(
     r: Record,
     left: u32,
 ) -> Ran
-    requires { (directory.now ≡ directoryOf sheet.now) × Visit sheet.now context.now st.old lo.now n r arm }
-    ensures { (depth : ℕ) → world result st.new lo.now ≡ run_of sheet.now depth (contextAt sheet.now context.now) n (suc left) st.old lo.now }
+    requires { (directory.now ≡ directory_of sheet.now) × Visit sheet.now context.now st.old lo.now n r arm }
+    ensures { (depth : ℕ) → world result st.new lo.now ≡ run_of sheet.now depth (context_at sheet.now context.now) n (suc left) st.old lo.now }
 {
     let Found::Present(a) = sheet_reader::read(sheet, directory, NAMES, r.f3 as usize) else {
         return Ran::Stuck;
@@ -94,7 +94,7 @@ pub fn arming(
 // "38 start Timer, 39 stop any clock"
 pub fn clock(context: &Frame, st: &mut [i32], r: Record, left: u32) -> Ran
     requires { Lies context.now st.old r.f1 }
-    ensures { (s : List ℕ) (lo : List ℤ) (n depth : ℕ) → Visit s context.now st.old lo n r clockAct → world result st.new lo ≡ run_of s depth (contextAt s context.now) n (suc left) st.old lo }
+    ensures { (s : List ℕ) (lo : List ℤ) (n depth : ℕ) → Visit s context.now st.old lo n r clock_act → world result st.new lo ≡ run_of s depth (context_at s context.now) n (suc left) st.old lo }
 {
     let running = engine_ints::bool_word(r.f0 == 38);
     engine_store::set_cell(

@@ -1,12 +1,12 @@
 // Values assigned to variables and to elements of arrays.
 ghost use Rattle.std.specs.Prelude.{◌≡◌, List, ℕ, suc, ◌<◌, length, ℤ};
-ghost use Rattle.sheet.specs.Sheet.{directoryOf};
-ghost use Rattle.sheet_rules.specs.Forms.{assign, assignElement};
+ghost use Rattle.sheet.specs.Sheet.{directory_of};
+ghost use Rattle.sheet_rules.specs.Forms.{assign, assign_element};
 ghost use Rattle.machine.specs.State.{cell_at};
-ghost use Rattle.machine.specs.Eval.{Context, variableAtCell};
+ghost use Rattle.machine.specs.Eval.{Context, variable_at_cell};
 ghost use Rattle.machine.specs.Run.{world, assigned, run_of};
-ghost use Rattle.engine_context.specs.Context.{cellIn, leadsTo};
-ghost use Rattle.engine_ready.specs.Ready.{contextAt, Lies, Reaches};
+ghost use Rattle.engine_context.specs.Context.{cell_in, leads_to};
+ghost use Rattle.engine_ready.specs.Ready.{context_at, Lies, Reaches};
 ghost use Rattle.engine_ready.specs.Words.{put_at};
 ghost use Rattle.engine_data.specs.Visit.{Visit};
 
@@ -26,7 +26,7 @@ fn put(
     left: u32,
 ) -> Ran
     requires { (length lo.old ≡ 16) × (place ≡ 1 → Lies context.now st.old number) × (place ≡ 2 → number < 16) }
-    ensures { (length lo.new ≡ 16) × ((s : List ℕ) (x : Context) → (place ≡ 1 → variableAtCell s x number 0 ≡ cell_at (cellIn context.now number)) → world result st.new lo.new ≡ assigned s x place number z left st.old lo.old) }
+    ensures { (length lo.new ≡ 16) × ((s : List ℕ) (x : Context) → (place ≡ 1 → variable_at_cell s x number 0 ≡ cell_at (cell_in context.now number)) → world result st.new lo.new ≡ assigned s x place number z left st.old lo.old) }
 {
     match place {
         1 => {
@@ -52,8 +52,8 @@ pub fn assign(
     r: Record,
     left: u32,
 ) -> Ran
-    requires { (directory.now ≡ directoryOf sheet.now) × Visit sheet.now context.now st.old lo.old n r assign }
-    ensures { (length lo.new ≡ 16) × ((depth : ℕ) → world result st.new lo.new ≡ run_of sheet.now depth (contextAt sheet.now context.now) n (suc left) st.old lo.old) }
+    requires { (directory.now ≡ directory_of sheet.now) × Visit sheet.now context.now st.old lo.old n r assign }
+    ensures { (length lo.new ≡ 16) × ((depth : ℕ) → world result st.new lo.new ≡ run_of sheet.now depth (context_at sheet.now context.now) n (suc left) st.old lo.old) }
 {
     let x = engine_expressions::eval(sheet, directory, context, st, lo, r.f3 as usize, left);
     match x {
@@ -66,7 +66,7 @@ pub fn assign(
 // A value to the element of array n at index i; "11, index outside its number".
 fn put_element(context: &Frame, st: &mut [i32], n: usize, i: i32, z: i32, left: u32) -> Ran
     requires { Reaches context.now st.old n }
-    ensures { (lo : List ℤ) → world result st.new lo ≡ put_at (leadsTo context.now n i) z left st.old lo }
+    ensures { (lo : List ℤ) → world result st.new lo ≡ put_at (leads_to context.now n i) z left st.old lo }
 {
     let p = engine_context::element_word(context, n, i);
     match p {
@@ -89,8 +89,8 @@ pub fn assign_element(
     r: Record,
     left: u32,
 ) -> Ran
-    requires { (directory.now ≡ directoryOf sheet.now) × Visit sheet.now context.now st.old lo.now n r assignElement }
-    ensures { (depth : ℕ) → world result st.new lo.now ≡ run_of sheet.now depth (contextAt sheet.now context.now) n (suc left) st.old lo.now }
+    requires { (directory.now ≡ directory_of sheet.now) × Visit sheet.now context.now st.old lo.now n r assign_element }
+    ensures { (depth : ℕ) → world result st.new lo.now ≡ run_of sheet.now depth (context_at sheet.now context.now) n (suc left) st.old lo.now }
 {
     let index = engine_expressions::eval(sheet, directory, context, st, lo, r.f2 as usize, left);
     match index {

@@ -1,8 +1,8 @@
 // Runs a body of an element, for start and for events.
 ghost use Rattle.std.specs.Prelude.{◌≡◌, length};
 ghost use Rattle.sheet.specs.Names.{bodies};
-ghost use Rattle.sheet.specs.Sheet.{recordOf};
-ghost use Rattle.machine.specs.Play.{ended, limitOf, ranBody, bodyEvent};
+ghost use Rattle.sheet.specs.Sheet.{record_of};
+ghost use Rattle.machine.specs.Play.{ended, limit_of, ran_body, body_event};
 ghost use Rattle.engine_bodies.specs.Bodies.{ToRun};
 
 use engine_cells::{CellLayout, FIRST_RECORD, ROW};
@@ -22,8 +22,8 @@ pub fn run_body(
     d: &Data,
     limit: u32,
 ) -> Ran
-    requires { ToRun sheet.now directory.now cells.now st.old e n c number d.now × (limit ≡ limitOf sheet.now) }
-    ensures { (result ≡ (ranBody sheet.now (limitOf sheet.now) e (recordOf sheet.now bodies number) d.now st.old).ran) × (st.new ≡ (ranBody sheet.now (limitOf sheet.now) e (recordOf sheet.now bodies number) d.now st.old).st) }
+    requires { ToRun sheet.now directory.now cells.now st.old e n c number d.now × (limit ≡ limit_of sheet.now) }
+    ensures { (result ≡ (ran_body sheet.now (limit_of sheet.now) e (record_of sheet.now bodies number) d.now st.old).ran) × (st.new ≡ (ran_body sheet.now (limit_of sheet.now) e (record_of sheet.now bodies number) d.now st.old).st) }
 {
     let i = e - sheet_fields::field_at(sheet, directory, HEAD, 0, 1);
     let k = cells[ROW * i + FIRST_RECORD];
@@ -59,7 +59,7 @@ pub fn event_body(
     d: &Data,
 ) -> Answer
     requires { ToRun sheet.now directory.now cells.now st.old e n c number d.now × (length old.now ≡ length st.old) }
-    ensures { ended result st.new ≡ bodyEvent sheet.now (limitOf sheet.now) old.now e (recordOf sheet.now bodies number) d.now st.old }
+    ensures { ended result st.new ≡ body_event sheet.now (limit_of sheet.now) old.now e (record_of sheet.now bodies number) d.now st.old }
 {
     let limit = engine_limit::limit(sheet, directory);
     let r = run_body(sheet, directory, cells, st, e, n, c, number, d, limit);

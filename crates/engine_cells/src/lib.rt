@@ -1,14 +1,14 @@
 // Where the cells of every element's variables begin and where its binding stands: a table, filled once
 // for a call or a list.
 ghost use Rattle.std.specs.Prelude.{◌≡◌, true, ◌+◌, ◌<◌, ◌≤◌, length};
-ghost use Rattle.sheet.specs.Names.{chartVariables, charts};
-ghost use Rattle.sheet.specs.Sheet.{directoryOf, recordOf};
+ghost use Rattle.sheet.specs.Names.{chart_variables, charts};
+ghost use Rattle.sheet.specs.Sheet.{directory_of, record_of};
 ghost use Rattle.sheet_rules.specs.declared.Checked.TheVariants.{Passed};
-ghost use Rattle.sheet_rules.specs.Fields.{elementsOf};
-ghost use Rattle.sheet_rules.specs.Indices.{cellsBefore};
+ghost use Rattle.sheet_rules.specs.Fields.{elements_of};
+ghost use Rattle.sheet_rules.specs.Indices.{cells_before};
 ghost use Rattle.sheet_rules.specs.Shape.{cells_of};
-ghost use Rattle.sheet_rules.specs.Check.{checkOf};
-ghost use Rattle.machine.specs.Values.{isBound, chartOf};
+ghost use Rattle.sheet_rules.specs.Check.{check_of};
+ghost use Rattle.machine.specs.Values.{is_bound, chart_of};
 ghost use Rattle.engine_cells.specs.Cells.{CellTable, Row};
 
 use sheet::{BINDINGS, CHARTS, Directory, Found, HEAD, Record};
@@ -27,8 +27,8 @@ pub type CellLayout = [usize; LAYOUT];
 
 // How many bound elements there are.
 pub fn elements(sheet: &[u8], directory: &Directory) -> usize
-    requires { (directory.now ≡ directoryOf sheet.now) × (checkOf sheet.now ≡ Passed) }
-    ensures { (result ≡ elementsOf sheet.now) × (result < 64) }
+    requires { (directory.now ≡ directory_of sheet.now) × (check_of sheet.now ≡ Passed) }
+    ensures { (result ≡ elements_of sheet.now) × (result < 64) }
 {
     let components = sheet_fields::field_at(sheet, directory, HEAD, 0, 0);
     components - sheet_fields::field_at(sheet, directory, HEAD, 0, 1)
@@ -36,8 +36,8 @@ pub fn elements(sheet: &[u8], directory: &Directory) -> usize
 
 // The number of bound element e's chart, which the first record of its row names.
 pub fn chart_number(sheet: &[u8], directory: &Directory, cells: &CellLayout, e: usize) -> usize
-    requires { (directory.now ≡ directoryOf sheet.now) × (checkOf sheet.now ≡ Passed) × CellTable sheet.now cells.now × (isBound sheet.now e ≡ true) }
-    ensures { recordOf sheet.now charts result ≡ chartOf sheet.now e }
+    requires { (directory.now ≡ directory_of sheet.now) × (check_of sheet.now ≡ Passed) × CellTable sheet.now cells.now × (is_bound sheet.now e ≡ true) }
+    ensures { record_of sheet.now charts result ≡ chart_of sheet.now e }
 {
     let i = e - sheet_fields::field_at(sheet, directory, HEAD, 0, 1);
     sheet_fields::field_at(sheet, directory, BINDINGS, cells[ROW * i + FIRST_RECORD], 0)
@@ -45,8 +45,8 @@ pub fn chart_number(sheet: &[u8], directory: &Directory, cells: &CellLayout, e: 
 
 // The chart of bound element e, by its row.
 pub fn chart_of(sheet: &[u8], directory: &Directory, cells: &CellLayout, e: usize) -> Found
-    requires { (directory.now ≡ directoryOf sheet.now) × (checkOf sheet.now ≡ Passed) × CellTable sheet.now cells.now × (isBound sheet.now e ≡ true) }
-    ensures { result ≡ chartOf sheet.now e }
+    requires { (directory.now ≡ directory_of sheet.now) × (check_of sheet.now ≡ Passed) × CellTable sheet.now cells.now × (is_bound sheet.now e ≡ true) }
+    ensures { result ≡ chart_of sheet.now e }
 {
     let n = chart_number(sheet, directory, cells, e);
     sheet_reader::read(sheet, directory, CHARTS, n)
@@ -62,8 +62,8 @@ fn fill_row(
     at: usize,
     cell: usize,
 ) -> usize
-    requires { (directory.now ≡ directoryOf sheet.now) × (length cells.old ≡ 2176) × ((chartVariables c).count ≤ 32) × (at + 34 ≤ 2176) × (cell + cellsBefore sheet.now c (chartVariables c).count ≤ 512) }
-    ensures { (result ≡ cell + cellsBefore sheet.now c (chartVariables c).count) × Row sheet.now c at cell ((chartVariables c).count + 1) cells.old cells.new }
+    requires { (directory.now ≡ directory_of sheet.now) × (length cells.old ≡ 2176) × ((chart_variables c).count ≤ 32) × (at + 34 ≤ 2176) × (cell + cells_before sheet.now c (chart_variables c).count ≤ 512) }
+    ensures { (result ≡ cell + cells_before sheet.now c (chart_variables c).count) × Row sheet.now c at cell ((chart_variables c).count + 1) cells.old cells.new }
 {
     let count = c.f3 as usize;
     let mut next = cell;
@@ -81,7 +81,7 @@ fn fill_row(
 // Fills the table, and gives how many cells there are. A passed sheet has at most 64 components. Each
 // element's records stand behind those of the elements before it.
 pub fn fill(sheet: &[u8], directory: &Directory, cells: &mut CellLayout) -> usize
-    requires { (directory.now ≡ directoryOf sheet.now) × (checkOf sheet.now ≡ Passed) × (length cells.old ≡ 2176) }
+    requires { (directory.now ≡ directory_of sheet.now) × (check_of sheet.now ≡ Passed) × (length cells.old ≡ 2176) }
     ensures { (result ≡ cells_of sheet.now) × CellTable sheet.now cells.new }
 {
     let count = elements(sheet, directory);

@@ -9,39 +9,39 @@ use lib.ListN.{length}
 use lib.Dec.{leb, eqb}
 use lib.IntN.{ℤ}
 use borrow.Author.Tests.{le-leb, lt-leb}
-use Rattle.sheet_rules.specs.Fields.{oneIf, sumBelow, countBelow}
+use Rattle.sheet_rules.specs.Fields.{one_if, sum_below, count_below}
 use Rattle.sheet_rules.proofs.Fields.{sum_more}
 use Rattle.sheet_rules.proofs.Sums.{count-on}
 use Rattle.machine.specs.declared.Telegram.{Telegram}
-use Rattle.machine.specs.State.{places, stateLength, waiting, telegramIn, telegramOf, isInternal, class_of, sameClass, waitingLike, classLimit}
+use Rattle.machine.specs.State.{places, state_length, waiting, telegram_in, telegram_of, is_internal, class_of, same_class, waiting_like, class_limit}
 use Rattle.machine_states.proofs.Classes.{class-inside, class-outside}
 use Rattle.engine_store.specs.Layout.{shortest, place_in}
-use Rattle.engine_store.proofs.Lies.{place-in}
+use Rattle.engine_store.proofs.Lies.{place_in_lem}
 
 -- ---- telegrams of a class
 
 module _ (t u : Telegram) where
-  pub both-inside : isInternal t ≡ true → isInternal u ≡ eqb (class_of t) (class_of u)
-  both-inside q = go (isInternal u) refl
+  pub both-inside : is_internal t ≡ true → is_internal u ≡ eqb (class_of t) (class_of u)
+  both-inside q = go (is_internal u) refl
     where
-      go : (b : Bool) → isInternal u ≡ b → isInternal u ≡ eqb (class_of t) (class_of u)
+      go : (b : Bool) → is_internal u ≡ b → is_internal u ≡ eqb (class_of t) (class_of u)
       go true r = rw (class-inside t q, class-inside u r) r
       go false r = rw (class-inside t q, class-outside u r) r
 
-  pub both-outside : isInternal t ≡ false → not (isInternal u) ≡ eqb (class_of t) (class_of u)
-  both-outside q = go (isInternal u) refl
+  pub both-outside : is_internal t ≡ false → not (is_internal u) ≡ eqb (class_of t) (class_of u)
+  both-outside q = go (is_internal u) refl
     where
-      go : (b : Bool) → isInternal u ≡ b → not (isInternal u) ≡ eqb (class_of t) (class_of u)
+      go : (b : Bool) → is_internal u ≡ b → not (is_internal u) ≡ eqb (class_of t) (class_of u)
       go true r = rw (class-outside t q, class-inside u r) (ap not r)
       go false r = rw (class-outside t q, class-outside u r) (ap not r)
 
 -- how many of the first j are of t's class
-abbrev likeBelow : List ℕ → List ℤ → Telegram → ℕ → ℕ
-likeBelow s st t j = countBelow j (λ i. sameClass t (telegramOf s st i))
+abbrev like_below : List ℕ → List ℤ → Telegram → ℕ → ℕ
+like_below s st t j = count_below j (λ i. same_class t (telegram_of s st i))
 
-like-more : (s : List ℕ) (st : List ℤ) (t : Telegram) (j : ℕ) → likeBelow s st t (j + 1) ≡ likeBelow s st t j + oneIf (sameClass t (telegramOf s st j))
-unfolding countBelow
-like-more s st t j = sum_more j (λ i. oneIf (sameClass t (telegramOf s st i)))
+like_more : (s : List ℕ) (st : List ℤ) (t : Telegram) (j : ℕ) → like_below s st t (j + 1) ≡ like_below s st t j + one_if (same_class t (telegram_of s st j))
+unfolding count_below
+like_more s st t j = sum_more j (λ i. one_if (same_class t (telegram_of s st i)))
 
 -- of n telegrams those before `at` are looked at; from `last` on as many are left as a full class still needs
 pub record Looked (st : List ℤ) (n : ℕ) (t : Telegram) (last at : ℕ) : Type 0 where
@@ -50,65 +50,65 @@ pub record Looked (st : List ℤ) (n : ℕ) (t : Telegram) (last at : ℕ) : Typ
   pub here : at ≡ place_in (length st) seen
   pub inside : seen ≤ n
   pub some : 1 ≤ need
-  pub most : need ≤ classLimit
+  pub most : need ≤ class_limit
   pub behind : last + 8 * need ≡ place_in (length st) n
-  pub like : (s : List ℕ) → length st ≡ stateLength s → need + likeBelow s st t seen ≡ classLimit
+  pub like : (s : List ℕ) → length st ≡ state_length s → need + like_below s st t seen ≡ class_limit
 
 module _ (st : List ℤ) (n : ℕ) (e : n ≡ waiting st) (fits : n ≤ places) (long : shortest ≤ length st) (t : Telegram) where
   abbrev end : ℕ
   end = place_in (length st) n
 
   abbrev Full : Bool → Type 0
-  Full b = (s : List ℕ) → length st ≡ stateLength s → b ≡ leb classLimit (waitingLike s st t)
+  Full b = (s : List ℕ) → length st ≡ state_length s → b ≡ leb class_limit (waiting_like s st t)
 
-  pub looked-none : classLimit ≤ n → (last at : ℕ) → last ≡ place_in (length st) (n - classLimit) → at ≡ place_in (length st) 0 → Looked st n t last at
-  unfolding countBelow sumBelow
-  looked-none h last at l a = record { seen = 0; need = classLimit; here = a; inside = omega arith; some = omega arith; most = omega arith; behind = omega arith; like = λ s w. refl }
+  pub looked_none : class_limit ≤ n → (last at : ℕ) → last ≡ place_in (length st) (n - class_limit) → at ≡ place_in (length st) 0 → Looked st n t last at
+  unfolding count_below sum_below
+  looked_none h last at l a = record { seen = 0; need = class_limit; here = a; inside = omega arith; some = omega arith; most = omega arith; behind = omega arith; like = λ s w. refl }
 
   pub end-inside : end ≤ length st
   end-inside = omega arith
 
   -- there are too few
-  pub class-few : n < classLimit → Full false
-  unfolding waitingLike countBelow sumBelow
-  class-few h s w = sym (lt-leb classLimit (likeBelow s st t (waiting st)) (let c = count-on (λ i. sameClass t (telegramOf s st i)) 0 (waiting st) (omega arith) in omega (arith, c.1)))
+  pub class-few : n < class_limit → Full false
+  unfolding waiting_like count_below sum_below
+  class-few h s w = sym (lt-leb class_limit (like_below s st t (waiting st)) (let c = count-on (λ i. same_class t (telegram_of s st i)) 0 (waiting st) (omega arith) in omega (arith, c.1)))
 
   module _ (last at : ℕ) (k : Looked st n t last at) where
     -- behind `last` there are too few
-    pub looked-few : last < at → Full false
-    unfolding waitingLike
-    looked-few h s w = sym (lt-leb classLimit (likeBelow s st t (waiting st)) (let c = count-on (λ i. sameClass t (telegramOf s st i)) k.seen (waiting st) (omega (arith, k.inside)) in omega (arith, c.1, k.here, k.behind, k.like s w)))
+    pub looked_few : last < at → Full false
+    unfolding waiting_like
+    looked_few h s w = sym (lt-leb class_limit (like_below s st t (waiting st)) (let c = count-on (λ i. same_class t (telegram_of s st i)) k.seen (waiting st) (omega (arith, k.inside)) in omega (arith, c.1, k.here, k.behind, k.like s w)))
 
     module _ (h : at ≤ last) where
-      pub looked-inside : at + 8 ≤ end
-      looked-inside = omega (arith, k.some, k.behind)
+      pub looked_inside : at + 8 ≤ end
+      looked_inside = omega (arith, k.some, k.behind)
 
       next_here : at + 8 ≡ place_in (length st) (k.seen + 1)
       next_here = omega (arith, k.here)
 
-      next-inside : k.seen + 1 ≤ n
-      next-inside = omega (arith, k.here, k.behind, k.some)
+      next_inside : k.seen + 1 ≤ n
+      next_inside = omega (arith, k.here, k.behind, k.some)
 
-      this : (s : List ℕ) → length st ≡ stateLength s → telegramOf s st k.seen ≡ telegramIn st at
-      unfolding telegramOf
-      this s w = ap (telegramIn st) (sym (k.here ∙ place-in s (length st) k.seen w))
+      this : (s : List ℕ) → length st ≡ state_length s → telegram_of s st k.seen ≡ telegram_in st at
+      unfolding telegram_of
+      this s w = ap (telegram_in st) (sym (k.here ∙ place_in_lem s (length st) k.seen w))
 
-      module _ (q : sameClass t (telegramIn st at) ≡ true) where
-        one_more : (s : List ℕ) → length st ≡ stateLength s → likeBelow s st t (k.seen + 1) ≡ likeBelow s st t k.seen + 1
-        one_more s w = like-more s st t k.seen ∙ ap (λ b. likeBelow s st t k.seen + oneIf b) (ap (sameClass t) (this s w) ∙ q)
+      module _ (q : same_class t (telegram_in st at) ≡ true) where
+        one_more : (s : List ℕ) → length st ≡ state_length s → like_below s st t (k.seen + 1) ≡ like_below s st t k.seen + 1
+        one_more s w = like_more s st t k.seen ∙ ap (λ b. like_below s st t k.seen + one_if b) (ap (same_class t) (this s w) ∙ q)
 
-        pub looked-found : (last + 8 ≡ end → ⊥) → Looked st n t (last + 8) (at + 8)
-        looked-found d = record { seen = k.seen + 1; need = k.need - 1; here = next_here; inside = next-inside; some = left; most = omega (arith, k.most); behind = omega (arith, k.behind, k.some); like = λ s w. omega (arith, k.like s w, one_more s w, k.some) }
+        pub looked_found : (last + 8 ≡ end → ⊥) → Looked st n t (last + 8) (at + 8)
+        looked_found d = record { seen = k.seen + 1; need = k.need - 1; here = next_here; inside = next_inside; some = left; most = omega (arith, k.most); behind = omega (arith, k.behind, k.some); like = λ s w. omega (arith, k.like s w, one_more s w, k.some) }
           where
             left : 1 ≤ k.need - 1
             left = elim (ℕ_discrete k.need 1) [ yes z ↦ absurd (d (omega (arith, k.behind))) | no z ↦ omega (arith, k.some) ]
 
-        pub looked-full : last + 8 ≡ end → Full true
-        unfolding waitingLike
-        looked-full d s w = sym (le-leb classLimit (likeBelow s st t (waiting st)) (let c = count-on (λ i. sameClass t (telegramOf s st i)) (k.seen + 1) (waiting st) (omega (arith, next-inside)) in omega (arith, c.0, k.behind, k.like s w, one_more s w)))
+        pub looked_full : last + 8 ≡ end → Full true
+        unfolding waiting_like
+        looked_full d s w = sym (le-leb class_limit (like_below s st t (waiting st)) (let c = count-on (λ i. same_class t (telegram_of s st i)) (k.seen + 1) (waiting st) (omega (arith, next_inside)) in omega (arith, c.0, k.behind, k.like s w, one_more s w)))
 
-      pub looked-passed : sameClass t (telegramIn st at) ≡ false → Looked st n t last (at + 8)
-      looked-passed q = record { seen = k.seen + 1; need = k.need; here = next_here; inside = next-inside; some = k.some; most = k.most; behind = k.behind; like = λ s w. omega (arith, k.like s w, none_more s w) }
+      pub looked_passed : same_class t (telegram_in st at) ≡ false → Looked st n t last (at + 8)
+      looked_passed q = record { seen = k.seen + 1; need = k.need; here = next_here; inside = next_inside; some = k.some; most = k.most; behind = k.behind; like = λ s w. omega (arith, k.like s w, none_more s w) }
         where
-          none_more : (s : List ℕ) → length st ≡ stateLength s → likeBelow s st t (k.seen + 1) ≡ likeBelow s st t k.seen + 0
-          none_more s w = like-more s st t k.seen ∙ ap (λ b. likeBelow s st t k.seen + oneIf b) (ap (sameClass t) (this s w) ∙ q)
+          none_more : (s : List ℕ) → length st ≡ state_length s → like_below s st t (k.seen + 1) ≡ like_below s st t k.seen + 0
+          none_more s w = like_more s st t k.seen ∙ ap (λ b. like_below s st t k.seen + one_if b) (ap (same_class t) (this s w) ∙ q)

@@ -1,6 +1,6 @@
 // Whether a class of telegrams is full.
 ghost use Rattle.std.specs.Prelude.{◌≡◌, List, ℕ, ◌+◌, ◌≤◌, length, leb};
-ghost use Rattle.machine.specs.State.{places, stateLength, waiting, telegramIn, sameClass, waitingLike, classLimit};
+ghost use Rattle.machine.specs.State.{places, state_length, waiting, telegram_in, same_class, waiting_like, class_limit};
 ghost use Rattle.engine_store.specs.Layout.{shortest};
 
 use machine::Telegram;
@@ -11,7 +11,7 @@ pub const CLASS_LIMIT: usize = 16;
 // Whether the telegram there has t's sender, receiver and class.
 fn same_class(st: &[i32], at: usize, t: Telegram) -> bool
     requires { at + 8 ≤ length st.now }
-    ensures { result ≡ sameClass t (telegramIn st.now at) }
+    ensures { result ≡ same_class t (telegram_in st.now at) }
 {
     if t.sender != st[at] {
         return false;
@@ -29,7 +29,7 @@ fn same_class(st: &[i32], at: usize, t: Telegram) -> bool
 // it still needs, so that behind it there is nothing to find; each one that is found moves it on.
 pub fn class_full(st: &[i32], n: usize, t: Telegram) -> bool
     requires { (n ≡ waiting st.now) × (n ≤ places) × (shortest ≤ length st.now) }
-    ensures { (s : List ℕ) → length st.now ≡ stateLength s → result ≡ leb classLimit (waitingLike s st.now t) }
+    ensures { (s : List ℕ) → length st.now ≡ state_length s → result ≡ leb class_limit (waiting_like s st.now t) }
 {
     if n < CLASS_LIMIT {
         return false;

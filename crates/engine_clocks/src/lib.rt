@@ -1,15 +1,15 @@
 // A time slice: clocks in state order, one pass.
 ghost use Rattle.std.specs.Prelude.{◌≡◌, ℕ, ◌+◌, ◌<◌, ◌≤◌, get_or};
-ghost use Rattle.sheet.specs.Names.{chartVariables};
-ghost use Rattle.sheet.specs.Sheet.{directoryOf};
-ghost use Rattle.sheet_rules.specs.Fields.{type_at, externalsOf, elementsOf};
-ghost use Rattle.sheet_rules.specs.Indices.{cellsBefore};
+ghost use Rattle.sheet.specs.Names.{chart_variables};
+ghost use Rattle.sheet.specs.Sheet.{directory_of};
+ghost use Rattle.sheet_rules.specs.Fields.{type_at, externals_of, elements_of};
+ghost use Rattle.sheet_rules.specs.Indices.{cells_before};
 ghost use Rattle.sheet_rules.specs.Shape.{cells_of};
-ghost use Rattle.machine.specs.Values.{firstCell};
+ghost use Rattle.machine.specs.Values.{first_cell};
 ghost use Rattle.machine.specs.State.{cell_at};
-ghost use Rattle.machine.specs.Play.{slicedCell, slicedCells, slicedFrom};
+ghost use Rattle.machine.specs.Play.{sliced_cell, sliced_cells, sliced_from};
 ghost use Rattle.engine_cells.specs.Playing.{Playing};
-ghost use Rattle.engine_queue.specs.Changed.{changedTo};
+ghost use Rattle.engine_queue.specs.Changed.{changed_to};
 ghost use Rattle.engine_clocks.specs.Cells.{Cell, Cells};
 
 use engine_cells::{CellLayout, ROW};
@@ -24,8 +24,8 @@ fn slice_cell(
     d: usize,
     i: usize,
 ) -> u8
-    requires { (directory.now ≡ directoryOf sheet.now) × (e < 64) × (cells_of sheet.now ≤ 512) × Cell sheet.now e (type_at sheet.now d) st.old i }
-    ensures { slicedCell sheet.now e (type_at sheet.now d) (cell_at i) st.old ≡ changedTo result st.new }
+    requires { (directory.now ≡ directory_of sheet.now) × (e < 64) × (cells_of sheet.now ≤ 512) × Cell sheet.now e (type_at sheet.now d) st.old i }
+    ensures { sliced_cell sheet.now e (type_at sheet.now d) (cell_at i) st.old ≡ changed_to result st.new }
 {
     let at = engine_store::cell_at(i);
     if st[at] == 0 {
@@ -55,8 +55,8 @@ fn slice_cells(
     c: Record,
     row: usize,
 ) -> u8
-    requires { (directory.now ≡ directoryOf sheet.now) × (e < 64) × (row + (chartVariables c).count ≤ 2176) × (cells_of sheet.now ≤ 512) × Cells sheet.now e c st.old × ((n : ℕ) → n ≤ (chartVariables c).count → get_or cells.now (row + n) 0 ≡ firstCell sheet.now e + cellsBefore sheet.now c n) }
-    ensures { slicedCells sheet.now e (chartVariables c).count (chartVariables c).first (firstCell sheet.now e) st.old ≡ changedTo result st.new }
+    requires { (directory.now ≡ directory_of sheet.now) × (e < 64) × (row + (chart_variables c).count ≤ 2176) × (cells_of sheet.now ≤ 512) × Cells sheet.now e c st.old × ((n : ℕ) → n ≤ (chart_variables c).count → get_or cells.now (row + n) 0 ≡ first_cell sheet.now e + cells_before sheet.now c n) }
+    ensures { sliced_cells sheet.now e (chart_variables c).count (chart_variables c).first (first_cell sheet.now e) st.old ≡ changed_to result st.new }
 {
     let count = c.f3 as usize;
     let mut j: usize = 0;
@@ -73,7 +73,7 @@ fn slice_cells(
 // A slice: 0 with the state after it, or 6, 8 or 12 with a state that is of no use.
 pub fn slice(sheet: &[u8], directory: &Directory, cells: &CellLayout, st: &mut [i32]) -> u8
     requires { Playing sheet.now directory.now cells.now st.old }
-    ensures { slicedFrom sheet.now (elementsOf sheet.now) (externalsOf sheet.now) st.old ≡ changedTo result st.new }
+    ensures { sliced_from sheet.now (elements_of sheet.now) (externals_of sheet.now) st.old ≡ changed_to result st.new }
 {
     let first = sheet_fields::field_at(sheet, directory, HEAD, 0, 1);
     let count = engine_cells::elements(sheet, directory);

@@ -9,12 +9,12 @@ use lib.ListN.{length, get_or, set}
 use lib.Seq.{get_or-set_same, get_or-set_other}
 use lib.IntN.{ℤ, nat_abs}
 use borrow.Author.Tests.{not-true, not-false}
-use Rattle.sheet_rules.specs.Shape.{mostCells}
-use Rattle.machine.specs.Values.{isBelow}
+use Rattle.sheet_rules.specs.Shape.{most_cells}
+use Rattle.machine.specs.Values.{is_below}
 use Rattle.machine.specs.State.{cell_at}
-use Rattle.machine_states.proofs.Parts.{below-abs}
+use Rattle.machine_states.proofs.Parts.{below_abs}
 use Rattle.engine_context.specs.declared.Place.TheVariants.{At, Outside}
-use Rattle.engine_context.specs.Context.{cellIn, Spans, leadsTo}
+use Rattle.engine_context.specs.Context.{cell_in, Spans, leads_to}
 
 -- ---- the numbers: five, then its element's part of the table, of which n are copied
 
@@ -30,19 +30,19 @@ module _ (w : List ℕ) (n x : ℕ) where
 
 -- ---- an index, by the test that compares it
 
-module _ (w : List ℕ) (n : ℕ) (i : ℤ) (t : Bool) (test : t ≡ isBelow i (cellIn w (n + 1) - cellIn w n)) where
-  pub goes-outside : not t ≡ true → Outside ≡ leadsTo w n i
-  unfolding leadsTo
-  goes-outside h = rw (leadsTo, sym test ∙ not-true t h) refl
+module _ (w : List ℕ) (n : ℕ) (i : ℤ) (t : Bool) (test : t ≡ is_below i (cell_in w (n + 1) - cell_in w n)) where
+  pub goes_outside : not t ≡ true → Outside ≡ leads_to w n i
+  unfolding leads_to
+  goes_outside h = rw (leads_to, sym test ∙ not-true t h) refl
 
-  pub goes-below : not t ≡ false → isBelow i (cellIn w (n + 1) - cellIn w n) ≡ true
-  goes-below h = sym test ∙ not-false t h
+  pub goes_below : not t ≡ false → is_below i (cell_in w (n + 1) - cell_in w n) ≡ true
+  goes_below h = sym test ∙ not-false t h
 
   module _ (h : not t ≡ false) (k : ℕ) (e : k ≡ nat_abs i) where
-    pub goes-inside : (at : ℕ) → at ≡ cell_at (cellIn w n + k) → At at ≡ leadsTo w n i
-    unfolding leadsTo
-    goes-inside at q = ap At (q ∙ ap (λ (k : ℕ). cell_at (cellIn w n + k)) e) ∙ rw (leadsTo, goes-below h) refl
+    pub goes_inside : (at : ℕ) → at ≡ cell_at (cell_in w n + k) → At at ≡ leads_to w n i
+    unfolding leads_to
+    goes_inside at q = ap At (q ∙ ap (λ (k : ℕ). cell_at (cell_in w n + k)) e) ∙ rw (leads_to, goes_below h) refl
 
     -- the cell is one of the few
-    pub goes-few : Spans w n → cellIn w n + k ≤ mostCells
-    goes-few l = omega (arith, below-abs i (cellIn w (n + 1) - cellIn w n) (goes-below h), l.rise, l.few)
+    pub goes_few : Spans w n → cell_in w n + k ≤ most_cells
+    goes_few l = omega (arith, below_abs i (cell_in w (n + 1) - cell_in w n) (goes_below h), l.rise, l.few)

@@ -2,7 +2,7 @@
 ghost use Rattle.std.specs.Prelude.{◌≡◌, ℕ, ◌+◌, ◌*◌, ◌<◌, ◌≤◌, length, get_or};
 ghost use Rattle.machine.specs.State.{cell_at};
 ghost use Rattle.engine_store.specs.Layout.{longest};
-ghost use Rattle.engine_context.specs.Context.{elementIn, bindingIn, chartIn, firstBodyIn, bodyIn, cellIn, Spans, leadsTo};
+ghost use Rattle.engine_context.specs.Context.{element_in, binding_in, chart_in, first_body_in, body_in, cell_in, Spans, leads_to};
 
 use engine_cells::{CellLayout, ROW};
 
@@ -52,7 +52,7 @@ pub fn context(
     count: usize,
 ) -> Frame
     requires { (i < 64) × (count ≤ 32) }
-    ensures { (length result ≡ 38) × (elementIn result ≡ e) × (bindingIn result ≡ k) × (chartIn result ≡ chart) × (firstBodyIn result ≡ first) × (bodyIn result ≡ body) × ((n : ℕ) → n ≤ count → cellIn result n ≡ get_or cells.now (34 * i + n) 0) }
+    ensures { (length result ≡ 38) × (element_in result ≡ e) × (binding_in result ≡ k) × (chart_in result ≡ chart) × (first_body_in result ≡ first) × (body_in result ≡ body) × ((n : ℕ) → n ≤ count → cell_in result n ≡ get_or cells.now (34 * i + n) 0) }
 {
     let mut w = [0usize; FRAME];
     w[ELEMENT] = e;
@@ -71,7 +71,7 @@ pub fn context(
 // The numbers of a body that another one of the same element calls.
 pub fn inner(context: &Frame, body: usize) -> Frame
     requires { length context.now ≡ 38 }
-    ensures { (length result ≡ 38) × (bodyIn result ≡ body) × ((n : ℕ) → (n ≡ 4 → ⊥) → get_or result n 0 ≡ get_or context.now n 0) }
+    ensures { (length result ≡ 38) × (body_in result ≡ body) × ((n : ℕ) → (n ≡ 4 → ⊥) → get_or result n 0 ≡ get_or context.now n 0) }
 {
     let mut own = *context;
     own[BODY] = body;
@@ -80,8 +80,8 @@ pub fn inner(context: &Frame, body: usize) -> Frame
 
 // The first word of plain variable n.
 pub fn first_word(context: &Frame, n: usize) -> usize
-    requires { (length context.now ≡ 38) × (n < 32) × (cell_at (cellIn context.now n) < longest) }
-    ensures { result ≡ cell_at (cellIn context.now n) }
+    requires { (length context.now ≡ 38) × (n < 32) × (cell_at (cell_in context.now n) < longest) }
+    ensures { result ≡ cell_at (cell_in context.now n) }
 {
     engine_store::cell_at(context[CELLS + n])
 }
@@ -90,7 +90,7 @@ pub fn first_word(context: &Frame, n: usize) -> usize
 // its index.
 pub fn element_word(context: &Frame, n: usize, i: i32) -> Place
     requires { Spans context.now n }
-    ensures { result ≡ leadsTo context.now n i }
+    ensures { result ≡ leads_to context.now n i }
 {
     let first = context[CELLS + n];
     let count = context[CELLS + (n + 1)] - first;

@@ -8,15 +8,15 @@ use lib.ListN.{length, set}
 use lib.Seq.{ext_get_or}
 use lib.IntN.{ℤ, pos}
 use Rattle.machine.specs.State.{word_of}
-use Rattle.machine_states.proofs.Words.{word_set, word-set-other}
+use Rattle.machine_states.proofs.Words.{word_set, word_set_other}
 
 abbrev pub Alike : ℕ → List ℤ → List ℤ → Type 0
 Alike i a b = (k : ℕ) → k < i → word_of a k ≡ word_of b k
 
-pub alike-more : (a b : List ℤ) (i : ℕ) (z : ℤ) → i < length a → z ≡ word_of b i → Alike i a b → Alike (i + 1) (set a i z) b
-alike-more a b i z l e h k m = elim (ℕ_discrete k i) [
+pub alike_more : (a b : List ℤ) (i : ℕ) (z : ℤ) → i < length a → z ≡ word_of b i → Alike i a b → Alike (i + 1) (set a i z) b
+alike_more a b i z l e h k m = elim (ℕ_discrete k i) [
   | yes q ↦ rw q (word_set a i z l ∙ e)
-  | no q ↦ word-set-other a i k z q ∙ h k (omega arith)
+  | no q ↦ word_set_other a i k z q ∙ h k (omega arith)
 ]
 
 pub alike_all : (a b : List ℤ) (i : ℕ) → length a ≡ length b → length a ≤ i → Alike i a b → a ≡ b

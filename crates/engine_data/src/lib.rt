@@ -1,9 +1,9 @@
 // Data worked out.
 ghost use Rattle.std.specs.Prelude.{◌≡◌, List, [], ℕ, ◌≤◌, length, ℤ};
-ghost use Rattle.sheet.specs.Sheet.{directoryOf};
+ghost use Rattle.sheet.specs.Sheet.{directory_of};
 ghost use Rattle.engine_ready.specs.Ready.{Ready, HasData};
-ghost use Rattle.engine_ready.specs.Words.{given, ranData, fourWords};
-ghost use Rattle.engine_data.specs.Data.{dataAt};
+ghost use Rattle.engine_ready.specs.Words.{given, ran_data, four_words};
+ghost use Rattle.engine_data.specs.Data.{data_at};
 
 use engine_context::{Frame, Locals};
 use engine_ints::Work;
@@ -22,8 +22,8 @@ pub fn gather(
     into: &mut Data,
     left: u32,
 ) -> Ran
-    requires { (directory.now ≡ directoryOf sheet.now) × Ready sheet.now context.now st.now lo.now × HasData sheet.now context.now st.now lo.now r g × (g.count ≤ 4) × (into.old ≡ fourWords []) }
-    ensures { (length into.new ≡ 4) × (result ≡ ranData (dataAt sheet.now context.now st.now lo.now r g left)) × ((zs : List ℤ) (m : ℕ) → dataAt sheet.now context.now st.now lo.now r g left ≡ given zs m → into.new ≡ fourWords zs) }
+    requires { (directory.now ≡ directory_of sheet.now) × Ready sheet.now context.now st.now lo.now × HasData sheet.now context.now st.now lo.now r g × (g.count ≤ 4) × (into.old ≡ four_words []) }
+    ensures { (length into.new ≡ 4) × (result ≡ ran_data (data_at sheet.now context.now st.now lo.now r g left)) × ((zs : List ℤ) (m : ℕ) → data_at sheet.now context.now st.now lo.now r g left ≡ given zs m → into.new ≡ four_words zs) }
 {
     let mut l = left;
     let mut j: usize = 0;

@@ -1,14 +1,14 @@
 // What runs begin with: default values, a body's fresh variables, the state of start.
 ghost use Rattle.std.specs.Prelude.{◌≡◌, ◌∷◌, ◌+◌, ◌<◌, ◌≤◌, length, replicate, pos};
-ghost use Rattle.sheet.specs.Sheet.{directoryOf};
-ghost use Rattle.sheet.specs.Names.{chartVariables, bodyParameters, bodyLocals};
+ghost use Rattle.sheet.specs.Sheet.{directory_of};
+ghost use Rattle.sheet.specs.Names.{chart_variables, body_parameters, body_locals};
 ghost use Rattle.sheet_rules.specs.declared.Checked.TheVariants.{Passed};
-ghost use Rattle.sheet_rules.specs.Indices.{cellsBefore};
-ghost use Rattle.machine.specs.Values.{defaultOf};
+ghost use Rattle.sheet_rules.specs.Indices.{cells_before};
+ghost use Rattle.machine.specs.Values.{default_of};
 ghost use Rattle.machine.specs.Run.{local_at, locals_of};
-ghost use Rattle.machine.specs.State.{cell_at, stateLength, putWords};
-ghost use Rattle.machine.specs.Play.{alike, defaultCells, defaultState};
-ghost use Rattle.sheet_rules.specs.Check.{checkOf};
+ghost use Rattle.machine.specs.State.{cell_at, state_length, put_words};
+ghost use Rattle.machine.specs.Play.{alike, default_cells, default_state};
+ghost use Rattle.sheet_rules.specs.Check.{check_of};
 ghost use Rattle.engine_cells.specs.Lent.{CellsIn};
 
 use engine_context::{LOCALS, Locals};
@@ -17,8 +17,8 @@ use sheet::{Directory, ENUMERATED_TYPES, Found, Record};
 
 // "Defaults: false, 0, Log, log, the declared member, a stopped clock"
 fn default_of(sheet: &[u8], directory: &Directory, t: usize) -> i32
-    requires { directory.now ≡ directoryOf sheet.now }
-    ensures { result ≡ defaultOf sheet.now t }
+    requires { directory.now ≡ directory_of sheet.now }
+    ensures { result ≡ default_of sheet.now t }
 {
     if t < 8 {
         return 0;
@@ -28,7 +28,7 @@ fn default_of(sheet: &[u8], directory: &Directory, t: usize) -> i32
 
 // Variable i of a body that begins to run.
 fn local_at(sheet: &[u8], directory: &Directory, b: Record, d: &Data, i: usize) -> i32
-    requires { (directory.now ≡ directoryOf sheet.now) × ((bodyParameters b).count ≤ 4) × (i < (bodyParameters b).count + (bodyLocals b).count) }
+    requires { (directory.now ≡ directory_of sheet.now) × ((body_parameters b).count ≤ 4) × (i < (body_parameters b).count + (body_locals b).count) }
     ensures { result ≡ local_at sheet.now b d.now i }
 {
     let parameters = b.f4 as usize;
@@ -41,7 +41,7 @@ fn local_at(sheet: &[u8], directory: &Directory, b: Record, d: &Data, i: usize) 
 
 // The variables of a body that begins to run: parameters from data, then "fresh default locals".
 pub fn fresh_locals(sheet: &[u8], directory: &Directory, b: Record, d: &Data) -> Locals
-    requires { (directory.now ≡ directoryOf sheet.now) × ((bodyParameters b).count ≤ 4) × ((bodyParameters b).count + (bodyLocals b).count ≤ 16) }
+    requires { (directory.now ≡ directory_of sheet.now) × ((body_parameters b).count ≤ 4) × ((body_parameters b).count + (body_locals b).count ≤ 16) }
     ensures { result ≡ locals_of sheet.now b d.now }
 {
     let count = b.f4 as usize + b.f6 as usize;
@@ -58,7 +58,7 @@ pub fn fresh_locals(sheet: &[u8], directory: &Directory, b: Record, d: &Data) ->
 // n cells set to a default, from a cell on, whatever stood there: word z and seven zeros each.
 fn cells_alike(st: &mut [i32], cell: usize, n: usize, z: i32)
     requires { CellsIn st.old cell n }
-    ensures { st.new ≡ putWords st.old (cell_at cell) (alike n (z ∷ replicate 7 (pos 0))) }
+    ensures { st.new ≡ put_words st.old (cell_at cell) (alike n (z ∷ replicate 7 (pos 0))) }
 {
     let mut k: usize = 0;
     while k < n {
@@ -75,8 +75,8 @@ fn default_cells(
     c: Record,
     cell: usize,
 ) -> usize
-    requires { (directory.now ≡ directoryOf sheet.now) × CellsIn st.old cell (cellsBefore sheet.now c (chartVariables c).count) }
-    ensures { (result ≡ cell + cellsBefore sheet.now c (chartVariables c).count) × (st.new ≡ putWords st.old (cell_at cell) (defaultCells sheet.now (chartVariables c).count (chartVariables c).first)) }
+    requires { (directory.now ≡ directory_of sheet.now) × CellsIn st.old cell (cells_before sheet.now c (chart_variables c).count) }
+    ensures { (result ≡ cell + cells_before sheet.now c (chart_variables c).count) × (st.new ≡ put_words st.old (cell_at cell) (default_cells sheet.now (chart_variables c).count (chart_variables c).first)) }
 {
     let count = c.f3 as usize;
     let mut next = cell;
@@ -95,8 +95,8 @@ fn default_cells(
 
 // "all defaults, nothing waiting"
 pub fn default_state(sheet: &[u8], directory: &Directory, st: &mut [i32])
-    requires { (directory.now ≡ directoryOf sheet.now) × (checkOf sheet.now ≡ Passed) × (length st.old ≡ stateLength sheet.now) }
-    ensures { st.new ≡ defaultState sheet.now }
+    requires { (directory.now ≡ directory_of sheet.now) × (check_of sheet.now ≡ Passed) × (length st.old ≡ state_length sheet.now) }
+    ensures { st.new ≡ default_state sheet.now }
 {
     engine_copies::zero(st);
     let count = engine_cells::elements(sheet, directory);

@@ -7,7 +7,7 @@ use lib.Signed.{mag}
 use mir.Syntax.{w32}
 use mir.Val.{of_z, to_z}
 use Rattle.machine.specs.declared.Telegram.{Telegram}
-use Rattle.machine_events.proofs.Called.{dataIn}
+use Rattle.machine_events.proofs.Called.{data_in}
 use Rattle.engine_rows.proofs.Laws.{given}
 
 abbrev word : ℤ → ℤ
@@ -19,5 +19,5 @@ number_read z l n e = e ∙ ap nat_abs (given z l)
 
 -- the data of a telegram
 module _ (t : Telegram) (a : mag t.d0 < 2147483648) (b : mag t.d1 < 2147483648) (c : mag t.d2 < 2147483648) (d : mag t.d3 < 2147483648) where
-  pub data-read : word t.d0 ∷ word t.d1 ∷ word t.d2 ∷ word t.d3 ∷ [] ≡ dataIn t
-  data-read = rw (given t.d0 a, given t.d1 b, given t.d2 c, given t.d3 d) refl
+  pub data_read : word t.d0 ∷ word t.d1 ∷ word t.d2 ∷ word t.d3 ∷ [] ≡ data_in t
+  data_read = rw (given t.d0 a, given t.d1 b, given t.d2 c, given t.d3 d) refl

@@ -1,8 +1,8 @@
 -- What an engine knows where a telegram that was removed reaches its receiver.
 use Rattle.std.specs.Prelude.{ℕ, ◌≡◌, List, Bool, true, length, ℤ}
 use Rattle.machine.specs.declared.Telegram.{Telegram}
-use Rattle.machine.specs.State.{isInternal}
-use Rattle.machine.specs.Valid.{telegramFits}
+use Rattle.machine.specs.State.{is_internal}
+use Rattle.machine.specs.Valid.{telegram_fits}
 use Rattle.engine_cells.specs.Playing.{Playing}
 
 -- a state that a body changes, and beside it an old one, as long, which a refusal puts back
@@ -13,5 +13,5 @@ pub record Beside (s d c : List ℕ) (old st : List ℤ) : Type 0 where
 -- .. and a telegram that may wait for the sheet, internal or not
 pub record Arrived (s d c : List ℕ) (old st : List ℤ) (t : Telegram) (inside : Bool) : Type 0 where
   pub beside : Beside s d c old st
-  pub fits : telegramFits s t ≡ true
-  pub class : isInternal t ≡ inside
+  pub fits : telegram_fits s t ≡ true
+  pub class : is_internal t ≡ inside

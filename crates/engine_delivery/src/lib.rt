@@ -2,10 +2,10 @@
 // element runs.
 ghost use Rattle.std.specs.Prelude.{true, false, ◌≡◌, nat_abs};
 ghost use Rattle.machine.specs.declared.Handed.TheVariants.{Outside};
-ghost use Rattle.sheet_rules.specs.Fields.{externalsOf};
-ghost use Rattle.sheet_rules.specs.Types.{reactsTo};
-ghost use Rattle.machine.specs.Values.{isBelow, isBound};
-ghost use Rattle.machine.specs.Play.{ended, answer, elementBody, reacting, panicking, delivered, limitOf};
+ghost use Rattle.sheet_rules.specs.Fields.{externals_of};
+ghost use Rattle.sheet_rules.specs.Types.{reacts_to};
+ghost use Rattle.machine.specs.Values.{is_below, is_bound};
+ghost use Rattle.machine.specs.Play.{ended, answer, element_body, reacting, panicking, delivered, limit_of};
 ghost use Rattle.engine_cells.specs.Cells.{ChartAt};
 ghost use Rattle.engine_delivery.specs.Arrived.{Beside, Arrived};
 
@@ -26,7 +26,7 @@ fn run_panic_body(
     c: Record,
 ) -> Answer
     requires { Beside sheet.now directory.now cells.now old.now st.old × ChartAt sheet.now e n c }
-    ensures { ended result st.new ≡ panicking sheet.now (limitOf sheet.now) old.now e st.old }
+    ensures { ended result st.new ≡ panicking sheet.now (limit_of sheet.now) old.now e st.old }
 {
     let j = engine_finders::with_role(sheet, directory, c, 1);
     let none = [0i32; DATA];
@@ -53,8 +53,8 @@ pub fn panicked(
     st: &mut [i32],
     e: usize,
 ) -> Answer
-    requires { Beside sheet.now directory.now cells.now old.now st.old × (isBound sheet.now e ≡ true) }
-    ensures { ended result st.new ≡ panicking sheet.now (limitOf sheet.now) old.now e st.old }
+    requires { Beside sheet.now directory.now cells.now old.now st.old × (is_bound sheet.now e ≡ true) }
+    ensures { ended result st.new ≡ panicking sheet.now (limit_of sheet.now) old.now e st.old }
 {
     let n = engine_cells::chart_number(sheet, directory, cells, e);
     let Found::Present(c) = sheet_reader::read(sheet, directory, CHARTS, n) else {
@@ -73,8 +73,8 @@ fn deliver_to_element(
     st: &mut [i32],
     t: Telegram,
 ) -> Answer
-    requires { Arrived sheet.now directory.now cells.now old.now st.old t false × (isBelow t.receiver (externalsOf sheet.now) ≡ false) }
-    ensures { ended result st.new ≡ delivered sheet.now (limitOf sheet.now) old.now t st.old }
+    requires { Arrived sheet.now directory.now cells.now old.now st.old t false × (is_below t.receiver (externals_of sheet.now) ≡ false) }
+    ensures { ended result st.new ≡ delivered sheet.now (limit_of sheet.now) old.now t st.old }
 {
     let e = engine_valid_words::number(t.receiver);
     let n = engine_cells::chart_number(sheet, directory, cells, e);
@@ -130,7 +130,7 @@ pub fn delivers(
     t: Telegram,
 ) -> Answer
     requires { Arrived sheet.now directory.now cells.now old.now st.old t false }
-    ensures { ended result st.new ≡ delivered sheet.now (limitOf sheet.now) old.now t st.old }
+    ensures { ended result st.new ≡ delivered sheet.now (limit_of sheet.now) old.now t st.old }
 {
     if engine_valid_words::is_below(t.receiver, engine_valid_values::externals(sheet, directory)) {
         return handed(t);
@@ -148,7 +148,7 @@ pub fn reacts(
     t: Telegram,
 ) -> Answer
     requires { Arrived sheet.now directory.now cells.now old.now st.old t true }
-    ensures { ended result st.new ≡ reacting sheet.now (limitOf sheet.now) old.now (nat_abs t.receiver) (elementBody sheet.now (nat_abs t.receiver) (reactsTo (nat_abs t.name))) t st.old }
+    ensures { ended result st.new ≡ reacting sheet.now (limit_of sheet.now) old.now (nat_abs t.receiver) (element_body sheet.now (nat_abs t.receiver) (reacts_to (nat_abs t.name))) t st.old }
 {
     let e = engine_valid_words::number(t.receiver);
     let n = engine_cells::chart_number(sheet, directory, cells, e);

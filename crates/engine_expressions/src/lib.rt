@@ -1,9 +1,9 @@
 // What an expression gives.
 ghost use Rattle.std.specs.Prelude.{◌≡◌};
-ghost use Rattle.sheet.specs.Sheet.{directoryOf};
-ghost use Rattle.machine.specs.Eval.{evalOf};
-ghost use Rattle.engine_ints.specs.Work.{workOf};
-ghost use Rattle.engine_ready.specs.Ready.{contextAt, Ready, IsExpression};
+ghost use Rattle.sheet.specs.Sheet.{directory_of};
+ghost use Rattle.machine.specs.Eval.{eval_of};
+ghost use Rattle.engine_ints.specs.Work.{work_of};
+ghost use Rattle.engine_ready.specs.Ready.{context_at, Ready, IsExpression};
 
 use engine_context::{ELEMENT, Frame, Locals};
 use engine_ints::Work;
@@ -19,8 +19,8 @@ pub fn eval(
     n: usize,
     left: u32,
 ) -> Work
-    requires { (directory.now ≡ directoryOf sheet.now) × Ready sheet.now context.now st.now lo.now × IsExpression sheet.now context.now n }
-    ensures { result ≡ workOf (evalOf sheet.now (contextAt sheet.now context.now) st.now lo.now n left) }
+    requires { (directory.now ≡ directory_of sheet.now) × Ready sheet.now context.now st.now lo.now × IsExpression sheet.now context.now n }
+    ensures { result ≡ work_of (eval_of sheet.now (context_at sheet.now context.now) st.now lo.now n left) }
 {
     if left == 0 {
         return Work::Refused {

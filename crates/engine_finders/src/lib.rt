@@ -1,17 +1,17 @@
 // Which body of a chart runs.
 ghost use Rattle.std.specs.Prelude.{◌≡◌, eqb};
 ghost use Rattle.sheet.specs.Names.{bodies};
-ghost use Rattle.sheet.specs.Sheet.{directoryOf, recordOf};
+ghost use Rattle.sheet.specs.Sheet.{directory_of, record_of};
 ghost use Rattle.sheet_rules.specs.Fields.{holds};
-ghost use Rattle.sheet_rules.specs.Types.{reactsTo};
-ghost use Rattle.machine.specs.Play.{reactsOn};
+ghost use Rattle.sheet_rules.specs.Types.{reacts_to};
+ghost use Rattle.machine.specs.Play.{reacts_on};
 ghost use Rattle.machine_passed.specs.Places.{StandsAt};
 
 use sheet::{BODIES, Directory, Found, Record};
 
 fn has_role(sheet: &[u8], directory: &Directory, i: usize, role: u16) -> bool
-    requires { directory.now ≡ directoryOf sheet.now }
-    ensures { result ≡ holds (recordOf sheet.now bodies i) (λ b. eqb b.f0 role) }
+    requires { directory.now ≡ directory_of sheet.now }
+    ensures { result ≡ holds (record_of sheet.now bodies i) (λ b. eqb b.f0 role) }
 {
     let Found::Present(b) = sheet_reader::read(sheet, directory, BODIES, i) else {
         return false;
@@ -21,7 +21,7 @@ fn has_role(sheet: &[u8], directory: &Directory, i: usize, role: u16) -> bool
 
 // The initial body (role 0) or the panic body (role 1) of chart c.
 pub fn with_role(sheet: &[u8], directory: &Directory, c: Record, role: u16) -> usize
-    requires { directory.now ≡ directoryOf sheet.now }
+    requires { directory.now ≡ directory_of sheet.now }
     ensures { StandsAt sheet.now c (λ b. eqb b.f0 role) result }
 {
     let first = c.f4 as usize;
@@ -37,8 +37,8 @@ pub fn with_role(sheet: &[u8], directory: &Directory, c: Record, role: u16) -> u
 }
 
 fn reacts_on(sheet: &[u8], directory: &Directory, i: usize, port: usize, name: usize) -> bool
-    requires { directory.now ≡ directoryOf sheet.now }
-    ensures { result ≡ holds (recordOf sheet.now bodies i) (reactsOn port name) }
+    requires { directory.now ≡ directory_of sheet.now }
+    ensures { result ≡ holds (record_of sheet.now bodies i) (reacts_on port name) }
 {
     let Found::Present(b) = sheet_reader::read(sheet, directory, BODIES, i) else {
         return false;
@@ -60,8 +60,8 @@ pub fn reaction_on(
     port: usize,
     name: usize,
 ) -> usize
-    requires { directory.now ≡ directoryOf sheet.now }
-    ensures { StandsAt sheet.now c (reactsOn port name) result }
+    requires { directory.now ≡ directory_of sheet.now }
+    ensures { StandsAt sheet.now c (reacts_on port name) result }
 {
     let first = c.f4 as usize;
     let count = c.f5 as usize;
@@ -76,8 +76,8 @@ pub fn reaction_on(
 }
 
 fn reacts_to(sheet: &[u8], directory: &Directory, i: usize, name: usize) -> bool
-    requires { directory.now ≡ directoryOf sheet.now }
-    ensures { result ≡ holds (recordOf sheet.now bodies i) (reactsTo name) }
+    requires { directory.now ≡ directory_of sheet.now }
+    ensures { result ≡ holds (record_of sheet.now bodies i) (reacts_to name) }
 {
     let Found::Present(b) = sheet_reader::read(sheet, directory, BODIES, i) else {
         return false;
@@ -90,8 +90,8 @@ fn reacts_to(sheet: &[u8], directory: &Directory, i: usize, name: usize) -> bool
 
 // The reaction of chart c to an internal name.
 pub fn reaction_to(sheet: &[u8], directory: &Directory, c: Record, name: usize) -> usize
-    requires { directory.now ≡ directoryOf sheet.now }
-    ensures { StandsAt sheet.now c (reactsTo name) result }
+    requires { directory.now ≡ directory_of sheet.now }
+    ensures { StandsAt sheet.now c (reacts_to name) result }
 {
     let first = c.f4 as usize;
     let count = c.f5 as usize;

@@ -11,13 +11,13 @@ use mir.Syntax.{w32, w64}
 use mir.Val.{SFits, of_z, to_z}
 use mir.ValLaws.{to_z-of_z}
 use borrow.Author.Tests.{ltb-true, ltb-false, eqb-true, eqb-false, lt-ltb, le-ltb, eq-eqb, ne_eqb}
-use Rattle.sheet.proofs.All.{true-false, not_so}
+use Rattle.sheet.proofs.All.{true_false, not_so}
 use Rattle.machine_division.specs.Division.{quotient, remainder}
-use Rattle.machine_division.proofs.Laws.{positive-divisor, negative-divisor}
+use Rattle.machine_division.proofs.Laws.{positive_divisor, negative_divisor}
 use Rattle.machine.specs.Values.{fits32, is_zero}
-use Rattle.machine.specs.Eval.{intOut, dividing}
+use Rattle.machine.specs.Eval.{int_out, dividing}
 use Rattle.engine_ints.specs.declared.Work.TheVariants.{Word, Refused}
-use Rattle.engine_ints.specs.Work.{workOf}
+use Rattle.engine_ints.specs.Work.{work_of}
 use Rattle.engine_ints.proofs.Rounding.{left_over}
 
 pub widen : {z : ℤ} → SFits w32 z → SFits w64 z
@@ -36,29 +36,29 @@ wide h = rw (back h) (back64 (widen h))
 -- ---- the test of the range
 
 module _ (z : ℤ) (l : ℕ) where
-  outside : fits32 z ≡ false → Refused 6 l ≡ workOf (intOut z l)
-  unfolding intOut workOf
-  outside e = rw (intOut, e) refl
+  outside : fits32 z ≡ false → Refused 6 l ≡ work_of (int_out z l)
+  unfolding int_out work_of
+  outside e = rw (int_out, e) refl
 
-  pub too-low : lt_z z (negsuc 2147483647) ≡ true → Refused 6 l ≡ workOf (intOut z l)
+  pub too_low : lt_z z (negsuc 2147483647) ≡ true → Refused 6 l ≡ work_of (int_out z l)
   unfolding fits32
-  too-low e = outside (low z e)
+  too_low e = outside (low z e)
     where
       low : (z : ℤ) → lt_z z (negsuc 2147483647) ≡ true → ltb (mag z) 2147483648 ≡ false
-      low (pos a) e = absurd (true-false e refl)
+      low (pos a) e = absurd (true_false e refl)
       low (negsuc a) e = le-ltb a 2147483648 (ltb-true 2147483647 a e)
 
-  pub too-high : lt_z (pos 2147483647) z ≡ true → Refused 6 l ≡ workOf (intOut z l)
+  pub too_high : lt_z (pos 2147483647) z ≡ true → Refused 6 l ≡ work_of (int_out z l)
   unfolding fits32
-  too-high e = outside (high z e)
+  too_high e = outside (high z e)
     where
       high : (z : ℤ) → lt_z (pos 2147483647) z ≡ true → ltb (mag z) 2147483648 ≡ false
       high (pos a) e = le-ltb a 2147483648 (ltb-true 2147483647 a e)
-      high (negsuc a) e = absurd (true-false e refl)
+      high (negsuc a) e = absurd (true_false e refl)
 
-  pub inside : SFits w32 z → Word z l ≡ workOf (intOut z l)
-  unfolding intOut workOf fits32
-  inside h = rw (intOut, lt-ltb (mag z) 2147483648 h.sfits) refl
+  pub inside : SFits w32 z → Word z l ≡ work_of (int_out z l)
+  unfolding int_out work_of fits32
+  inside h = rw (int_out, lt-ltb (mag z) 2147483648 h.sfits) refl
 
 pub within : (z : ℤ) → lt_z z (negsuc 2147483647) ≡ false → lt_z (pos 2147483647) z ≡ false → SFits w32 z
 within (pos a) e f = let h = ltb-false 2147483647 a f in record { sfits = omega arith }
@@ -66,78 +66,78 @@ within (negsuc a) e f = let h = ltb-false 2147483647 a e in record { sfits = ome
 
 -- ---- magnitudes
 
-mag-subℕ : (a b : ℕ) → mag (sub_ℕ a b) ≤ a + b
-mag-subℕ a b = go (ltb a b)
+mag_subℕ : (a b : ℕ) → mag (sub_ℕ a b) ≤ a + b
+mag_subℕ a b = go (ltb a b)
   where
     go : (t : Bool) → mag (cond t (negsuc (b - suc a)) (pos (a - b))) ≤ a + b
     go true = omega arith
     go false = omega arith
 
-mag-add : (x y : ℤ) → mag (x +ℤ y) ≤ mag x + mag y + 1
-mag-add (pos a) (pos b) = omega arith
-mag-add (pos a) (negsuc b) = omega (arith, mag-subℕ a (suc b))
-mag-add (negsuc a) (pos b) = omega (arith, mag-subℕ b (suc a))
-mag-add (negsuc a) (negsuc b) = omega arith
+mag_add : (x y : ℤ) → mag (x +ℤ y) ≤ mag x + mag y + 1
+mag_add (pos a) (pos b) = omega arith
+mag_add (pos a) (negsuc b) = omega (arith, mag_subℕ a (suc b))
+mag_add (negsuc a) (pos b) = omega (arith, mag_subℕ b (suc a))
+mag_add (negsuc a) (negsuc b) = omega arith
 
-mag-minus : (z : ℤ) → mag (neg_ℤ z) ≤ mag z + 1
-mag-minus (pos zero) = omega arith
-mag-minus (pos (suc n)) = omega arith
-mag-minus (negsuc n) = omega arith
+mag_minus : (z : ℤ) → mag (neg_ℤ z) ≤ mag z + 1
+mag_minus (pos zero) = omega arith
+mag_minus (pos (suc n)) = omega arith
+mag_minus (negsuc n) = omega arith
 
 mag-neg : (n : ℕ) → mag (neg_ℤ (pos n)) ≤ n
 mag-neg zero = omega arith
 mag-neg (suc n) = omega arith
 
-mag-mul : (x y : ℤ) → mag (x *ℤ y) ≤ (mag x + 1) * (mag y + 1)
-mag-mul (pos a) (pos b) = mul-le-mul (omega arith) (omega arith)
-mag-mul (pos a) (negsuc b) = le_trans (mag-neg (a * suc b)) (mul-le-mul (omega arith) (omega arith))
-mag-mul (negsuc a) (pos b) = le_trans (mag-neg (suc a * b)) (mul-le-mul (omega arith) (omega arith))
-mag-mul (negsuc a) (negsuc b) = mul-le-mul (omega arith) (omega arith)
+mag_mul : (x y : ℤ) → mag (x *ℤ y) ≤ (mag x + 1) * (mag y + 1)
+mag_mul (pos a) (pos b) = mul-le-mul (omega arith) (omega arith)
+mag_mul (pos a) (negsuc b) = le_trans (mag-neg (a * suc b)) (mul-le-mul (omega arith) (omega arith))
+mag_mul (negsuc a) (pos b) = le_trans (mag-neg (suc a * b)) (mul-le-mul (omega arith) (omega arith))
+mag_mul (negsuc a) (negsuc b) = mul-le-mul (omega arith) (omega arith)
 
-mag-quot : (x y : ℤ) → mag (quot_z x y) ≤ mag x + 1
-mag-quot (pos a) (pos b) = omega (arith, div-le_self a b)
-mag-quot (pos a) (negsuc b) = omega (arith, div-le_self a (suc b), mag-neg (a / suc b))
-mag-quot (negsuc a) (pos b) = omega (arith, div-le_self (suc a) b, mag-neg (suc a / b))
-mag-quot (negsuc a) (negsuc b) = omega (arith, div-le_self (suc a) (suc b))
+mag_quot : (x y : ℤ) → mag (quot_z x y) ≤ mag x + 1
+mag_quot (pos a) (pos b) = omega (arith, div-le_self a b)
+mag_quot (pos a) (negsuc b) = omega (arith, div-le_self a (suc b), mag-neg (a / suc b))
+mag_quot (negsuc a) (pos b) = omega (arith, div-le_self (suc a) b, mag-neg (suc a / b))
+mag_quot (negsuc a) (negsuc b) = omega (arith, div-le_self (suc a) (suc b))
 
-mag-quotient : (x y : ℤ) → mag (quotient x y) ≤ mag x + 1
+mag_quotient : (x y : ℤ) → mag (quotient x y) ≤ mag x + 1
 unfolding quotient
-mag-quotient x (pos n) = omega (arith, mag_shr x n)
-mag-quotient x (negsuc n) = omega (arith, mag_shr (neg_ℤ x) (suc n), mag-minus x)
+mag_quotient x (pos n) = omega (arith, mag_shr x n)
+mag_quotient x (negsuc n) = omega (arith, mag_shr (neg_ℤ x) (suc n), mag_minus x)
 
 module _ {x y : ℤ} (hx : SFits w32 x) (hy : SFits w32 y) where
   pub add-fits : SFits w64 (x +ℤ y)
-  add-fits = record { sfits = omega (arith, mag-add x y) }
+  add-fits = record { sfits = omega (arith, mag_add x y) }
 
   pub sub-fits : SFits w64 (x -ℤ y)
-  sub-fits = record { sfits = omega (arith, mag-minus y, mag-add x (neg_ℤ y)) }
+  sub-fits = record { sfits = omega (arith, mag_minus y, mag_add x (neg_ℤ y)) }
 
   pub mul-fits : SFits w64 (x *ℤ y)
   mul-fits =
       let m : (mag x + 1) * (mag y + 1) ≤ 2147483648 * 2147483648 = mul-le-mul {n₂ = 2147483648} {m₂ = 2147483648} (omega arith) (omega arith) in
-      record { sfits = omega (arith, mag-mul x y) }
+      record { sfits = omega (arith, mag_mul x y) }
 
   pub quot_fits : SFits w64 (quot_z x y)
-  quot_fits = record { sfits = omega (arith, mag-quot x y) }
+  quot_fits = record { sfits = omega (arith, mag_quot x y) }
 
   pub quotient_fits : SFits w64 (quotient x y)
-  quotient_fits = record { sfits = omega (arith, mag-quotient x y) }
+  quotient_fits = record { sfits = omega (arith, mag_quotient x y) }
 
   -- the divisor times a quotient, rounded either way
   whole-fits : (q : ℤ) → mag q ≤ mag x + 1 → SFits w64 (y *ℤ q)
   whole-fits q h =
       let m : (mag y + 1) * (mag q + 1) ≤ 2147483648 * 2147483649 = mul-le-mul {n₂ = 2147483648} {m₂ = 2147483649} (omega arith) (omega arith) in
-      record { sfits = omega (arith, mag-mul y q) }
+      record { sfits = omega (arith, mag_mul y q) }
 
-  pub quot-whole-fits : SFits w64 (y *ℤ quot_z x y)
-  quot-whole-fits = whole-fits (quot_z x y) (mag-quot x y)
+  pub quot_whole-fits : SFits w64 (y *ℤ quot_z x y)
+  quot_whole-fits = whole-fits (quot_z x y) (mag_quot x y)
 
   pub quotient-whole-fits : SFits w64 (y *ℤ quotient x y)
-  quotient-whole-fits = whole-fits (quotient x y) (mag-quotient x y)
+  quotient-whole-fits = whole-fits (quotient x y) (mag_quotient x y)
 
   -- the quotient toward zero, less any word
   pub less-fits : {z : ℤ} → SFits w32 z → SFits w64 (quot_z x y -ℤ z)
-  less-fits {z} h = record { sfits = omega (arith, mag-quot x y, mag-minus z, mag-add (quot_z x y) (neg_ℤ z)) }
+  less-fits {z} h = record { sfits = omega (arith, mag_quot x y, mag_minus z, mag_add (quot_z x y) (neg_ℤ z)) }
 
   pub left-over-fits : SFits w32 (x -ℤ y *ℤ quot_z x y)
   left-over-fits = rw (left_over x y) (record { sfits = omega (arith, mag_rem x y) })
@@ -156,8 +156,8 @@ module _ {x y : ℤ} (hx : SFits w32 x) (hy : SFits w32 y) where
       high (negsuc k) n l h = let z = ltb→lt k n l.lt in omega arith
 
       go : (y : ℤ) → SFits w32 y → is_zero y ≡ false → SFits w32 (remainder x y)
-      go (pos n) k e = let (l, h) = positive-divisor x (pos n) (record { lt = lt→ltb 0 n (let z = eqb-false n 0 e in omega arith) }) in record { sfits = omega (arith, low (remainder x (pos n)) n l h) }
-      go (negsuc n) k e = let (l, h) = negative-divisor x (negsuc n) (record { lt = tt }) in record { sfits = omega (arith, high (remainder x (negsuc n)) n l h) }
+      go (pos n) k e = let (l, h) = positive_divisor x (pos n) (record { lt = lt→ltb 0 n (let z = eqb-false n 0 e in omega arith) }) in record { sfits = omega (arith, low (remainder x (pos n)) n l h) }
+      go (negsuc n) k e = let (l, h) = negative_divisor x (negsuc n) (record { lt = tt }) in record { sfits = omega (arith, high (remainder x (negsuc n)) n l h) }
 
 -- ---- tests of a zero, which go by the bits
 
@@ -166,28 +166,28 @@ unfolding is_zero
 zero_bits (pos n) h = refl
 zero_bits (negsuc n) h = ne_eqb (4294967296 - suc n) 0 (λ e. let k = h.sfits in omega arith)
 
-pub is-zero : {z : ℤ} → SFits w32 z → of_z w32 z ≡ 0 → is_zero z ≡ true
-is-zero {z} h e = sym (zero_bits z h) ∙ eq-eqb (of_z w32 z) 0 e
+pub is_zero_lem : {z : ℤ} → SFits w32 z → of_z w32 z ≡ 0 → is_zero z ≡ true
+is_zero_lem {z} h e = sym (zero_bits z h) ∙ eq-eqb (of_z w32 z) 0 e
 
 pub not-zero : {z : ℤ} → SFits w32 z → (of_z w32 z ≡ 0 → ⊥) → is_zero z ≡ false
 not-zero {z} h n = sym (zero_bits z h) ∙ ne_eqb (of_z w32 z) 0 n
 
 -- the same of the wider number
-pub is-zero-wide : {z : ℤ} → SFits w32 z → of_z w64 (to_z w32 (of_z w32 z)) ≡ 0 → is_zero z ≡ true
+pub is_zero_wide : {z : ℤ} → SFits w32 z → of_z w64 (to_z w32 (of_z w32 z)) ≡ 0 → is_zero z ≡ true
 unfolding is_zero
-is-zero-wide {z} h e = go z h (rw (back h) at e)
+is_zero_wide {z} h e = go z h (rw (back h) at e)
   where
     go : (z : ℤ) → SFits w32 z → of_z w64 z ≡ 0 → is_zero z ≡ true
     go (pos n) h e = eq-eqb n 0 e
     go (negsuc n) h e = absurd (omega arith)
 
-pub not-zero-wide : {z : ℤ} → SFits w32 z → (of_z w64 (to_z w32 (of_z w32 z)) ≡ 0 → ⊥) → is_zero z ≡ false
+pub not_zero_wide : {z : ℤ} → SFits w32 z → (of_z w64 (to_z w32 (of_z w32 z)) ≡ 0 → ⊥) → is_zero z ≡ false
 unfolding is_zero
-not-zero-wide {z} h n = not_so _ (λ e. n (rw (back h) (go z e)))
+not_zero_wide {z} h n = not_so _ (λ e. n (rw (back h) (go z e)))
   where
     go : (z : ℤ) → is_zero z ≡ true → of_z w64 z ≡ 0
     go (pos n) e = eqb-true n 0 e
-    go (negsuc n) e = absurd (true-false e refl)
+    go (negsuc n) e = absurd (true_false e refl)
 
 pub divisor : {z : ℤ} → SFits w32 z → is_zero z ≡ false → 0 < of_z w64 (to_z w32 (of_z w32 z))
 unfolding is_zero
@@ -198,10 +198,10 @@ divisor {z} h e = rw (back h) (go z h e)
     go (negsuc n) h e = omega arith
 
 module _ (b z : ℤ) (l : ℕ) where
-  pub by_zero : is_zero b ≡ true → Refused 6 l ≡ workOf (dividing b z l)
-  unfolding dividing workOf
+  pub by_zero : is_zero b ≡ true → Refused 6 l ≡ work_of (dividing b z l)
+  unfolding dividing work_of
   by_zero e = rw (dividing, e) refl
 
-  pub by-other : is_zero b ≡ false → workOf (intOut z l) ≡ workOf (dividing b z l)
+  pub by_other : is_zero b ≡ false → work_of (int_out z l) ≡ work_of (dividing b z l)
   unfolding dividing
-  by-other e = rw (dividing, e) refl
+  by_other e = rw (dividing, e) refl

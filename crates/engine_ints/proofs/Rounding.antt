@@ -11,7 +11,7 @@ use borrow.Author.Tests.{le-ltb, eqb-false}
 use Rattle.machine_division.specs.Division.{quotient}
 use Rattle.machine_division.proofs.Laws.{minus-times, times-minus, over}
 use Rattle.machine.specs.Values.{is_zero}
-use Rattle.machine.specs.Eval.{boolWord}
+use Rattle.machine.specs.Eval.{bool_word}
 
 both-minus : (m n : ℕ) → neg_ℤ (pos m) *ℤ neg_ℤ (pos n) ≡ pos (m * n)
 both-minus m n = minus-times (pos m) (neg_ℤ (pos n)) ∙ ap neg_ℤ (times-minus (pos m) (pos n)) ∙ neg_ℤ-neg_ℤ (pos (m * n))
@@ -31,20 +31,20 @@ left_over (negsuc a) (negsuc b) = under (suc a) (suc b)
 
 module _ (a n : ℕ) where
   -- a's rest and one more, over the divisor
-  next-div : suc a / suc n ≡ a / suc n + suc (a % suc n) / suc n
-  next-div = ap (λ (k : ℕ). k / suc n) (let e = div-add-mod a (suc n) in omega arith) ∙ mul-add-div (omega arith) (a / suc n) (suc (a % suc n))
+  next_div : suc a / suc n ≡ a / suc n + suc (a % suc n) / suc n
+  next_div = ap (λ (k : ℕ). k / suc n) (let e = div-add-mod a (suc n) in omega arith) ∙ mul-add-div (omega arith) (a / suc n) (suc (a % suc n))
 
   -- −(a + 1) over n + 1: one less where something is left
-  down : neg_ℤ (pos (suc a / suc n)) -ℤ boolWord (lt_z (neg_ℤ (pos (suc a % suc n * suc n))) (pos 0)) ≡ negsuc (a / suc n)
+  down : neg_ℤ (pos (suc a / suc n)) -ℤ bool_word (lt_z (neg_ℤ (pos (suc a % suc n * suc n))) (pos 0)) ≡ negsuc (a / suc n)
   down = elim (dec_lt (suc (a % suc n)) (suc n)) [
     | yes h ↦ (
-        let d : suc a / suc n ≡ a / suc n = next-div ∙ (let z = div-eq_of_lt h in omega arith) in
+        let d : suc a / suc n ≡ a / suc n = next_div ∙ (let z = div-eq_of_lt h in omega arith) in
         let m : suc a % suc n ≡ suc (a % suc n) = suc-mod a (suc n) ∙ mod-eq_of_lt h in
         let p : suc (a % suc n) * suc n ≡ suc (a % suc n * suc n + n) = omega (arith, suc-mul (a % suc n) (suc n)) in
         rw (d, m, p) (one_less (a / suc n)))
     | no h ↦ (
         let e : suc (a % suc n) ≡ suc n = (let l = mod-lt a {m = suc n} (omega arith) in omega arith) in
-        let d : suc a / suc n ≡ suc (a / suc n) = next-div ∙ ap (λ (k : ℕ). a / suc n + k / suc n) e ∙ (let z = div_self {n = suc n} (omega arith) in omega arith) in
+        let d : suc a / suc n ≡ suc (a / suc n) = next_div ∙ ap (λ (k : ℕ). a / suc n + k / suc n) e ∙ (let z = div_self {n = suc n} (omega arith) in omega arith) in
         let m : suc a % suc n ≡ 0 = suc-mod a (suc n) ∙ ap (λ (k : ℕ). k % suc n) e ∙ mod_self (suc n) in
         rw (d, m, zero-mul (suc n)) (+ℤ_idr (negsuc (a / suc n))))
   ]
@@ -54,11 +54,11 @@ module _ (a n : ℕ) where
       one_less (suc k) = -ℤ_one (negsuc k)
 
 -- The quotient toward zero is one too high where what is left has the other sign than the divisor: where their product is below 0
-pub rounded : (x y : ℤ) → is_zero y ≡ false → quot_z x y -ℤ boolWord (lt_z ((x -ℤ y *ℤ quot_z x y) *ℤ y) (pos 0)) ≡ quotient x y
+pub rounded : (x y : ℤ) → is_zero y ≡ false → quot_z x y -ℤ bool_word (lt_z ((x -ℤ y *ℤ quot_z x y) *ℤ y) (pos 0)) ≡ quotient x y
 unfolding quotient is_zero
 rounded x y e = rw (left_over x y) (go x y e)
   where
-    go : (x y : ℤ) → is_zero y ≡ false → quot_z x y -ℤ boolWord (lt_z (rem_z x y *ℤ y) (pos 0)) ≡ quotient x y
+    go : (x y : ℤ) → is_zero y ≡ false → quot_z x y -ℤ bool_word (lt_z (rem_z x y *ℤ y) (pos 0)) ≡ quotient x y
     go (pos a) (pos b) e = rw (le-ltb (a % b * b) 0 (omega arith)) (+ℤ_idr (pos (a / b)))
     go (pos zero) (negsuc b) e = rw (zero-div (suc b), zero-mod (suc b), zero-mul (suc b)) refl
     go (pos (suc a)) (negsuc b) e = down a b

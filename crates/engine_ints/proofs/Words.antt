@@ -1,4 +1,4 @@
--- Words of Bools, and the case laws of `binaryWork`.
+-- Words of Bools, and the case laws of `binary_work`.
 use Prim.Native.Nat.{ℕ, suc, ◌-◌}
 use mathlib.Core.Path.{◌≡◌, refl, sym, ap, ◌∙◌}
 use mathlib.Core.Bool.{Bool, true, false, not}
@@ -12,22 +12,22 @@ use mir.Val.{SFits, of_z, to_z}
 use borrow.Author.Tests.{le-leb, lt-leb, eq-eqb, ne_eqb}
 use Rattle.sheet.specs.All.{◌and◌}
 use Rattle.sheet.proofs.All.{and-true, true-and, false-and, and-false}
-use Rattle.sheet.specs.Table.{lookUp}
-use Rattle.sheet_rules.specs.Forms.{binaryOf}
-use Rattle.sheet_rules.proofs.Forms.{binary-mod}
+use Rattle.sheet.specs.Table.{look_up}
+use Rattle.sheet_rules.specs.Forms.{binary_of}
+use Rattle.sheet_rules.proofs.Forms.{binary_mod}
 use Rattle.machine_division.specs.Division.{quotient, remainder}
-use Rattle.machine.specs.Values.{is_zero, sameWord}
-use Rattle.machine.specs.Eval.{boolWord, isOne, intOut, dividing}
+use Rattle.machine.specs.Values.{is_zero, same_word_lem}
+use Rattle.machine.specs.Eval.{bool_word, is_one, int_out, dividing}
 use Rattle.engine_ints.specs.declared.Work.TheVariants.{Word}
-use Rattle.engine_ints.specs.Work.{workOf, combinedWork, binaryWork}
+use Rattle.engine_ints.specs.Work.{work_of, combined_work, binary_work}
 
-pub bool-back : (b : Bool) → to_z w32 (of_z w32 (boolWord b)) ≡ boolWord b
-bool-back true = refl
-bool-back false = refl
+pub bool_back : (b : Bool) → to_z w32 (of_z w32 (bool_word b)) ≡ bool_word b
+bool_back true = refl
+bool_back false = refl
 
 -- a Bool's word that a call gave
-pub word_back : (z : ℤ) (b : Bool) → z ≡ boolWord b → to_z w32 (of_z w32 z) ≡ boolWord b
-word_back z b e = ap (λ (z : ℤ). to_z w32 (of_z w32 z)) e ∙ bool-back b
+pub word_back : (z : ℤ) (b : Bool) → z ≡ bool_word b → to_z w32 (of_z w32 z) ≡ bool_word b
+word_back z b e = ap (λ (z : ℤ). to_z w32 (of_z w32 z)) e ∙ bool_back b
 
 -- ---- tests of equality, which go by the bits
 
@@ -37,7 +37,7 @@ two_ways m n = elim (ℕ_discrete m n) [
   | no e ↦ ne_eqb m n e ∙ sym (elim (dec_lt m n) [ yes l ↦ and-false _ _ (lt-leb n m l) | no l ↦ false-and _ _ (lt-leb m n (omega arith)) ])
 ]
 
-pub same_bits : (a b : ℤ) → SFits w32 a → SFits w32 b → eqb (of_z w32 a) (of_z w32 b) ≡ sameWord a b
+pub same_bits : (a b : ℤ) → SFits w32 a → SFits w32 b → eqb (of_z w32 a) (of_z w32 b) ≡ same_word_lem a b
 same_bits (pos m) (pos n) h k = two_ways m n
 same_bits (pos m) (negsuc n) h k = ne_eqb m (4294967296 - suc n) (λ e. let p = h.sfits in let q = k.sfits in omega arith) ∙ sym (false-and _ _ refl)
 same_bits (negsuc m) (pos n) h k = ne_eqb (4294967296 - suc m) n (λ e. let p = h.sfits in let q = k.sfits in omega arith) ∙ sym (and-false _ _ refl)
@@ -49,47 +49,47 @@ same_bits (negsuc m) (negsuc n) h k = elim (ℕ_discrete n m) [
 -- ---- and
 
 module _ (a b : ℤ) where
-  pub not-both : is_zero a ≡ true → pos 0 ≡ boolWord (isOne a and isOne b)
-  not-both e = ap boolWord (sym (false-and _ _ (ap not e)))
+  pub not_both_lem : is_zero a ≡ true → pos 0 ≡ bool_word (is_one a and is_one b)
+  not_both_lem e = ap bool_word (sym (false-and _ _ (ap not e)))
 
-  pub other-one : is_zero a ≡ false → boolWord (isOne b) ≡ boolWord (isOne a and isOne b)
-  other-one e = ap boolWord (sym (true-and _ _ (ap not e)))
+  pub other_one : is_zero a ≡ false → bool_word (is_one b) ≡ bool_word (is_one a and is_one b)
+  other_one e = ap bool_word (sym (true-and _ _ (ap not e)))
 
 -- ---- operators
 
 module _ (op : ℕ) (a b : ℤ) (l : ℕ) where
-  by-operator : (n : ℕ) → op ≡ n → combinedWork (binaryOf n) a b l ≡ binaryWork op a b l
-  unfolding binaryWork
-  by-operator n e = sym (ap (λ n. combinedWork (binaryOf n) a b l) e)
+  by_operator : (n : ℕ) → op ≡ n → combined_work (binary_of n) a b l ≡ binary_work op a b l
+  unfolding binary_work
+  by_operator n e = sym (ap (λ n. combined_work (binary_of n) a b l) e)
 
-  pub binary-9 : op ≡ 9 → Word (boolWord (isOne a and isOne b)) l ≡ binaryWork op a b l
-  unfolding combinedWork binaryOf lookUp
-  binary-9 e = by-operator 9 e
+  pub binary_9 : op ≡ 9 → Word (bool_word (is_one a and is_one b)) l ≡ binary_work op a b l
+  unfolding combined_work binary_of look_up
+  binary_9 e = by_operator 9 e
 
-  pub binary-10 : op ≡ 10 → Word (boolWord (sameWord a b)) l ≡ binaryWork op a b l
-  unfolding combinedWork binaryOf lookUp
-  binary-10 e = by-operator 10 e
+  pub binary_10 : op ≡ 10 → Word (bool_word (same_word_lem a b)) l ≡ binary_work op a b l
+  unfolding combined_work binary_of look_up
+  binary_10 e = by_operator 10 e
 
-  pub binary-11 : op ≡ 11 → Word (boolWord (lt_z a b)) l ≡ binaryWork op a b l
-  unfolding combinedWork binaryOf lookUp
-  binary-11 e = by-operator 11 e
+  pub binary_11 : op ≡ 11 → Word (bool_word (lt_z a b)) l ≡ binary_work op a b l
+  unfolding combined_work binary_of look_up
+  binary_11 e = by_operator 11 e
 
-  pub binary-12 : op ≡ 12 → workOf (intOut (a +ℤ b) l) ≡ binaryWork op a b l
-  unfolding combinedWork binaryOf lookUp
-  binary-12 e = by-operator 12 e
+  pub binary_12 : op ≡ 12 → work_of (int_out (a +ℤ b) l) ≡ binary_work op a b l
+  unfolding combined_work binary_of look_up
+  binary_12 e = by_operator 12 e
 
-  pub binary-13 : op ≡ 13 → workOf (intOut (a -ℤ b) l) ≡ binaryWork op a b l
-  unfolding combinedWork binaryOf lookUp
-  binary-13 e = by-operator 13 e
+  pub binary_13 : op ≡ 13 → work_of (int_out (a -ℤ b) l) ≡ binary_work op a b l
+  unfolding combined_work binary_of look_up
+  binary_13 e = by_operator 13 e
 
-  pub binary-14 : op ≡ 14 → workOf (intOut (a *ℤ b) l) ≡ binaryWork op a b l
-  unfolding combinedWork binaryOf lookUp
-  binary-14 e = by-operator 14 e
+  pub binary_14 : op ≡ 14 → work_of (int_out (a *ℤ b) l) ≡ binary_work op a b l
+  unfolding combined_work binary_of look_up
+  binary_14 e = by_operator 14 e
 
-  pub binary-15 : op ≡ 15 → workOf (dividing b (quotient a b) l) ≡ binaryWork op a b l
-  unfolding combinedWork binaryOf lookUp
-  binary-15 e = by-operator 15 e
+  pub binary_15 : op ≡ 15 → work_of (dividing b (quotient a b) l) ≡ binary_work op a b l
+  unfolding combined_work binary_of look_up
+  binary_15 e = by_operator 15 e
 
-  pub binary-rest : (op ≡ 9 → ⊥) → (op ≡ 10 → ⊥) → (op ≡ 11 → ⊥) → (op ≡ 12 → ⊥) → (op ≡ 13 → ⊥) → (op ≡ 14 → ⊥) → (op ≡ 15 → ⊥) → workOf (dividing b (remainder a b) l) ≡ binaryWork op a b l
-  unfolding binaryWork combinedWork
-  binary-rest n₁ n₂ n₃ n₄ n₅ n₆ n₇ = sym (ap (λ o. combinedWork o a b l) (binary-mod op n₁ n₂ n₃ n₄ n₅ n₆ n₇))
+  pub binary-rest : (op ≡ 9 → ⊥) → (op ≡ 10 → ⊥) → (op ≡ 11 → ⊥) → (op ≡ 12 → ⊥) → (op ≡ 13 → ⊥) → (op ≡ 14 → ⊥) → (op ≡ 15 → ⊥) → work_of (dividing b (remainder a b) l) ≡ binary_work op a b l
+  unfolding binary_work combined_work
+  binary-rest n₁ n₂ n₃ n₄ n₅ n₆ n₇ = sym (ap (λ o. combined_work o a b l) (binary_mod op n₁ n₂ n₃ n₄ n₅ n₆ n₇))

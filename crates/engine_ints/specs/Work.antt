@@ -2,39 +2,39 @@
 use Rattle.std.specs.Prelude.{ℕ, ℤ, ◌+ℤ◌, ◌-ℤ◌, ◌*ℤ◌}
 use Rattle.std.specs.Int.Signed.{lt_z}
 use Rattle.sheet.specs.All.{◌and◌}
-use Rattle.sheet_rules.specs.Forms.{Binary, both, equal, less, plus, minus, times, div, modulo, binaryOf}
+use Rattle.sheet_rules.specs.Forms.{Binary, both, equal, less, plus, minus, times, div, modulo, binary_of}
 use Rattle.machine_division.specs.Division.{quotient, remainder}
 use Rattle.machine.specs.declared.Out.{Out}
 use Rattle.machine.specs.declared.Out.TheVariants as out
-use Rattle.machine.specs.Values.{is_zero, sameWord}
-use Rattle.machine.specs.Eval.{boolWord, intOut, dividing, isOne}
+use Rattle.machine.specs.Values.{is_zero, same_word_lem}
+use Rattle.machine.specs.Eval.{bool_word, int_out, dividing, is_one}
 use Rattle.engine_ints.specs.declared.Work.{Work}
 use Rattle.engine_ints.specs.declared.Work.TheVariants.{Word, Refused, Stuck}
 
-unfoldable pub workOf : Out → Work
-workOf (out.Val v l) = Word v.word l
-workOf (out.Refused n l) = Refused n l
-workOf out.Stuck = Stuck
+unfoldable pub work_of : Out → Work
+work_of (out.Val v l) = Word v.word l
+work_of (out.Refused n l) = Refused n l
+work_of out.Stuck = Stuck
 
 -- a word goes on; a refusal and stuck are the answer
-unfoldable pub thenWork : Work → (ℤ → ℕ → Work) → Work
-thenWork (Word z l) K = K z l
-thenWork (Refused n l) K = Refused n l
-thenWork Stuck K = Stuck
+unfoldable pub then_work : Work → (ℤ → ℕ → Work) → Work
+then_work (Word z l) K = K z l
+then_work (Refused n l) K = Refused n l
+then_work Stuck K = Stuck
 
-unfoldable pub combinedWork : Binary → ℤ → ℤ → ℕ → Work
-combinedWork both a b l = Word (boolWord (isOne a and isOne b)) l
-combinedWork equal a b l = Word (boolWord (sameWord a b)) l
-combinedWork less a b l = Word (boolWord (lt_z a b)) l
-combinedWork plus a b l = workOf (intOut (a +ℤ b) l)
-combinedWork minus a b l = workOf (intOut (a -ℤ b) l)
-combinedWork times a b l = workOf (intOut (a *ℤ b) l)
-combinedWork div a b l = workOf (dividing b (quotient a b) l)
-combinedWork modulo a b l = workOf (dividing b (remainder a b) l)
+unfoldable pub combined_work : Binary → ℤ → ℤ → ℕ → Work
+combined_work both a b l = Word (bool_word (is_one a and is_one b)) l
+combined_work equal a b l = Word (bool_word (same_word_lem a b)) l
+combined_work less a b l = Word (bool_word (lt_z a b)) l
+combined_work plus a b l = work_of (int_out (a +ℤ b) l)
+combined_work minus a b l = work_of (int_out (a -ℤ b) l)
+combined_work times a b l = work_of (int_out (a *ℤ b) l)
+combined_work div a b l = work_of (dividing b (quotient a b) l)
+combined_work modulo a b l = work_of (dividing b (remainder a b) l)
 
-unfoldable pub binaryWork : ℕ → ℤ → ℤ → ℕ → Work
-binaryWork op a b l = combinedWork (binaryOf op) a b l
+unfoldable pub binary_work : ℕ → ℤ → ℤ → ℕ → Work
+binary_work op a b l = combined_work (binary_of op) a b l
 
 -- 8 not
-unfoldable pub notWork : ℤ → ℕ → Work
-notWork z l = Word (boolWord (is_zero z)) l
+unfoldable pub not_work : ℤ → ℕ → Work
+not_work z l = Word (bool_word (is_zero z)) l

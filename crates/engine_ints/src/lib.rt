@@ -2,10 +2,10 @@
 ghost use Rattle.std.specs.Prelude.{◌≡◌, not, false, ◌+ℤ◌, ◌-ℤ◌, ◌*ℤ◌};
 ghost use Rattle.std.specs.Int.Signed.{lt_z};
 ghost use Rattle.sheet.specs.All.{◌and◌};
-ghost use Rattle.machine.specs.Values.{is_zero, sameWord};
+ghost use Rattle.machine.specs.Values.{is_zero, same_word};
 ghost use Rattle.machine_division.specs.Division.{quotient, remainder};
-ghost use Rattle.machine.specs.Eval.{boolWord, isOne, intOut, dividing};
-ghost use Rattle.engine_ints.specs.Work.{workOf, binaryWork, notWork};
+ghost use Rattle.machine.specs.Eval.{bool_word, is_one, int_out, dividing};
+ghost use Rattle.engine_ints.specs.Work.{work_of, binary_work, not_work};
 
 // What an expression gives: a word and the steps left, a refusal with its number, or stuck.
 #[derive(Drop)]
@@ -17,13 +17,13 @@ pub enum Work {
 
 // The word of a Bool.
 pub fn bool_word(b: bool) -> i32
-    ensures { result ≡ boolWord b }
+    ensures { result ≡ bool_word b }
 {
     b as i32
 }
 
 fn both(a: i32, b: i32) -> i32
-    ensures { result ≡ boolWord (isOne a and isOne b) }
+    ensures { result ≡ bool_word (is_one a and is_one b) }
 {
     if a == 0 {
         return 0;
@@ -32,20 +32,20 @@ fn both(a: i32, b: i32) -> i32
 }
 
 fn same(a: i32, b: i32) -> i32
-    ensures { result ≡ boolWord (sameWord a b) }
+    ensures { result ≡ bool_word (same_word a b) }
 {
     bool_word(a == b)
 }
 
 fn less(a: i32, b: i32) -> i32
-    ensures { result ≡ boolWord (lt_z a b) }
+    ensures { result ≡ bool_word (lt_z a b) }
 {
     bool_word(a < b)
 }
 
 // "Int outside 32 bits" is 6.
 fn fit(z: i64, left: u32) -> Work
-    ensures { result ≡ workOf (intOut z left) }
+    ensures { result ≡ work_of (int_out z left) }
 {
     if z < -2147483648 {
         return Work::Refused { number: 6, left };
@@ -60,19 +60,19 @@ fn fit(z: i64, left: u32) -> Work
 }
 
 fn plus(a: i32, b: i32, left: u32) -> Work
-    ensures { result ≡ workOf (intOut (a +ℤ b) left) }
+    ensures { result ≡ work_of (int_out (a +ℤ b) left) }
 {
     fit(a as i64 + b as i64, left)
 }
 
 fn minus(a: i32, b: i32, left: u32) -> Work
-    ensures { result ≡ workOf (intOut (a -ℤ b) left) }
+    ensures { result ≡ work_of (int_out (a -ℤ b) left) }
 {
     fit(a as i64 - b as i64, left)
 }
 
 fn times(a: i32, b: i32, left: u32) -> Work
-    ensures { result ≡ workOf (intOut (a *ℤ b) left) }
+    ensures { result ≡ work_of (int_out (a *ℤ b) left) }
 {
     fit(a as i64 * b as i64, left)
 }
@@ -92,7 +92,7 @@ fn floored(a: i32, b: i32) -> i64
 
 // "Divisor 0" is 6; so is the least Int by -1.
 fn div(a: i32, b: i32, left: u32) -> Work
-    ensures { result ≡ workOf (dividing b (quotient a b) left) }
+    ensures { result ≡ work_of (dividing b (quotient a b) left) }
 {
     if b == 0 {
         return Work::Refused { number: 6, left };
@@ -102,7 +102,7 @@ fn div(a: i32, b: i32, left: u32) -> Work
 
 // "a mod b = a − b × (a div b), of which only the result must fit", and it does: it lies between 0 and b.
 fn modulo(a: i32, b: i32, left: u32) -> Work
-    ensures { result ≡ workOf (dividing b (remainder a b) left) }
+    ensures { result ≡ work_of (dividing b (remainder a b) left) }
 {
     let x = a as i64;
     let y = b as i64;
@@ -119,7 +119,7 @@ fn modulo(a: i32, b: i32, left: u32) -> Work
 
 // 9 and; 10 equal; 11 less; 12 plus; 13 minus; 14 times; 15 div; 16 mod.
 pub fn binary(op: u16, a: i32, b: i32, left: u32) -> Work
-    ensures { result ≡ binaryWork op a b left }
+    ensures { result ≡ binary_work op a b left }
 {
     match op {
         9 => Work::Word {
@@ -144,7 +144,7 @@ pub fn binary(op: u16, a: i32, b: i32, left: u32) -> Work
 
 // 8 not.
 pub fn not(z: i32, left: u32) -> Work
-    ensures { result ≡ notWork z left }
+    ensures { result ≡ not_work z left }
 {
     Work::Word {
         word: bool_word(z == 0),

@@ -1,8 +1,8 @@
 // What each kind of event does to a state of the sheet.
 ghost use Rattle.std.specs.Prelude.{List, ◌≡◌, ℕ, length};
-ghost use Rattle.machine.specs.State.{stateLength};
-ghost use Rattle.machine.specs.Play.{ended, outside, slice, limitOf};
-ghost use Rattle.machine_events.specs.Event.{happensBy};
+ghost use Rattle.machine.specs.State.{state_length};
+ghost use Rattle.machine.specs.Play.{ended, outside, slice, limit_of};
+ghost use Rattle.machine_events.specs.Event.{happens_by};
 ghost use Rattle.engine_queue.specs.Laid.{Laid};
 ghost use Rattle.engine_cells.specs.Playing.{Playing};
 ghost use Rattle.engine_kinds.specs.Happens.{Happens};
@@ -17,7 +17,7 @@ use sheet::Directory;
 // 1: "external s sends to bound r on port p external name n; appended"
 fn sent_outside(st: &mut [i32], t: Telegram) -> Answer
     requires { Laid st.old }
-    ensures { (s : List ℕ) → length st.old ≡ stateLength s → ended result st.new ≡ outside s st.old t }
+    ensures { (s : List ℕ) → length st.old ≡ state_length s → ended result st.new ≡ outside s st.old t }
 {
     let number = engine_queue::append(st, t);
     answered(number, 0)
@@ -54,7 +54,7 @@ pub fn happened(
     j: usize,
 ) -> Answer
     requires { Happens sheet.now directory.now cells.now old.now st.old e j }
-    ensures { ended result st.new ≡ happensBy sheet.now (limitOf sheet.now) st.old e }
+    ensures { ended result st.new ≡ happens_by sheet.now (limit_of sheet.now) st.old e }
 {
     match e {
         Event::Malformed => answered(4, 0),

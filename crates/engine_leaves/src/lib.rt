@@ -3,14 +3,14 @@
 ghost use Rattle.std.specs.Prelude.{◌≡◌, suc, ◌+◌, ◌<◌};
 ghost use Rattle.sheet.specs.declared.Found.TheVariants.{Present};
 ghost use Rattle.sheet.specs.Names.{nodes};
-ghost use Rattle.sheet.specs.Sheet.{directoryOf, recordOf};
+ghost use Rattle.sheet.specs.Sheet.{directory_of, record_of};
 ghost use Rattle.sheet_rules.specs.Forms.{read, form_of};
 ghost use Rattle.machine.specs.State.{cell_at, word_of};
-ghost use Rattle.machine.specs.Eval.{literalValue, evalOf};
-ghost use Rattle.engine_ints.specs.Work.{workOf, thenWork, binaryWork, notWork};
-ghost use Rattle.engine_context.specs.Context.{cellIn, leadsTo};
-ghost use Rattle.engine_ready.specs.Ready.{contextAt, Ready, Lies, Reaches, IsExpression};
-ghost use Rattle.engine_ready.specs.Words.{elementWord};
+ghost use Rattle.machine.specs.Eval.{literal_value, eval_of};
+ghost use Rattle.engine_ints.specs.Work.{work_of, then_work, binary_work, not_work};
+ghost use Rattle.engine_context.specs.Context.{cell_in, leads_to};
+ghost use Rattle.engine_ready.specs.Ready.{context_at, Ready, Lies, Reaches, IsExpression};
+ghost use Rattle.engine_ready.specs.Words.{element_word};
 
 use engine_context::{BINDING, ELEMENT, Frame, Locals, Place};
 use engine_ints::Work;
@@ -19,7 +19,7 @@ use sheet::{BINDINGS, Directory, Found, NODES, Record};
 // The word that a literal writes down, in element e.
 pub fn literal(e: usize, r: Record) -> i32
     requires { e < 65536 }
-    ensures { result ≡ (literalValue e r).word }
+    ensures { result ≡ (literal_value e r).word }
 {
     let op = r.f0;
     match op {
@@ -33,7 +33,7 @@ pub fn literal(e: usize, r: Record) -> i32
 }
 
 pub fn negated(x: Work) -> Work
-    ensures { result ≡ thenWork x notWork }
+    ensures { result ≡ then_work x not_work }
 {
     match x {
         Work::Word { word, left } => engine_ints::not(word, left),
@@ -44,7 +44,7 @@ pub fn negated(x: Work) -> Work
 
 // An operator on a word and what its second operand gives.
 pub fn combined(op: u16, a: i32, y: Work) -> Work
-    ensures { result ≡ thenWork y (λ b l. binaryWork op a b l) }
+    ensures { result ≡ then_work y (λ b l. binary_work op a b l) }
 {
     match y {
         Work::Word { word, left } => engine_ints::binary(op, a, word, left),
@@ -56,7 +56,7 @@ pub fn combined(op: u16, a: i32, y: Work) -> Work
 // Word k in the cell of the element's plain variable n.
 pub fn cell_word(context: &Frame, st: &[i32], n: usize, k: usize) -> i32
     requires { Lies context.now st.now n × (k < 8) }
-    ensures { result ≡ word_of st.now (cell_at (cellIn context.now n) + k) }
+    ensures { result ≡ word_of st.now (cell_at (cell_in context.now n) + k) }
 {
     st[engine_context::first_word(context, n) + k]
 }
@@ -65,7 +65,7 @@ pub fn cell_word(context: &Frame, st: &[i32], n: usize, k: usize) -> i32
 // outside.
 pub fn element_at(context: &Frame, st: &[i32], n: usize, i: i32, left: u32) -> Work
     requires { Reaches context.now st.now n }
-    ensures { result ≡ elementWord st.now (leadsTo context.now n i) left }
+    ensures { result ≡ element_word st.now (leads_to context.now n i) left }
 {
     let p = engine_context::element_word(context, n, i);
     match p {
@@ -77,7 +77,7 @@ pub fn element_at(context: &Frame, st: &[i32], n: usize, i: i32, left: u32) -> W
 // The same, by what the index gives.
 pub fn element(context: &Frame, st: &[i32], n: usize, x: Work) -> Work
     requires { Reaches context.now st.now n }
-    ensures { result ≡ thenWork x (λ i. elementWord st.now (leadsTo context.now n i)) }
+    ensures { result ≡ then_work x (λ i. element_word st.now (leads_to context.now n i)) }
 {
     match x {
         Work::Word { word, left } => element_at(context, st, n, word, left),
@@ -97,8 +97,8 @@ pub fn variable(
     r: Record,
     left: u32,
 ) -> Work
-    requires { (directory.now ≡ directoryOf sheet.now) × Ready sheet.now context.now st.now lo.now × IsExpression sheet.now context.now n × (recordOf sheet.now nodes n ≡ Present r) × (form_of r.f0 ≡ read) }
-    ensures { result ≡ workOf (evalOf sheet.now (contextAt sheet.now context.now) st.now lo.now n (suc left)) }
+    requires { (directory.now ≡ directory_of sheet.now) × Ready sheet.now context.now st.now lo.now × IsExpression sheet.now context.now n × (record_of sheet.now nodes n ≡ Present r) × (form_of r.f0 ≡ read) }
+    ensures { result ≡ work_of (eval_of sheet.now (context_at sheet.now context.now) st.now lo.now n (suc left)) }
 {
     let place = r.f1;
     let number = r.f2 as usize;

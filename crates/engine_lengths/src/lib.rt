@@ -1,17 +1,17 @@
 // Tests of lengths, by numbers alone.
 ghost use Rattle.std.specs.Prelude.{◌≡◌, ◌*◌, ◌/◌, ◌%◌, ◌≤◌, eqb};
 ghost use Rattle.sheet.specs.All.{◌and◌};
-ghost use Rattle.sheet_rules.specs.Shape.{mostCells};
-ghost use Rattle.machine.specs.Play.{wordsOfEvent};
-ghost use Rattle.engine_store.specs.Layout.{wordsWith};
-ghost use Rattle.machine_lists.specs.Words.{wordsOfAnswer};
+ghost use Rattle.sheet_rules.specs.Shape.{most_cells};
+ghost use Rattle.machine.specs.Play.{words_of_event};
+ghost use Rattle.engine_store.specs.Layout.{words_with};
+ghost use Rattle.machine_lists.specs.Words.{words_of_answer};
 
 use machine::{ANSWER_WORDS, EVENT_WORDS};
 
 // Whether a state with that many cells has so many words.
 pub fn is_state(cells: usize, words: usize) -> bool
-    requires { cells ≤ mostCells }
-    ensures { result ≡ eqb words (wordsWith cells) }
+    requires { cells ≤ most_cells }
+    ensures { result ≡ eqb words (words_with cells) }
 {
     words == engine_store::state_length(cells)
 }
@@ -19,7 +19,7 @@ pub fn is_state(cells: usize, words: usize) -> bool
 // Whether words are whole events, and as many others are room for an answer to each: by quotients, so
 // that no product can wrap.
 pub fn is_list(events: usize, answers: usize) -> bool
-    ensures { result ≡ (eqb (events % wordsOfEvent) 0 and eqb answers (wordsOfAnswer * (events / wordsOfEvent))) }
+    ensures { result ≡ (eqb (events % words_of_event) 0 and eqb answers (words_of_answer * (events / words_of_event))) }
 {
     if events % EVENT_WORDS != 0 {
         return false;

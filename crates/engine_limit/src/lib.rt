@@ -1,14 +1,14 @@
 // The step limit of a sheet.
 ghost use Rattle.std.specs.Prelude.{◌≡◌, ◌<◌};
-ghost use Rattle.sheet.specs.Sheet.{directoryOf};
-ghost use Rattle.machine.specs.Play.{limitOf};
+ghost use Rattle.sheet.specs.Sheet.{directory_of};
+ghost use Rattle.machine.specs.Play.{limit_of};
 
 use sheet::{Directory, HEAD};
 
 // "f3 step limit (0 means 2,000)", which is a 16-bit number.
 pub fn limit(sheet: &[u8], directory: &Directory) -> u32
-    requires { directory.now ≡ directoryOf sheet.now }
-    ensures { (result ≡ limitOf sheet.now) × (result < 65536) }
+    requires { directory.now ≡ directory_of sheet.now }
+    ensures { (result ≡ limit_of sheet.now) × (result < 65536) }
 {
     let steps = sheet_fields::field_at(sheet, directory, HEAD, 0, 3);
     if steps == 0 {

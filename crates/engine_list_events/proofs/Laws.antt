@@ -9,39 +9,39 @@ use lib.Seq.{take_all}
 use lib.Dec.{ltb, eqb}
 use lib.IntN.{ℤ}
 use Rattle.sheet.specs.declared.Found.TheVariants.{Present, Absent}
-use Rattle.sheet.specs.Names.{head, stepLimit}
-use Rattle.sheet.specs.Sheet.{count_of, offset_of, recordAt, recordOf}
+use Rattle.sheet.specs.Names.{head, step_limit}
+use Rattle.sheet.specs.Sheet.{count_of, offset_of, record_at, record_of}
 use Rattle.machine.specs.declared.Answer.{Answer}
-use Rattle.sheet_rules.specs.Fields.{numberOr0}
-use Rattle.machine.specs.State.{putWords}
-use Rattle.machine.specs.Play.{defaultLimit, limitBy, limitOf}
-use Rattle.machine.specs.Lists.{Played, played, nowhere, thenPlayed, afterAnswer, goesOn, eventsOf, EventGives}
+use Rattle.sheet_rules.specs.Fields.{number_or0}
+use Rattle.machine.specs.State.{put_words}
+use Rattle.machine.specs.Play.{default_limit, limit_by, limit_of}
+use Rattle.machine.specs.Lists.{Played, played, nowhere, then_played, after_answer, goes_on_lem, events_of, EventGives}
 use Rattle.sheet_rules.specs.declared.Checked.TheVariants.{Passed}
-use Rattle.sheet_rules.specs.Check.{checkOf}
+use Rattle.sheet_rules.specs.Check.{check_of}
 use Rattle.machine.specs.Valid.{OfSheet}
 use Rattle.machine_claim.proofs.Limit.{event-within}
-use Rattle.machine_claim.proofs.Kept.{goes-on-is}
-use Rattle.machine_lists.specs.Words.{eventAt, eventsFrom, wordsOfAnswer, answerWords, answersWords, Written, written, unwritten, in_words}
-use Rattle.engine_answers.proofs.Laws.{answer-length, front-put}
+use Rattle.machine_claim.proofs.Kept.{goes_on_is}
+use Rattle.machine_lists.specs.Words.{event_at, events_from, words_of_answer, answer_words, answers_words, Written, written, unwritten, in_words}
+use Rattle.engine_answers.proofs.Laws.{answer_length, front_put}
 
 -- ---- steps fit a word
 
 module _ (s : List ℕ) (bytes : (i : ℕ) → get_or s i 0 < 256) where
-  field-small : (b : Bool) (at : ℕ) → numberOr0 (elim b [ true ↦ Present (recordAt s at) | false ↦ Absent ]) stepLimit < 65536
-  unfolding numberOr0 recordAt
-  field-small true at = omega (arith, bytes (at + 6), bytes (at + 6 + 1))
-  field-small false at = omega arith
+  field_small : (b : Bool) (at : ℕ) → number_or0 (elim b [ true ↦ Present (record_at s at) | false ↦ Absent ]) step_limit < 65536
+  unfolding number_or0 record_at
+  field_small true at = omega (arith, bytes (at + 6), bytes (at + 6 + 1))
+  field_small false at = omega arith
 
-  limit-small : limitOf s < 65536
-  unfolding limitBy recordOf
-  limit-small = go (eqb (numberOr0 (recordOf s head 0) stepLimit) 0)
+  limit_small : limit_of s < 65536
+  unfolding limit_by record_of
+  limit_small = go (eqb (number_or0 (record_of s head 0) step_limit) 0)
     where
-      go : (b : Bool) → elim b [ true ↦ defaultLimit | false ↦ numberOr0 (recordOf s head 0) stepLimit ] < 65536
+      go : (b : Bool) → elim b [ true ↦ default_limit | false ↦ number_or0 (record_of s head 0) step_limit ] < 65536
       go true = omega arith
-      go false = field-small (ltb 0 (count_of s head)) (offset_of s head + 16 * 0)
+      go false = field_small (ltb 0 (count_of s head)) (offset_of s head + 16 * 0)
 
-  pub steps-small : (old ev : List ℤ) (a : Answer) (st : List ℤ) → EventGives s (limitOf s) old old ev a st → a.steps < 2147483648
-  steps-small old ev a st g = omega (arith, limit-small, (event-within s old old ev).steps a st (sym g))
+  pub steps_small : (old ev : List ℤ) (a : Answer) (st : List ℤ) → EventGives s (limit_of s) old old ev a st → a.steps < 2147483648
+  steps_small old ev a st g = omega (arith, limit_small, (event-within s old old ev).steps a st (sym g))
 
 -- ---- a run in words, after words that stand before it
 
@@ -59,46 +59,46 @@ unfolding behind
 behind-behind us vs (written ws st) = ap (λ l. written l st) (sym (append_assoc us vs ws))
 behind-behind us vs unwritten = refl
 
-behind-answer : (a : Answer) (p : Played) → in_words (afterAnswer a p) ≡ behind (answerWords a) (in_words p)
-unfolding behind in_words afterAnswer answersWords
+behind-answer : (a : Answer) (p : Played) → in_words (after_answer a p) ≡ behind (answer_words a) (in_words p)
+unfolding behind in_words after_answer answers_words
 behind-answer a (played answers st) = refl
 behind-answer a nowhere = refl
 
 module _ (s : List ℕ) (events : List ℤ) where
   -- the run from event i of count on
   abbrev pub rest : ℕ → ℕ → List ℤ → Written
-  rest count i st = in_words (eventsOf s (limitOf s) st (eventsFrom events (count - i) i))
+  rest count i st = in_words (events_of s (limit_of s) st (events_from events (count - i) i))
 
-  pub no-event-yet : (count : ℕ) (st answers : List ℤ) → in_words (eventsOf s (limitOf s) st (eventsFrom events count 0)) ≡ behind (take (wordsOfAnswer * 0) answers) (rest count 0 st)
-  no-event-yet count st answers =
+  pub no_event_yet : (count : ℕ) (st answers : List ℤ) → in_words (events_of s (limit_of s) st (events_from events count 0)) ≡ behind (take (words_of_answer * 0) answers) (rest count 0 st)
+  no_event_yet count st answers =
       let e : count ≡ count - 0 = omega arith in
-      sym (behind-none (in_words (eventsOf s (limitOf s) st (eventsFrom events count 0)))) ∙ ap (λ n. behind [] (in_words (eventsOf s (limitOf s) st (eventsFrom events n 0)))) e
+      sym (behind-none (in_words (events_of s (limit_of s) st (events_from events count 0)))) ∙ ap (λ n. behind [] (in_words (events_of s (limit_of s) st (events_from events n 0)))) e
 
-  one-event : checkOf s ≡ Passed → (st ev : List ℤ) (evs : List (List ℤ)) (a : Answer) (new : List ℤ) → OfSheet s st → EventGives s (limitOf s) st st ev a new → in_words (eventsOf s (limitOf s) st (ev ∷ evs)) ≡ behind (answerWords a) (in_words (eventsOf s (limitOf s) new evs))
-  unfolding eventsOf thenPlayed
+  one-event : check_of s ≡ Passed → (st ev : List ℤ) (evs : List (List ℤ)) (a : Answer) (new : List ℤ) → OfSheet s st → EventGives s (limit_of s) st st ev a new → in_words (events_of s (limit_of s) st (ev ∷ evs)) ≡ behind (answer_words a) (in_words (events_of s (limit_of s) new evs))
+  unfolding events_of then_played
   one-event ok st ev evs a new p g =
-      ap (λ w. in_words (thenPlayed w (λ a new. afterAnswer a (eventsOf s (limitOf s) (goesOn a st new) evs)))) (sym g)
-      ∙ ap (λ st. in_words (afterAnswer a (eventsOf s (limitOf s) st evs))) (goes-on-is s ok st ev a new p g)
-      ∙ behind-answer a (eventsOf s (limitOf s) new evs)
+      ap (λ w. in_words (then_played w (λ a new. after_answer a (events_of s (limit_of s) (goes_on_lem a st new) evs)))) (sym g)
+      ∙ ap (λ st. in_words (after_answer a (events_of s (limit_of s) st evs))) (goes_on_is s ok st ev a new p g)
+      ∙ behind-answer a (events_of s (limit_of s) new evs)
 
   -- one event more
-  pub event-more : checkOf s ≡ Passed → (count i : ℕ) (st answers : List ℤ) (w : Written) → i < count → length answers ≡ wordsOfAnswer * count → OfSheet s st → w ≡ behind (take (wordsOfAnswer * i) answers) (rest count i st) → (ev : List ℤ) → ev ≡ eventAt events i → (a : Answer) (new : List ℤ) → EventGives s (limitOf s) st st ev a new → (answers' : List ℤ) → answers' ≡ putWords answers (wordsOfAnswer * i) (answerWords a) → w ≡ behind (take (wordsOfAnswer * (i + 1)) answers') (rest count (i + 1) new)
-  unfolding eventsFrom
-  event-more ok count i st answers w l m p h ev q a new g answers' e =
+  pub event_more : check_of s ≡ Passed → (count i : ℕ) (st answers : List ℤ) (w : Written) → i < count → length answers ≡ words_of_answer * count → OfSheet s st → w ≡ behind (take (words_of_answer * i) answers) (rest count i st) → (ev : List ℤ) → ev ≡ event_at events i → (a : Answer) (new : List ℤ) → EventGives s (limit_of s) st st ev a new → (answers' : List ℤ) → answers' ≡ put_words answers (words_of_answer * i) (answer_words a) → w ≡ behind (take (words_of_answer * (i + 1)) answers') (rest count (i + 1) new)
+  unfolding events_from
+  event_more ok count i st answers w l m p h ev q a new g answers' e =
       let n : count - i ≡ suc (count - (i + 1)) = omega arith in
       let k : suc i ≡ i + 1 = omega arith in
-      let front : take (wordsOfAnswer * (i + 1)) answers' ≡ take (wordsOfAnswer * i) answers ++ answerWords a = ap (take (wordsOfAnswer * (i + 1))) e ∙ front-put answers (wordsOfAnswer * i) (answerWords a) (wordsOfAnswer * (i + 1)) (omega arith) (omega (arith, answer-length a)) in
+      let front : take (words_of_answer * (i + 1)) answers' ≡ take (words_of_answer * i) answers ++ answer_words a = ap (take (words_of_answer * (i + 1))) e ∙ front_put answers (words_of_answer * i) (answer_words a) (words_of_answer * (i + 1)) (omega arith) (omega (arith, answer_length a)) in
       h
-      ∙ ap (λ n. behind (take (wordsOfAnswer * i) answers) (in_words (eventsOf s (limitOf s) st (eventsFrom events n i)))) n
-      ∙ ap (λ k. behind (take (wordsOfAnswer * i) answers) (in_words (eventsOf s (limitOf s) st (eventAt events i ∷ eventsFrom events (count - (i + 1)) k)))) k
-      ∙ ap (λ ev. behind (take (wordsOfAnswer * i) answers) (in_words (eventsOf s (limitOf s) st (ev ∷ eventsFrom events (count - (i + 1)) (i + 1))))) (sym q)
-      ∙ ap (behind (take (wordsOfAnswer * i) answers)) (one-event ok st ev (eventsFrom events (count - (i + 1)) (i + 1)) a new p g)
-      ∙ behind-behind (take (wordsOfAnswer * i) answers) (answerWords a) (rest count (i + 1) new)
+      ∙ ap (λ n. behind (take (words_of_answer * i) answers) (in_words (events_of s (limit_of s) st (events_from events n i)))) n
+      ∙ ap (λ k. behind (take (words_of_answer * i) answers) (in_words (events_of s (limit_of s) st (event_at events i ∷ events_from events (count - (i + 1)) k)))) k
+      ∙ ap (λ ev. behind (take (words_of_answer * i) answers) (in_words (events_of s (limit_of s) st (ev ∷ events_from events (count - (i + 1)) (i + 1))))) (sym q)
+      ∙ ap (behind (take (words_of_answer * i) answers)) (one-event ok st ev (events_from events (count - (i + 1)) (i + 1)) a new p g)
+      ∙ behind-behind (take (words_of_answer * i) answers) (answer_words a) (rest count (i + 1) new)
       ∙ ap (λ ws. behind ws (rest count (i + 1) new)) (sym front)
 
-  pub all-events : (count i : ℕ) (st answers : List ℤ) (w : Written) → i ≤ count → count ≤ i → length answers ≡ wordsOfAnswer * count → w ≡ behind (take (wordsOfAnswer * i) answers) (rest count i st) → written answers st ≡ w
-  unfolding behind eventsFrom eventsOf in_words answersWords
-  all-events count i st answers w l k m h =
+  pub all_events : (count i : ℕ) (st answers : List ℤ) (w : Written) → i ≤ count → count ≤ i → length answers ≡ words_of_answer * count → w ≡ behind (take (words_of_answer * i) answers) (rest count i st) → written answers st ≡ w
+  unfolding behind events_from events_of in_words answers_words
+  all_events count i st answers w l k m h =
       let n : count - i ≡ 0 = omega arith in
-      let whole : take (wordsOfAnswer * i) answers ≡ answers = take_all (wordsOfAnswer * i) answers (omega arith) in
-      sym (h ∙ ap (λ n. behind (take (wordsOfAnswer * i) answers) (in_words (eventsOf s (limitOf s) st (eventsFrom events n i)))) n ∙ ap (λ ws. written ws st) (append-nil (take (wordsOfAnswer * i) answers) ∙ whole))
+      let whole : take (words_of_answer * i) answers ≡ answers = take_all (words_of_answer * i) answers (omega arith) in
+      sym (h ∙ ap (λ n. behind (take (words_of_answer * i) answers) (in_words (events_of s (limit_of s) st (events_from events n i)))) n ∙ ap (λ ws. written ws st) (append-nil (take (words_of_answer * i) answers) ∙ whole))

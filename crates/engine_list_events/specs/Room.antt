@@ -1,11 +1,11 @@
 -- What is lent to play a list of events on from a state.
 use Rattle.std.specs.Prelude.{ℕ, ◌*◌, ◌/◌, ◌≡◌, List, length, ℤ}
-use Rattle.machine.specs.Play.{wordsOfEvent}
-use Rattle.machine_lists.specs.Words.{wordsOfAnswer}
+use Rattle.machine.specs.Play.{words_of_event}
+use Rattle.machine_lists.specs.Words.{words_of_answer}
 use Rattle.engine_cells.specs.Playing.{Playing}
 
 -- a state of the sheet, a second one's room, and words for the answer to each event
 pub record Room (s d c : List ℕ) (events st second room : List ℤ) : Type 0 where
   pub playing : Playing s d c st
   pub spare : length second ≡ length st
-  pub answers : length room ≡ wordsOfAnswer * (length events / wordsOfEvent)
+  pub answers : length room ≡ words_of_answer * (length events / words_of_event)

@@ -1,9 +1,9 @@
 // Plays a list of events on from a state of the sheet.
 ghost use Rattle.std.specs.Prelude.{◌≡◌};
-ghost use Rattle.machine.specs.Lists.{eventsOf};
+ghost use Rattle.machine.specs.Lists.{events_of};
 ghost use Rattle.engine_cells.specs.Playing.{Playing};
-ghost use Rattle.machine_lists.specs.Words.{eventsIn, written, in_words};
-ghost use Rattle.machine.specs.Play.{limitOf};
+ghost use Rattle.machine_lists.specs.Words.{events_in, written, in_words};
+ghost use Rattle.machine.specs.Play.{limit_of};
 ghost use Rattle.engine_list_events.specs.Room.{Room};
 
 use engine_cells::CellLayout;
@@ -23,7 +23,7 @@ pub fn play_on(
     answers: &mut [i32],
 )
     requires { Room sheet.now directory.now cells.now events.now st.old spare.old answers.old }
-    ensures { Playing sheet.now directory.now cells.now st.new × (written answers.new st.new ≡ in_words (eventsOf sheet.now (limitOf sheet.now) st.old (eventsIn events.now))) }
+    ensures { Playing sheet.now directory.now cells.now st.new × (written answers.new st.new ≡ in_words (events_of sheet.now (limit_of sheet.now) st.old (events_in events.now))) }
 {
     let count = events.len() / EVENT_WORDS;
     let mut i: usize = 0;

@@ -1,10 +1,10 @@
 // Plays whole lists of events.
 ghost use Rattle.std.specs.Prelude.{◌≡◌};
-ghost use Rattle.sheet.specs.Sheet.{directoryOf};
+ghost use Rattle.sheet.specs.Sheet.{directory_of};
 ghost use Rattle.sheet_rules.specs.declared.Checked.TheVariants.{Passed};
-ghost use Rattle.sheet_rules.specs.Check.{checkOf};
-ghost use Rattle.machine.specs.Play.{limitOf};
-ghost use Rattle.machine_lists.specs.ListCall.{listed, listCall};
+ghost use Rattle.sheet_rules.specs.Check.{check_of};
+ghost use Rattle.machine.specs.Play.{limit_of};
+ghost use Rattle.machine_lists.specs.ListCall.{listed, list_call};
 
 use engine_answering::answered;
 use engine_cells::LAYOUT;
@@ -22,7 +22,7 @@ pub fn play(
     spare: &mut [i32],
     answers: &mut [i32],
 ) -> Answer
-    ensures { listed result st.new answers.new ≡ listCall sheet.now (limitOf sheet.now) events.now st.old spare.old answers.old }
+    ensures { listed result st.new answers.new ≡ list_call sheet.now (limit_of sheet.now) events.now st.old spare.old answers.old }
 {
     let directory = sheet_reader::directory(sheet);
     match checker::check_opened(sheet, &directory) {
@@ -40,8 +40,8 @@ fn play_passed(
     spare: &mut [i32],
     answers: &mut [i32],
 ) -> Answer
-    requires { (directory.now ≡ directoryOf sheet.now) × (checkOf sheet.now ≡ Passed) }
-    ensures { listed result st.new answers.new ≡ listCall sheet.now (limitOf sheet.now) events.now st.old spare.old answers.old }
+    requires { (directory.now ≡ directory_of sheet.now) × (check_of sheet.now ≡ Passed) }
+    ensures { listed result st.new answers.new ≡ list_call sheet.now (limit_of sheet.now) events.now st.old spare.old answers.old }
 {
     let mut cells = [0usize; LAYOUT];
     let count = engine_cells::fill(sheet, directory, &mut cells);

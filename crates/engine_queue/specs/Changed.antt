@@ -3,6 +3,6 @@ use Rattle.std.specs.Prelude.{ℕ, zero, suc, List, ℤ}
 use Rattle.machine.specs.State.{Changed, on, off}
 
 -- a number and the words of a state: 0 goes on with these words, another is refused with it
-unfoldable pub changedTo : ℕ → List ℤ → Changed
-changedTo zero st = on st
-changedTo (suc n) st = off (suc n)
+unfoldable pub changed_to : ℕ → List ℤ → Changed
+changed_to zero st = on st
+changed_to (suc n) st = off (suc n)

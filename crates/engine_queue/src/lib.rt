@@ -1,9 +1,9 @@
 // The telegrams that wait, and one appended.
 ghost use Rattle.std.specs.Prelude.{◌≡◌, List, ℕ, ◌<◌, ◌≤◌, length};
-ghost use Rattle.machine.specs.State.{places, stateLength, waiting, telegramOf, withTelegram, appended};
+ghost use Rattle.machine.specs.State.{places, state_length, waiting, telegram_of, with_telegram, appended};
 ghost use Rattle.engine_store.specs.Layout.{shortest};
 ghost use Rattle.engine_queue.specs.Laid.{Laid};
-ghost use Rattle.engine_queue.specs.Changed.{changedTo};
+ghost use Rattle.engine_queue.specs.Changed.{changed_to};
 
 use engine_store::PLACES;
 use machine::Telegram;
@@ -19,7 +19,7 @@ pub fn waiting_count(st: &[i32]) -> usize
 // The telegram at place j.
 pub fn telegram_at(st: &[i32], j: usize) -> Telegram
     requires { (shortest ≤ length st.now) × (j < places) }
-    ensures { (s : List ℕ) → length st.now ≡ stateLength s → result ≡ telegramOf s st.now j }
+    ensures { (s : List ℕ) → length st.now ≡ state_length s → result ≡ telegram_of s st.now j }
 {
     let at = engine_store::place_at(st.len(), j);
     engine_rows::telegram_in(st, at)
@@ -28,7 +28,7 @@ pub fn telegram_at(st: &[i32], j: usize) -> Telegram
 // A telegram after the last one that waits.
 fn put_last(st: &mut [i32], t: Telegram)
     requires { Laid st.old × (waiting st.old < places) }
-    ensures { (s : List ℕ) → length st.old ≡ stateLength s → st.new ≡ withTelegram s st.old t }
+    ensures { (s : List ℕ) → length st.old ≡ state_length s → st.new ≡ with_telegram s st.old t }
 {
     let n = waiting_count(st);
     let at = engine_store::place_at(st.len(), n);
@@ -41,7 +41,7 @@ fn put_last(st: &mut [i32], t: Telegram)
 // "128 telegrams wait and one more is appended": 8; "a seventeenth of its class": 12. The state then stays as it was. Otherwise 0.
 pub fn append(st: &mut [i32], t: Telegram) -> u8
     requires { Laid st.old }
-    ensures { ((s : List ℕ) → length st.old ≡ stateLength s → appended s st.old t ≡ changedTo result st.new) × ((result ≡ 0 → ⊥) → st.new ≡ st.old) }
+    ensures { ((s : List ℕ) → length st.old ≡ state_length s → appended s st.old t ≡ changed_to result st.new) × ((result ≡ 0 → ⊥) → st.new ≡ st.old) }
 {
     let n = waiting_count(st);
     if PLACES <= n {

@@ -13,20 +13,20 @@ use Rattle.engine_context.specs.declared.Place.{Place}
 use Rattle.engine_context.specs.declared.Place.TheVariants.{At, Outside}
 use Rattle.engine_ints.specs.declared.Work.{Work}
 use Rattle.engine_ints.specs.declared.Work.TheVariants as work
-use Rattle.engine_ints.specs.Work.{workOf}
+use Rattle.engine_ints.specs.Work.{work_of}
 
 -- a word goes on; a refusal and stuck end the statement
-unfoldable pub thenWord : Work → List ℤ → List ℤ → (ℤ → ℕ → World) → World
-thenWord (work.Word z l) st lo K = K z l
-thenWord (work.Refused n l) st lo K = world (Refused n l) st lo
-thenWord work.Stuck st lo K = world Stuck st lo
+unfoldable pub then_word : Work → List ℤ → List ℤ → (ℤ → ℕ → World) → World
+then_word (work.Word z l) st lo K = K z l
+then_word (work.Refused n l) st lo K = world (Refused n l) st lo
+then_word work.Stuck st lo K = world Stuck st lo
 
 -- ---- an element where an index leads
 
 -- "11, index outside its number"
-unfoldable pub elementWord : List ℤ → Place → ℕ → Work
-elementWord st (At k) l = work.Word (word_of st k) l
-elementWord st Outside l = work.Refused 11 l
+unfoldable pub element_word : List ℤ → Place → ℕ → Work
+element_word st (At k) l = work.Word (word_of st k) l
+element_word st Outside l = work.Refused 11 l
 
 unfoldable pub put_at : Place → ℤ → ℕ → List ℤ → List ℤ → World
 put_at (At k) z l st lo = world (Done l) (set st k z) lo
@@ -44,20 +44,20 @@ before z (given zs l) = given (z ∷ zs) l
 before z (refused n l) = refused n l
 before z stuck = stuck
 
-unfoldable pub thenDatum : Work → (ℕ → Data) → Data
-thenDatum (work.Word z l) K = before z (K l)
-thenDatum (work.Refused n l) K = refused n l
-thenDatum work.Stuck K = stuck
+unfoldable pub then_datum : Work → (ℕ → Data) → Data
+then_datum (work.Word z l) K = before z (K l)
+then_datum (work.Refused n l) K = refused n l
+then_datum work.Stuck K = stuck
 
 -- n data of a node from number j on
-unfoldable pub dataFrom : (ℕ → ℕ → Out) → Record → ℕ → ℕ → ℕ → Data
-dataFrom f r zero j l = given [] l
-dataFrom f r (suc n) j l = thenDatum (workOf (f (field_of r (4 + j)) l)) (λ l. dataFrom f r n (suc j) l)
+unfoldable pub data_from : (ℕ → ℕ → Out) → Record → ℕ → ℕ → ℕ → Data
+data_from f r zero j l = given [] l
+data_from f r (suc n) j l = then_datum (work_of (f (field_of r (4 + j)) l)) (λ l. data_from f r n (suc j) l)
 
-unfoldable pub thenData : Data → List ℤ → List ℤ → (List ℤ → ℕ → World) → World
-thenData (given zs l) st lo K = K zs l
-thenData (refused n l) st lo K = world (Refused n l) st lo
-thenData stuck st lo K = world Stuck st lo
+unfoldable pub then_data : Data → List ℤ → List ℤ → (List ℤ → ℕ → World) → World
+then_data (given zs l) st lo K = K zs l
+then_data (refused n l) st lo K = world (Refused n l) st lo
+then_data stuck st lo K = world Stuck st lo
 
 -- data for a range that are worked out with l steps left: words of its types
 abbrev pub DataTold : List ℕ → Range → ℕ → Data → Type 0
@@ -66,11 +66,11 @@ DataTold s g l (refused n m) = Unit {0}
 DataTold s g l stuck = Unit {0}
 
 -- how working out data ends
-unfoldable pub ranData : Data → Ran
-ranData (given zs l) = Done l
-ranData (refused n l) = Refused n l
-ranData stuck = Stuck
+unfoldable pub ran_data : Data → Ran
+ran_data (given zs l) = Done l
+ran_data (refused n l) = Refused n l
+ran_data stuck = Stuck
 
 -- data in four words
-abbrev pub fourWords : List ℤ → List ℤ
-fourWords zs = datum zs 0 ∷ datum zs 1 ∷ datum zs 2 ∷ datum zs 3 ∷ []
+abbrev pub four_words : List ℤ → List ℤ
+four_words zs = datum zs 0 ∷ datum zs 1 ∷ datum zs 2 ∷ datum zs 3 ∷ []

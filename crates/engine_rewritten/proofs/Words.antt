@@ -13,24 +13,24 @@ use borrow.Author.Tests.{eqb-true}
 use Rattle.sheet.specs.declared.Found.{Found}
 use Rattle.sheet.specs.declared.Found.TheVariants.{Present, Absent}
 use Rattle.sheet.specs.Names.{head}
-use Rattle.sheet.specs.Sheet.{recordOf}
+use Rattle.sheet.specs.Sheet.{record_of}
 use Rattle.sheet_rules.specs.declared.Checked.TheVariants.{Passed}
-use Rattle.sheet_rules.specs.Check.{checkOf}
-use Rattle.sheet_limits.specs.ButLimit.{putNumber, limitPlace, withLimit}
+use Rattle.sheet_rules.specs.Check.{check_of}
+use Rattle.sheet_limits.specs.ButLimit.{put_number, limit_place, with_limit}
 use Rattle.machine.specs.declared.Answer.{Answer}
-use Rattle.machine.specs.Play.{Outcome, ended, stuck, startCall, eventCall, limitOf}
-use Rattle.machine.specs.Lists.{goesOn, StartGives, EventGives}
+use Rattle.machine.specs.Play.{Outcome, ended, stuck, start_call, event_call, limit_of}
+use Rattle.machine.specs.Lists.{goes_on_lem, StartGives, EventGives}
 use Rattle.machine_words.specs.Words.{Bytes, Words}
-use Rattle.machine_words.proofs.Words.{of-sheet-words}
+use Rattle.machine_words.proofs.Words.{of_sheet-words}
 use Rattle.machine_promise.specs.Promise.{StartKept, EventKept}
 use Rattle.machine_promise.proofs.Promise.{promise}
-use Rattle.machine_claim.proofs.Machine.{start-either, event-either}
+use Rattle.machine_claim.proofs.Machine.{start_either, event_either}
 use Rattle.engine_rewritten.specs.Rewritten.{rewritten}
 
 -- ---- bytes
 
-set-byte : (s : List ℕ) (at x : ℕ) → x < 256 → Bytes s → Bytes (set s at x)
-set-byte s at x l y i = elim (ℕ_discrete i at) [
+set_byte : (s : List ℕ) (at x : ℕ) → x < 256 → Bytes s → Bytes (set s at x)
+set_byte s at x l y i = elim (ℕ_discrete i at) [
   | no n ↦ subst (λ b. b < 256) (sym (get_or-set_other s at i x 0 n)) (y i)
   | yes e ↦ elim (dec_lt at (length s)) [
     | yes q ↦ omega (arith, subst (λ i. get_or (set s at x) i 0 ≡ x) (sym e) (get_or-set_same s at x 0 q))
@@ -38,20 +38,20 @@ set-byte s at x l y i = elim (ℕ_discrete i at) [
   ]
 ]
 
-put-bytes : (s : List ℕ) (at n : ℕ) → n < 65536 → Bytes s → Bytes (putNumber s at n)
-unfolding putNumber
-put-bytes s at n l y = set-byte (set s at (n % 256)) (at + 1) (n / 256) (omega arith) (set-byte s at (n % 256) (omega arith) y)
+put_bytes : (s : List ℕ) (at n : ℕ) → n < 65536 → Bytes s → Bytes (put_number s at n)
+unfolding put_number
+put_bytes s at n l y = set_byte (set s at (n % 256)) (at + 1) (n / 256) (omega arith) (set_byte s at (n % 256) (omega arith) y)
 
-limit-bytes : (n : ℕ) (s : List ℕ) → Bytes s → n < 65536 → Bytes (withLimit n s)
-unfolding withLimit
-limit-bytes n s y l = go (recordOf s head 0)
+limit_bytes : (n : ℕ) (s : List ℕ) → Bytes s → n < 65536 → Bytes (with_limit n s)
+unfolding with_limit
+limit_bytes n s y l = go (record_of s head 0)
   where
-    go : (f : Found) → Bytes (elim f [ Present r ↦ putNumber s (limitPlace s) n | Absent ↦ s ])
-    go (Present r) = put-bytes s (limitPlace s) n l y
+    go : (f : Found) → Bytes (elim f [ Present r ↦ put_number s (limit_place s) n | Absent ↦ s ])
+    go (Present r) = put_bytes s (limit_place s) n l y
     go Absent = y
 
-pub rewritten-bytes : (s : List ℕ) → Bytes s → Bytes (rewritten s)
-rewritten-bytes s y = limit-bytes _ s y (omega arith)
+pub rewritten_bytes : (s : List ℕ) → Bytes s → Bytes (rewritten s)
+rewritten_bytes s y = limit_bytes _ s y (omega arith)
 
 -- ---- words
 
@@ -61,25 +61,25 @@ Left (ended a st) = a.number ≡ 0 → Words st
 Left stuck = Unit {0}
 
 module _ (s : List ℕ) where
-  start_left : checkOf s ≡ Passed → (w : Outcome) → StartKept s w → Left w
-  start_left ok (ended a st) k = λ z. of-sheet-words s ok st (k.1 z)
+  start_left : check_of s ≡ Passed → (w : Outcome) → StartKept s w → Left w
+  start_left ok (ended a st) k = λ z. of_sheet-words s ok st (k.1 z)
   start_left ok stuck k = tt
 
-  event-left : checkOf s ≡ Passed → (old : List ℤ) (w : Outcome) → EventKept s old w → Left w
-  event-left ok old (ended a st) k = λ z. of-sheet-words s ok st (k.1 z)
+  event-left : check_of s ≡ Passed → (old : List ℤ) (w : Outcome) → EventKept s old w → Left w
+  event-left ok old (ended a st) k = λ z. of_sheet-words s ok st (k.1 z)
   event-left ok old stuck k = tt
 
   -- whatever the sheet and the lengths: only on a passed sheet, with states that fit, the answer is 0
-  pub start-words : (lent : List ℤ) (a : Answer) (st : List ℤ) → StartGives s (limitOf s) lent a st → a.number ≡ 0 → Words st
-  start-words lent a st g = subst Left (sym g) (start-either Left s lent (λ n z. absurd (omega arith)) (λ ok l. start_left ok (startCall s (limitOf s) lent) ((promise s ok).start lent l)))
+  pub start-words : (lent : List ℤ) (a : Answer) (st : List ℤ) → StartGives s (limit_of s) lent a st → a.number ≡ 0 → Words st
+  start-words lent a st g = subst Left (sym g) (start_either Left s lent (λ n z. absurd (omega arith)) (λ ok l. start_left ok (start_call s (limit_of s) lent) ((promise s ok).start lent l)))
 
-  pub event-words : (old lent ev : List ℤ) (a : Answer) (st : List ℤ) → EventGives s (limitOf s) old lent ev a st → a.number ≡ 0 → Words st
-  event-words old lent ev a st g = subst Left (sym g) (event-either Left s old lent ev (λ n z. absurd (omega arith)) (λ ok o. event-left ok old (eventCall s (limitOf s) old old ev) ((promise s ok).event old ev o)))
+  pub event-words : (old lent ev : List ℤ) (a : Answer) (st : List ℤ) → EventGives s (limit_of s) old lent ev a st → a.number ≡ 0 → Words st
+  event-words old lent ev a st g = subst Left (sym g) (event_either Left s old lent ev (λ n z. absurd (omega arith)) (λ ok o. event-left ok old (event_call s (limit_of s) old old ev) ((promise s ok).event old ev o)))
 
 -- after another answer the old state goes on
-pub goes-on-words : (a : Answer) (old new : List ℤ) → Words old → (a.number ≡ 0 → Words new) → Words (goesOn a old new)
-unfolding goesOn
-goes-on-words a old new u h = go (eqb a.number 0) refl
+pub goes_on-words : (a : Answer) (old new : List ℤ) → Words old → (a.number ≡ 0 → Words new) → Words (goes_on_lem a old new)
+unfolding goes_on_lem
+goes_on-words a old new u h = go (eqb a.number 0) refl
   where
     go : (b : Bool) → eqb a.number 0 ≡ b → Words (elim b [ true ↦ new | false ↦ old ])
     go true q = h (eqb-true _ _ q)

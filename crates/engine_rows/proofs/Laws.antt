@@ -12,16 +12,16 @@ use mir.Syntax.{w32}
 use mir.Val.{SFits, of_z, to_z}
 use mir.ValLaws.{to_z-of_z}
 use borrow.Author.Tests.{eq-eqb, ne_eqb}
-use Rattle.machine.specs.Values.{sameWord}
-use Rattle.machine.specs.State.{word_of, putWords}
+use Rattle.machine.specs.Values.{same_word_lem}
+use Rattle.machine.specs.State.{word_of, put_words}
 use Rattle.engine_ints.proofs.Words.{same_bits}
 
 -- ---- words
 
 module _ (st : List ℤ) (at : ℕ) (fit : at + 8 ≤ length st) (w0 w1 w2 w3 w4 w5 w6 w7 : ℤ) where
-  pub put-eight : set (set (set (set (set (set (set (set st at w0) (at + 1) w1) (at + 2) w2) (at + 3) w3) (at + 4) w4) (at + 5) w5) (at + 6) w6) (at + 7) w7 ≡ putWords st at (w0 ∷ w1 ∷ w2 ∷ w3 ∷ w4 ∷ w5 ∷ w6 ∷ w7 ∷ [])
-  unfolding putWords
-  put-eight =
+  pub put_eight : set (set (set (set (set (set (set (set st at w0) (at + 1) w1) (at + 2) w2) (at + 3) w3) (at + 4) w4) (at + 5) w5) (at + 6) w6) (at + 7) w7 ≡ put_words st at (w0 ∷ w1 ∷ w2 ∷ w3 ∷ w4 ∷ w5 ∷ w6 ∷ w7 ∷ [])
+  unfolding put_words
+  put_eight =
       let e1 : at + 1 ≡ suc at = omega arith in
       let e2 : at + 2 ≡ suc (suc at) = omega arith in
       let e3 : at + 3 ≡ suc (suc (suc at)) = omega arith in
@@ -38,22 +38,22 @@ given z h = to_z-of_z w32 z (record { sfits = h })
 -- ---- tests of words, which go by the bits
 
 module _ {z w : ℤ} (h : SFits w32 z) (k : SFits w32 w) where
-  pub bits-same : of_z w32 z ≡ of_z w32 w → sameWord z w ≡ true
-  bits-same e = sym (same_bits z w h k) ∙ eq-eqb _ _ e
+  pub bits_same : of_z w32 z ≡ of_z w32 w → same_word_lem z w ≡ true
+  bits_same e = sym (same_bits z w h k) ∙ eq-eqb _ _ e
 
-  pub bits-differ : (of_z w32 z ≡ of_z w32 w → ⊥) → sameWord z w ≡ false
-  bits-differ n = sym (same_bits z w h k) ∙ ne_eqb _ _ n
+  pub bits_differ : (of_z w32 z ≡ of_z w32 w → ⊥) → same_word_lem z w ≡ false
+  bits_differ n = sym (same_bits z w h k) ∙ ne_eqb _ _ n
 
 -- the port of an internal telegram is -1
 module _ (z : ℤ) (h : SFits w32 z) where
-  pub port-inside : of_z w32 z ≡ 4294967295 → sameWord z (negsuc 0) ≡ true
-  port-inside e = bits-same h (record { sfits = omega arith }) e
+  pub port-inside : of_z w32 z ≡ 4294967295 → same_word_lem z (negsuc 0) ≡ true
+  port-inside e = bits_same h (record { sfits = omega arith }) e
 
-  pub port-outside : (of_z w32 z ≡ 4294967295 → ⊥) → sameWord z (negsuc 0) ≡ false
-  port-outside e = bits-differ h (record { sfits = omega arith }) e
+  pub port-outside : (of_z w32 z ≡ 4294967295 → ⊥) → same_word_lem z (negsuc 0) ≡ false
+  port-outside e = bits_differ h (record { sfits = omega arith }) e
 
 -- ---- zeros
 
-pub word-zeros : (n k : ℕ) → k < n → word_of (replicate n (pos 0)) k ≡ pos 0
+pub word_zeros : (n k : ℕ) → k < n → word_of (replicate n (pos 0)) k ≡ pos 0
 unfolding word_of
-word-zeros n k l = get_or-replicate n k (pos 0) (pos 0) l
+word_zeros n k l = get_or-replicate n k (pos 0) (pos 0) l

@@ -1,13 +1,13 @@
 // Eight words of a state, read as a telegram or put.
 ghost use Rattle.std.specs.Prelude.{◌≡◌, [], ◌∷◌, ◌+◌, ◌≤◌, length};
-ghost use Rattle.machine.specs.State.{telegramIn, putWords};
+ghost use Rattle.machine.specs.State.{telegram_in, put_words};
 
 use machine::Telegram;
 
 // Eight words as a telegram.
 pub fn telegram_in(st: &[i32], at: usize) -> Telegram
     requires { at + 8 ≤ length st.now }
-    ensures { result ≡ telegramIn st.now at }
+    ensures { result ≡ telegram_in st.now at }
 {
     Telegram {
         sender: st[at],
@@ -35,7 +35,7 @@ pub fn put_words(
     w7: i32,
 )
     requires { at + 8 ≤ length st.old }
-    ensures { st.new ≡ putWords st.old at (w0 ∷ w1 ∷ w2 ∷ w3 ∷ w4 ∷ w5 ∷ w6 ∷ w7 ∷ []) }
+    ensures { st.new ≡ put_words st.old at (w0 ∷ w1 ∷ w2 ∷ w3 ∷ w4 ∷ w5 ∷ w6 ∷ w7 ∷ []) }
 {
     st[at] = w0;
     st[at + 1] = w1;

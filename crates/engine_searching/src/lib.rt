@@ -1,13 +1,13 @@
 // The oldest telegram of those that an event may take.
 ghost use Rattle.std.specs.Prelude.{◌≡◌, List, ℕ, ◌+◌, ◌≤◌, length};
-ghost use Rattle.machine.specs.State.{stateLength, telegramIn};
-ghost use Rattle.machine.specs.Play.{goesFrom, inner_of, oldest};
+ghost use Rattle.machine.specs.State.{state_length, telegram_in};
+ghost use Rattle.machine.specs.Play.{goes_from, inner_of, oldest};
 ghost use Rattle.engine_queue.specs.Laid.{Laid};
 
 // Whether the telegram there is external and goes from a to r.
 fn goes(st: &[i32], at: usize, a: i32, r: i32) -> bool
     requires { at + 8 ≤ length st.now }
-    ensures { result ≡ goesFrom a r (telegramIn st.now at) }
+    ensures { result ≡ goes_from a r (telegram_in st.now at) }
 {
     if st[at + 2] == -1 {
         return false;
@@ -21,7 +21,7 @@ fn goes(st: &[i32], at: usize, a: i32, r: i32) -> bool
 // Whether the telegram there is internal and r's.
 fn inner(st: &[i32], at: usize, r: i32) -> bool
     requires { at + 8 ≤ length st.now }
-    ensures { result ≡ inner_of r (telegramIn st.now at) }
+    ensures { result ≡ inner_of r (telegram_in st.now at) }
 {
     if st[at + 2] != -1 {
         return false;
@@ -32,7 +32,7 @@ fn inner(st: &[i32], at: usize, r: i32) -> bool
 // The oldest external telegram from a to r, or the number behind the last.
 pub fn oldest_external(st: &[i32], a: i32, r: i32) -> usize
     requires { Laid st.now }
-    ensures { (s : List ℕ) → length st.now ≡ stateLength s → result ≡ oldest s st.now (goesFrom a r) }
+    ensures { (s : List ℕ) → length st.now ≡ state_length s → result ≡ oldest s st.now (goes_from a r) }
 {
     let n = engine_queue::waiting_count(st);
     let first = engine_store::place_at(st.len(), 0);
@@ -50,7 +50,7 @@ pub fn oldest_external(st: &[i32], a: i32, r: i32) -> usize
 // The oldest internal telegram of r, or the number behind the last.
 pub fn oldest_internal(st: &[i32], r: i32) -> usize
     requires { Laid st.now }
-    ensures { (s : List ℕ) → length st.now ≡ stateLength s → result ≡ oldest s st.now (inner_of r) }
+    ensures { (s : List ℕ) → length st.now ≡ state_length s → result ≡ oldest s st.now (inner_of r) }
 {
     let n = engine_queue::waiting_count(st);
     let first = engine_store::place_at(st.len(), 0);

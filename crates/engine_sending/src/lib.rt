@@ -2,14 +2,14 @@
 ghost use Rattle.std.specs.Prelude.{◌≡◌, List, ℕ, suc, length, ℤ};
 ghost use Rattle.sheet.specs.declared.Found.TheVariants.{Present};
 ghost use Rattle.sheet.specs.Names.{data_of, names};
-ghost use Rattle.sheet.specs.Sheet.{directoryOf, recordOf};
-ghost use Rattle.sheet_rules.specs.Forms.{externalSend, internalSend};
-ghost use Rattle.machine.specs.State.{stateLength};
+ghost use Rattle.sheet.specs.Sheet.{directory_of, record_of};
+ghost use Rattle.sheet_rules.specs.Forms.{external_send, internal_send};
+ghost use Rattle.machine.specs.State.{state_length};
 ghost use Rattle.machine.specs.Run.{world, append as appendOf, run_of};
 ghost use Rattle.engine_queue.specs.Laid.{Laid};
-ghost use Rattle.engine_ready.specs.Ready.{contextAt, Ready, HasData};
+ghost use Rattle.engine_ready.specs.Ready.{context_at, Ready, HasData};
 ghost use Rattle.engine_data.specs.Visit.{Visit};
-ghost use Rattle.engine_sending.specs.Sent.{sent, sentTo};
+ghost use Rattle.engine_sending.specs.Sent.{sent, sent_to};
 
 use engine_context::{ELEMENT, Frame, Locals};
 use engine_ints::Work;
@@ -19,7 +19,7 @@ use sheet::{Directory, Found, NAMES, Range, Record};
 // "Sends append"
 fn append(st: &mut [i32], t: Telegram, left: u32) -> Ran
     requires { Laid st.old }
-    ensures { (s : List ℕ) (lo : List ℤ) → length st.old ≡ stateLength s → world result st.new lo ≡ appendOf s t left st.old lo }
+    ensures { (s : List ℕ) (lo : List ℤ) → length st.old ≡ state_length s → world result st.new lo ≡ appendOf s t left st.old lo }
 {
     let number = engine_queue::append(st, t);
     if number == 0 {
@@ -41,7 +41,7 @@ fn send(
     port: i32,
     left: u32,
 ) -> Ran
-    requires { (directory.now ≡ directoryOf sheet.now) × Ready sheet.now context.now st.old lo.now × HasData sheet.now context.now st.old lo.now r (data_of a) × (recordOf sheet.now names r.f3 ≡ Present a) }
+    requires { (directory.now ≡ directory_of sheet.now) × Ready sheet.now context.now st.old lo.now × HasData sheet.now context.now st.old lo.now r (data_of a) × (record_of sheet.now names r.f3 ≡ Present a) }
     ensures { world result st.new lo.now ≡ sent sheet.now context.now st.old lo.now r a receiver port left }
 {
     let mut d = [0i32; DATA];
@@ -83,8 +83,8 @@ fn send_to(
     receiver: i32,
     left: u32,
 ) -> Ran
-    requires { (directory.now ≡ directoryOf sheet.now) × Visit sheet.now context.now st.old lo.now n r externalSend × (recordOf sheet.now names r.f3 ≡ Present a) }
-    ensures { world result st.new lo.now ≡ sentTo sheet.now context.now st.old lo.now r a receiver left }
+    requires { (directory.now ≡ directory_of sheet.now) × Visit sheet.now context.now st.old lo.now n r external_send × (record_of sheet.now names r.f3 ≡ Present a) }
+    ensures { world result st.new lo.now ≡ sent_to sheet.now context.now st.old lo.now r a receiver left }
 {
     let x = engine_expressions::eval(sheet, directory, context, st, lo, r.f2 as usize, left);
     match x {
@@ -108,8 +108,8 @@ pub fn external_send(
     r: Record,
     left: u32,
 ) -> Ran
-    requires { (directory.now ≡ directoryOf sheet.now) × Visit sheet.now context.now st.old lo.now n r externalSend }
-    ensures { (depth : ℕ) → world result st.new lo.now ≡ run_of sheet.now depth (contextAt sheet.now context.now) n (suc left) st.old lo.now }
+    requires { (directory.now ≡ directory_of sheet.now) × Visit sheet.now context.now st.old lo.now n r external_send }
+    ensures { (depth : ℕ) → world result st.new lo.now ≡ run_of sheet.now depth (context_at sheet.now context.now) n (suc left) st.old lo.now }
 {
     let Found::Present(a) = sheet_reader::read(sheet, directory, NAMES, r.f3 as usize) else {
         return Ran::Stuck;
@@ -135,8 +135,8 @@ pub fn internal_send(
     r: Record,
     left: u32,
 ) -> Ran
-    requires { (directory.now ≡ directoryOf sheet.now) × Visit sheet.now context.now st.old lo.now n r internalSend }
-    ensures { (depth : ℕ) → world result st.new lo.now ≡ run_of sheet.now depth (contextAt sheet.now context.now) n (suc left) st.old lo.now }
+    requires { (directory.now ≡ directory_of sheet.now) × Visit sheet.now context.now st.old lo.now n r internal_send }
+    ensures { (depth : ℕ) → world result st.new lo.now ≡ run_of sheet.now depth (context_at sheet.now context.now) n (suc left) st.old lo.now }
 {
     let Found::Present(a) = sheet_reader::read(sheet, directory, NAMES, r.f3 as usize) else {
         return Ran::Stuck;

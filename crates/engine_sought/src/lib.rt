@@ -1,8 +1,8 @@
 // The telegram that an event takes, and whether its refusal may have work to undo.
 ghost use Rattle.std.specs.Prelude.{List, ◌≡◌, ℕ, length};
-ghost use Rattle.machine.specs.State.{stateLength};
+ghost use Rattle.machine.specs.State.{state_length};
 ghost use Rattle.machine.specs.Valid.{OfSheet};
-ghost use Rattle.machine_events.specs.Sought.{soughtAt, mayUndo};
+ghost use Rattle.machine_events.specs.Sought.{sought_at, may_undo};
 ghost use Rattle.engine_cells.specs.Playing.{Playing};
 ghost use Rattle.engine_queue.specs.Laid.{Laid};
 ghost use Rattle.engine_sought.specs.Taken.{TakenFrom};
@@ -22,7 +22,7 @@ pub enum Taken {
 // The number of the telegram that an event takes; the number behind the last if there is none.
 pub fn sought(st: &[i32], e: Event) -> usize
     requires { Laid st.now }
-    ensures { (s : List ℕ) → length st.now ≡ stateLength s → result ≡ soughtAt s st.now e }
+    ensures { (s : List ℕ) → length st.now ≡ state_length s → result ≡ sought_at s st.now e }
 {
     match e {
         Event::Malformed => 0,
@@ -47,8 +47,8 @@ pub fn may_undo(
     e: Event,
     j: usize,
 ) -> bool
-    requires { Playing sheet.now directory.now cells.now st.now × (j ≡ soughtAt sheet.now st.now e) }
-    ensures { result ≡ mayUndo sheet.now st.now e }
+    requires { Playing sheet.now directory.now cells.now st.now × (j ≡ sought_at sheet.now st.now e) }
+    ensures { result ≡ may_undo sheet.now st.now e }
 {
     match e {
         Event::Malformed => false,

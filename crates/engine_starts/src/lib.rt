@@ -1,8 +1,8 @@
 // Start on a passed sheet: the default state, then the initial bodies.
 ghost use Rattle.std.specs.Prelude.{true, [], ◌≡◌, pos, length, replicate};
 ghost use Rattle.machine.specs.declared.Handed.TheVariants.{Nothing};
-ghost use Rattle.machine.specs.Values.{isBound};
-ghost use Rattle.machine.specs.Play.{ended, answer, limitOf, isInitial, elementBody, alone, ranBody, started};
+ghost use Rattle.machine.specs.Values.{is_bound};
+ghost use Rattle.machine.specs.Play.{ended, answer, limit_of, is_initial, element_body, alone, ran_body, started};
 ghost use Rattle.engine_cells.specs.Lent.{Lent};
 ghost use Rattle.engine_cells.specs.Playing.{Playing};
 
@@ -20,8 +20,8 @@ fn initial(
     e: usize,
     limit: u32,
 ) -> Ran
-    requires { Playing sheet.now directory.now cells.now st.old × (isBound sheet.now e ≡ true) × (limit ≡ limitOf sheet.now) }
-    ensures { (result ≡ (ranBody sheet.now (limitOf sheet.now) e (alone (elementBody sheet.now e isInitial)) [] st.old).ran) × (st.new ≡ (ranBody sheet.now (limitOf sheet.now) e (alone (elementBody sheet.now e isInitial)) [] st.old).st) }
+    requires { Playing sheet.now directory.now cells.now st.old × (is_bound sheet.now e ≡ true) × (limit ≡ limit_of sheet.now) }
+    ensures { (result ≡ (ran_body sheet.now (limit_of sheet.now) e (alone (element_body sheet.now e is_initial)) [] st.old).ran) × (st.new ≡ (ran_body sheet.now (limit_of sheet.now) e (alone (element_body sheet.now e is_initial)) [] st.old).st) }
 {
     let n = engine_cells::chart_number(sheet, directory, cells, e);
     let Found::Present(c) = sheet_reader::read(sheet, directory, CHARTS, n) else {
@@ -60,7 +60,7 @@ pub fn from_defaults(
     st: &mut [i32],
 ) -> Answer
     requires { Lent sheet.now directory.now cells.now st.old }
-    ensures { ended result st.new ≡ started sheet.now (limitOf sheet.now) }
+    ensures { ended result st.new ≡ started sheet.now (limit_of sheet.now) }
 {
     engine_defaults::default_state(sheet, directory, st);
     let first = engine_valid_values::externals(sheet, directory);

@@ -9,96 +9,96 @@ use lib.IntN.{ℤ}
 use Rattle.sheet.specs.declared.Record.{Record}
 use Rattle.sheet.specs.declared.Found.TheVariants.{Present, Absent}
 use Rattle.sheet.specs.Names.{nodes, operator}
-use Rattle.sheet.specs.Sheet.{recordOf}
-use Rattle.sheet.proofs.All.{true-false}
+use Rattle.sheet.specs.Sheet.{record_of}
+use Rattle.sheet.proofs.All.{true_false}
 use Rattle.machine.specs.declared.Out.{Out}
 use Rattle.machine.specs.declared.Out.TheVariants as out
 use Rattle.machine.specs.declared.Ran.{Ran}
 use Rattle.machine.specs.declared.Ran.TheVariants.{Done, Refused, Stuck}
-use Rattle.sheet.specs.Table.{lookUp}
+use Rattle.sheet.specs.Table.{look_up}
 use Rattle.sheet.proofs.Table.{beyond}
-use Rattle.sheet_rules.specs.Forms.{Form, literal, read, unary, binary, clock, readElement, assign, externalSend, internalSend, call, choice, loop, sequence, assignElement, unknown, form_of}
+use Rattle.sheet_rules.specs.Forms.{Form, literal, read, unary, binary, clock, read_element, assign, external_send, internal_send, call, choice, loop, sequence, assign_element, unknown, form_of}
 use Rattle.machine.specs.Values.{is_zero}
-use Rattle.machine.specs.Eval.{Context, evalOf}
-use Rattle.machine.specs.Run.{World, world, goOn, thenRun, withRecord, runIn, run_of}
+use Rattle.machine.specs.Eval.{Context, eval_of}
+use Rattle.machine.specs.Run.{World, world, go_on, then_run, with_record, run_in, run_of}
 use Rattle.sheet_rules.proofs.Forms.{form-literal, form-binary, form-clock, form-unknown}
 use Rattle.machine_equations.proofs.Left.{Within, RanWithin, eval_left, run-left}
 use Rattle.machine_equations.proofs.Run.{run-visit}
 use Rattle.engine_ints.specs.declared.Work.{Work}
 use Rattle.engine_ints.specs.declared.Work.TheVariants as work
-use Rattle.engine_ints.specs.Work.{workOf}
-use Rattle.engine_ready.specs.Ready.{contextAt, Ready, IsStatement}
-use Rattle.engine_ready.specs.Words.{thenWord}
-use Rattle.engine_ready.proofs.Statements.{no_steps, absent, ready-after, skipped, choice-word, loop-word, loop-body, sequence-runs}
+use Rattle.engine_ints.specs.Work.{work_of}
+use Rattle.engine_ready.specs.Ready.{context_at, Ready, IsStatement}
+use Rattle.engine_ready.specs.Words.{then_word}
+use Rattle.engine_ready.proofs.Statements.{no_steps, absent, ready_after_lem, skipped, choice_word, loop_word, loop-body, sequence-runs}
 use Rattle.engine_data.specs.Visit.{Visit}
-use Rattle.engine_data.specs.Data.{workAt}
+use Rattle.engine_data.specs.Data.{work_at}
 use Rattle.engine_data.proofs.Data.{on_word, on-refused, on-stuck}
 
 -- ---- fewer steps are left
 
-pub word-left : (s : List ℕ) (x : Context) (st lo : List ℤ) (n l : ℕ) (z : ℤ) (m : ℕ) → work.Word z m ≡ workOf (evalOf s x st lo n l) → m < l
-unfolding workOf
-word-left s x st lo n l z m e = go (evalOf s x st lo n l) (eval_left s x st lo n l) e
+pub word_left : (s : List ℕ) (x : Context) (st lo : List ℤ) (n l : ℕ) (z : ℤ) (m : ℕ) → work.Word z m ≡ work_of (eval_of s x st lo n l) → m < l
+unfolding work_of
+word_left s x st lo n l z m e = go (eval_of s x st lo n l) (eval_left s x st lo n l) e
   where
-    isWord : Work → Bool
-    isWord (work.Word z l) = true
-    isWord (work.Refused k l) = false
-    isWord work.Stuck = false
+    is_word : Work → Bool
+    is_word (work.Word z l) = true
+    is_word (work.Refused k l) = false
+    is_word work.Stuck = false
 
     left_of : Work → ℕ
     left_of (work.Word z l) = l
     left_of (work.Refused k l) = l
     left_of work.Stuck = 0
 
-    go : (o : Out) → Within l o → work.Word z m ≡ workOf o → m < l
+    go : (o : Out) → Within l o → work.Word z m ≡ work_of o → m < l
     go (out.Val v k) h e = let q = ap left_of e in omega arith
-    go (out.Refused k j) h e = absurd (true-false {b = true} refl (ap isWord e))
-    go out.Stuck h e = absurd (true-false {b = true} refl (ap isWord e))
+    go (out.Refused k j) h e = absurd (true_false {b = true} refl (ap is_word e))
+    go out.Stuck h e = absurd (true_false {b = true} refl (ap is_word e))
 
-pub done-left : (s : List ℕ) (depth : ℕ) (x : Context) (n l : ℕ) (st lo : List ℤ) (m : ℕ) (st' lo' : List ℤ) → world (Done m) st' lo' ≡ run_of s depth x n l st lo → m < l
-done-left s depth x n l st lo m st' lo' e = subst (λ v. RanWithin l v.ran) (sym e) (run-left s depth x n l st lo)
+pub done_left : (s : List ℕ) (depth : ℕ) (x : Context) (n l : ℕ) (st lo : List ℤ) (m : ℕ) (st' lo' : List ℤ) → world (Done m) st' lo' ≡ run_of s depth x n l st lo → m < l
+done_left s depth x n l st lo m st' lo' e = subst (λ v. RanWithin l v.ran) (sym e) (run-left s depth x n l st lo)
 
 -- ---- one statement, then another
 
 module _ (v : World) (K : ℕ → List ℤ → List ℤ → World) (st lo : List ℤ) where
-  pub then-done : (m : ℕ) → world (Done m) st lo ≡ v → K m st lo ≡ thenRun v K
-  unfolding goOn
-  then-done m e = ap (λ v. thenRun v K) e
+  pub then_done : (m : ℕ) → world (Done m) st lo ≡ v → K m st lo ≡ then_run v K
+  unfolding go_on
+  then_done m e = ap (λ v. then_run v K) e
 
-  pub then-refused : (k m : ℕ) → world (Refused k m) st lo ≡ v → world (Refused k m) st lo ≡ thenRun v K
-  unfolding goOn
-  then-refused k m e = ap (λ v. thenRun v K) e
+  pub then_refused : (k m : ℕ) → world (Refused k m) st lo ≡ v → world (Refused k m) st lo ≡ then_run v K
+  unfolding go_on
+  then_refused k m e = ap (λ v. then_run v K) e
 
-  pub then-stuck : world Stuck st lo ≡ v → world Stuck st lo ≡ thenRun v K
-  unfolding goOn
-  then-stuck e = ap (λ v. thenRun v K) e
+  pub then_stuck : world Stuck st lo ≡ v → world Stuck st lo ≡ then_run v K
+  unfolding go_on
+  then_stuck e = ap (λ v. then_run v K) e
 
 -- ---- nodes
 
 -- a step that is there
-pub step-there : (l : ℕ) → (l ≡ 0 → ⊥) → l ≡ suc (l - 1)
-step-there l h = omega arith
+pub step_there : (l : ℕ) → (l ≡ 0 → ⊥) → l ≡ suc (l - 1)
+step_there l h = omega arith
 
 module _ (s w : List ℕ) (st lo : List ℤ) (ready : Ready s w st lo) (n : ℕ) where
   abbrev x : Context
-  x = contextAt s w
+  x = context_at s w
 
   pub none_left : (depth l : ℕ) → l ≡ 0 → world (Refused 10 0) st lo ≡ run_of s depth x n l st lo
   none_left depth l e = rw e (sym (no_steps s w st lo ready depth n))
 
-  pub no_node : (depth l : ℕ) → (l ≡ 0 → ⊥) → recordOf s nodes n ≡ Absent → world Stuck st lo ≡ run_of s depth x n l st lo
-  no_node depth l h e = sym (ap (λ l. run_of s depth x n l st lo) (step-there l h) ∙ absent s w st lo ready depth n (l - 1) e)
+  pub no_node : (depth l : ℕ) → (l ≡ 0 → ⊥) → record_of s nodes n ≡ Absent → world Stuck st lo ≡ run_of s depth x n l st lo
+  no_node depth l h e = sym (ap (λ l. run_of s depth x n l st lo) (step_there l h) ∙ absent s w st lo ready depth n (l - 1) e)
 
-  module _ (r : Record) (there : recordOf s nodes n ≡ Present r) where
+  module _ (r : Record) (there : record_of s nodes n ≡ Present r) where
     -- "everything unknown", and expressions
     pub other_stuck : (depth l : ℕ) → (32 ≤ r.f0 → r.f0 ≤ 44 → ⊥) → world Stuck st lo ≡ run_of s depth x n (suc l) st lo
-    unfolding withRecord runIn form_of lookUp
-    other_stuck depth l h = sym (run-visit s depth x n l st lo ∙ ap (λ f. withRecord f st lo (λ r. runIn s x (run_of s) depth n r l st lo (form_of (operator r)))) there ∙ form-stuck)
+    unfolding with_record run_in form_of look_up
+    other_stuck depth l h = sym (run-visit s depth x n l st lo ∙ ap (λ f. with_record f st lo (λ r. run_in s x (run_of s) depth n r l st lo (form_of (operator r)))) there ∙ form-stuck)
       where
-        stuck : (F : Form) → form_of r.f0 ≡ F → runIn s x (run_of s) depth n r l st lo F ≡ world Stuck st lo → runIn s x (run_of s) depth n r l st lo (form_of r.f0) ≡ world Stuck st lo
-        stuck F q e = ap (runIn s x (run_of s) depth n r l st lo) q ∙ e
+        stuck : (F : Form) → form_of r.f0 ≡ F → run_in s x (run_of s) depth n r l st lo F ≡ world Stuck st lo → run_in s x (run_of s) depth n r l st lo (form_of r.f0) ≡ world Stuck st lo
+        stuck F q e = ap (run_in s x (run_of s) depth n r l st lo) q ∙ e
 
-        form-stuck : runIn s x (run_of s) depth n r l st lo (form_of r.f0) ≡ world Stuck st lo
+        form-stuck : run_in s x (run_of s) depth n r l st lo (form_of r.f0) ≡ world Stuck st lo
         form-stuck = elim (dec_lt r.f0 1) [
           | yes a ↦ stuck unknown (form-unknown r.f0 (λ p q. omega arith) (λ p q. omega arith)) refl
           | no a ↦ elim (dec_lt r.f0 7) [
@@ -109,7 +109,7 @@ module _ (s w : List ℕ) (st lo : List ℤ) (ready : Ready s w st lo) (n : ℕ)
                 | yes d ↦ stuck binary (form-binary r.f0 (omega arith) (omega arith)) refl
                 | no d ↦ elim (dec_lt r.f0 19) [
                   | yes e ↦ stuck clock (form-clock r.f0 (omega arith) (omega arith)) refl
-                  | no e ↦ elim (ℕ_discrete r.f0 19) [ yes f ↦ stuck readElement (ap form_of f) refl | no f ↦ stuck unknown (form-unknown r.f0 (λ p q. omega arith) h) refl ]
+                  | no e ↦ elim (ℕ_discrete r.f0 19) [ yes f ↦ stuck read_element (ap form_of f) refl | no f ↦ stuck unknown (form-unknown r.f0 (λ p q. omega arith) h) refl ]
                 ]
               ]
             ]
@@ -124,7 +124,7 @@ module _ (s w : List ℕ) (st lo : List ℤ) (ready : Ready s w st lo) (n : ℕ)
       visit F q = record { ready = ready; statement = i; there = there; form = q }
 
       pub skips : r.f0 ≡ 32 → (depth l : ℕ) → world (Done l) st lo ≡ run_of s depth x n (suc l) st lo
-      unfolding form_of lookUp
+      unfolding form_of look_up
       skips q depth l = sym (skipped s w st lo ready n r there i (ap form_of q) depth l)
 
 module _ (s w : List ℕ) (st lo : List ℤ) (n : ℕ) (r : Record) where
@@ -132,125 +132,125 @@ module _ (s w : List ℕ) (st lo : List ℤ) (n : ℕ) (r : Record) where
 
   module _ (v : Visit s w st lo n r choice) (depth l : ℕ) where
     abbrev choosing : ℤ → ℕ → World
-    choosing z m = elim (is_zero z) [ true ↦ run_of s depth (contextAt s w) r.f3 m st lo | false ↦ run_of s depth (contextAt s w) r.f2 m st lo ]
+    choosing z m = elim (is_zero z) [ true ↦ run_of s depth (context_at s w) r.f3 m st lo | false ↦ run_of s depth (context_at s w) r.f2 m st lo ]
 
-    chooses : run_of s depth (contextAt s w) n (suc l) st lo ≡ thenWord (workAt s w st lo r.f1 l) st lo choosing
-    chooses = choice-word s w st lo v.ready n r v.there v.statement v.form depth l
+    chooses : run_of s depth (context_at s w) n (suc l) st lo ≡ then_word (work_at s w st lo r.f1 l) st lo choosing
+    chooses = choice_word s w st lo v.ready n r v.there v.statement v.form depth l
 
-    pub choice-no : (z : ℤ) (m : ℕ) → work.Word z m ≡ workAt s w st lo r.f1 l → is_zero z ≡ true → run_of s depth (contextAt s w) r.f3 m st lo ≡ run_of s depth (contextAt s w) n (suc l) st lo
-    choice-no z m e q = ap (λ b. elim b as (λ b. World) [ true ↦ run_of s depth (contextAt s w) r.f3 m st lo | false ↦ run_of s depth (contextAt s w) r.f2 m st lo ]) (sym q) ∙ on_word _ st lo choosing z m e ∙ sym chooses
+    pub choice_no : (z : ℤ) (m : ℕ) → work.Word z m ≡ work_at s w st lo r.f1 l → is_zero z ≡ true → run_of s depth (context_at s w) r.f3 m st lo ≡ run_of s depth (context_at s w) n (suc l) st lo
+    choice_no z m e q = ap (λ b. elim b as (λ b. World) [ true ↦ run_of s depth (context_at s w) r.f3 m st lo | false ↦ run_of s depth (context_at s w) r.f2 m st lo ]) (sym q) ∙ on_word _ st lo choosing z m e ∙ sym chooses
 
-    pub choice-yes : (z : ℤ) (m : ℕ) → work.Word z m ≡ workAt s w st lo r.f1 l → is_zero z ≡ false → run_of s depth (contextAt s w) r.f2 m st lo ≡ run_of s depth (contextAt s w) n (suc l) st lo
-    choice-yes z m e q = ap (λ b. elim b as (λ b. World) [ true ↦ run_of s depth (contextAt s w) r.f3 m st lo | false ↦ run_of s depth (contextAt s w) r.f2 m st lo ]) (sym q) ∙ on_word _ st lo choosing z m e ∙ sym chooses
+    pub choice_yes : (z : ℤ) (m : ℕ) → work.Word z m ≡ work_at s w st lo r.f1 l → is_zero z ≡ false → run_of s depth (context_at s w) r.f2 m st lo ≡ run_of s depth (context_at s w) n (suc l) st lo
+    choice_yes z m e q = ap (λ b. elim b as (λ b. World) [ true ↦ run_of s depth (context_at s w) r.f3 m st lo | false ↦ run_of s depth (context_at s w) r.f2 m st lo ]) (sym q) ∙ on_word _ st lo choosing z m e ∙ sym chooses
 
-    pub choice-refused : (k m : ℕ) → work.Refused k m ≡ workAt s w st lo r.f1 l → world (Refused k m) st lo ≡ run_of s depth (contextAt s w) n (suc l) st lo
+    pub choice-refused : (k m : ℕ) → work.Refused k m ≡ work_at s w st lo r.f1 l → world (Refused k m) st lo ≡ run_of s depth (context_at s w) n (suc l) st lo
     choice-refused k m e = on-refused _ st lo choosing k m e ∙ sym chooses
 
-    pub choice-stuck : work.Stuck ≡ workAt s w st lo r.f1 l → world Stuck st lo ≡ run_of s depth (contextAt s w) n (suc l) st lo
+    pub choice-stuck : work.Stuck ≡ work_at s w st lo r.f1 l → world Stuck st lo ≡ run_of s depth (context_at s w) n (suc l) st lo
     choice-stuck e = on-stuck _ st lo choosing e ∙ sym chooses
 
   -- ---- a loop
 
   module _ (v : Visit s w st lo n r loop) (depth l : ℕ) where
     abbrev turning : ℤ → ℕ → World
-    turning z m = elim (is_zero z) [ true ↦ world (Done m) st lo | false ↦ thenRun (run_of s depth (contextAt s w) r.f2 m st lo) (λ m st lo. run_of s depth (contextAt s w) n m st lo) ]
+    turning z m = elim (is_zero z) [ true ↦ world (Done m) st lo | false ↦ then_run (run_of s depth (context_at s w) r.f2 m st lo) (λ m st lo. run_of s depth (context_at s w) n m st lo) ]
 
-    turns : run_of s depth (contextAt s w) n (suc l) st lo ≡ thenWord (workAt s w st lo r.f1 l) st lo turning
-    turns = loop-word s w st lo v.ready n r v.there v.statement v.form depth l
+    turns : run_of s depth (context_at s w) n (suc l) st lo ≡ then_word (work_at s w st lo r.f1 l) st lo turning
+    turns = loop_word s w st lo v.ready n r v.there v.statement v.form depth l
 
-    pub loop-ends : (z : ℤ) (m : ℕ) → work.Word z m ≡ workAt s w st lo r.f1 l → is_zero z ≡ true → world (Done m) st lo ≡ run_of s depth (contextAt s w) n (suc l) st lo
-    loop-ends z m e q = ap (λ b. elim b as (λ b. World) [ true ↦ world (Done m) st lo | false ↦ thenRun (run_of s depth (contextAt s w) r.f2 m st lo) (λ m st lo. run_of s depth (contextAt s w) n m st lo) ]) (sym q) ∙ on_word _ st lo turning z m e ∙ sym turns
+    pub loop_ends : (z : ℤ) (m : ℕ) → work.Word z m ≡ work_at s w st lo r.f1 l → is_zero z ≡ true → world (Done m) st lo ≡ run_of s depth (context_at s w) n (suc l) st lo
+    loop_ends z m e q = ap (λ b. elim b as (λ b. World) [ true ↦ world (Done m) st lo | false ↦ then_run (run_of s depth (context_at s w) r.f2 m st lo) (λ m st lo. run_of s depth (context_at s w) n m st lo) ]) (sym q) ∙ on_word _ st lo turning z m e ∙ sym turns
 
-    pub loop-refused : (k m : ℕ) → work.Refused k m ≡ workAt s w st lo r.f1 l → world (Refused k m) st lo ≡ run_of s depth (contextAt s w) n (suc l) st lo
+    pub loop-refused : (k m : ℕ) → work.Refused k m ≡ work_at s w st lo r.f1 l → world (Refused k m) st lo ≡ run_of s depth (context_at s w) n (suc l) st lo
     loop-refused k m e = on-refused _ st lo turning k m e ∙ sym turns
 
-    pub loop-stuck : work.Stuck ≡ workAt s w st lo r.f1 l → world Stuck st lo ≡ run_of s depth (contextAt s w) n (suc l) st lo
+    pub loop-stuck : work.Stuck ≡ work_at s w st lo r.f1 l → world Stuck st lo ≡ run_of s depth (context_at s w) n (suc l) st lo
     loop-stuck e = on-stuck _ st lo turning e ∙ sym turns
 
     -- a turn
-    module _ (z : ℤ) (m : ℕ) (e : work.Word z m ≡ workAt s w st lo r.f1 l) (q : is_zero z ≡ false) where
-      turn : thenRun (run_of s depth (contextAt s w) r.f2 m st lo) (λ m st lo. run_of s depth (contextAt s w) n m st lo) ≡ run_of s depth (contextAt s w) n (suc l) st lo
-      turn = ap (λ b. elim b as (λ b. World) [ true ↦ world (Done m) st lo | false ↦ thenRun (run_of s depth (contextAt s w) r.f2 m st lo) (λ m st lo. run_of s depth (contextAt s w) n m st lo) ]) (sym q) ∙ on_word _ st lo turning z m e ∙ sym turns
+    module _ (z : ℤ) (m : ℕ) (e : work.Word z m ≡ work_at s w st lo r.f1 l) (q : is_zero z ≡ false) where
+      turn : then_run (run_of s depth (context_at s w) r.f2 m st lo) (λ m st lo. run_of s depth (context_at s w) n m st lo) ≡ run_of s depth (context_at s w) n (suc l) st lo
+      turn = ap (λ b. elim b as (λ b. World) [ true ↦ world (Done m) st lo | false ↦ then_run (run_of s depth (context_at s w) r.f2 m st lo) (λ m st lo. run_of s depth (context_at s w) n m st lo) ]) (sym q) ∙ on_word _ st lo turning z m e ∙ sym turns
 
       module _ (st' lo' : List ℤ) where
-        pub turn-refused : (k j : ℕ) → world (Refused k j) st' lo' ≡ run_of s depth (contextAt s w) r.f2 m st lo → world (Refused k j) st' lo' ≡ run_of s depth (contextAt s w) n (suc l) st lo
-        turn-refused k j h = then-refused _ (λ m st lo. run_of s depth (contextAt s w) n m st lo) st' lo' k j h ∙ turn
+        pub turn_refused : (k j : ℕ) → world (Refused k j) st' lo' ≡ run_of s depth (context_at s w) r.f2 m st lo → world (Refused k j) st' lo' ≡ run_of s depth (context_at s w) n (suc l) st lo
+        turn_refused k j h = then_refused _ (λ m st lo. run_of s depth (context_at s w) n m st lo) st' lo' k j h ∙ turn
 
-        pub turn-stuck : world Stuck st' lo' ≡ run_of s depth (contextAt s w) r.f2 m st lo → world Stuck st' lo' ≡ run_of s depth (contextAt s w) n (suc l) st lo
-        turn-stuck h = then-stuck _ (λ m st lo. run_of s depth (contextAt s w) n m st lo) st' lo' h ∙ turn
+        pub turn_stuck : world Stuck st' lo' ≡ run_of s depth (context_at s w) r.f2 m st lo → world Stuck st' lo' ≡ run_of s depth (context_at s w) n (suc l) st lo
+        turn_stuck h = then_stuck _ (λ m st lo. run_of s depth (context_at s w) n m st lo) st' lo' h ∙ turn
 
-        module _ (j : ℕ) (h : world (Done j) st' lo' ≡ run_of s depth (contextAt s w) r.f2 m st lo) where
-          pub turn-visit : Visit s w st' lo' n r loop
-          turn-visit = record { ready = ready-after s w st lo v.ready depth r.f2 m (loop-body s w st lo v.ready n r v.there v.statement v.form) j st' lo' (sym h); statement = v.statement; there = v.there; form = v.form }
+        module _ (j : ℕ) (h : world (Done j) st' lo' ≡ run_of s depth (context_at s w) r.f2 m st lo) where
+          pub turn_visit : Visit s w st' lo' n r loop
+          turn_visit = record { ready = ready_after_lem s w st lo v.ready depth r.f2 m (loop-body s w st lo v.ready n r v.there v.statement v.form) j st' lo' (sym h); statement = v.statement; there = v.there; form = v.form }
 
           -- "a visit that would pass [the limit] is refused"
-          pub turn-none : j ≡ 0 → world (Refused 10 0) st' lo' ≡ run_of s depth (contextAt s w) n (suc l) st lo
-          turn-none k = none_left s w st' lo' turn-visit.ready n depth j k ∙ then-done _ (λ m st lo. run_of s depth (contextAt s w) n m st lo) st' lo' j h ∙ turn
+          pub turn_none_lem : j ≡ 0 → world (Refused 10 0) st' lo' ≡ run_of s depth (context_at s w) n (suc l) st lo
+          turn_none_lem k = none_left s w st' lo' turn_visit.ready n depth j k ∙ then_done _ (λ m st lo. run_of s depth (context_at s w) n m st lo) st' lo' j h ∙ turn
 
-          pub turn-again : (j ≡ 0 → ⊥) → run_of s depth (contextAt s w) n (suc l) st lo ≡ run_of s depth (contextAt s w) n (suc (j - 1)) st' lo'
-          turn-again k = sym (ap (λ l. run_of s depth (contextAt s w) n l st' lo') (sym (step-there j k)) ∙ then-done _ (λ m st lo. run_of s depth (contextAt s w) n m st lo) st' lo' j h ∙ turn)
+          pub turn_again : (j ≡ 0 → ⊥) → run_of s depth (context_at s w) n (suc l) st lo ≡ run_of s depth (context_at s w) n (suc (j - 1)) st' lo'
+          turn_again k = sym (ap (λ l. run_of s depth (context_at s w) n l st' lo') (sym (step_there j k)) ∙ then_done _ (λ m st lo. run_of s depth (context_at s w) n m st lo) st' lo' j h ∙ turn)
 
   -- ---- a sequence
 
   module _ (v : Visit s w st lo n r sequence) (depth l : ℕ) (st' lo' : List ℤ) where
     abbrev onward : ℕ → List ℤ → List ℤ → World
-    onward m st lo = run_of s depth (contextAt s w) r.f2 m st lo
+    onward m st lo = run_of s depth (context_at s w) r.f2 m st lo
 
-    runs : run_of s depth (contextAt s w) n (suc l) st lo ≡ thenRun (run_of s depth (contextAt s w) r.f1 l st lo) onward
+    runs : run_of s depth (context_at s w) n (suc l) st lo ≡ then_run (run_of s depth (context_at s w) r.f1 l st lo) onward
     runs = sequence-runs s w st lo v.ready n r v.there v.statement v.form depth l
 
-    pub first_done : (m : ℕ) → world (Done m) st' lo' ≡ run_of s depth (contextAt s w) r.f1 l st lo → run_of s depth (contextAt s w) r.f2 m st' lo' ≡ run_of s depth (contextAt s w) n (suc l) st lo
-    first_done m h = then-done _ onward st' lo' m h ∙ sym runs
+    pub first_done : (m : ℕ) → world (Done m) st' lo' ≡ run_of s depth (context_at s w) r.f1 l st lo → run_of s depth (context_at s w) r.f2 m st' lo' ≡ run_of s depth (context_at s w) n (suc l) st lo
+    first_done m h = then_done _ onward st' lo' m h ∙ sym runs
 
-    pub first-refused : (k m : ℕ) → world (Refused k m) st' lo' ≡ run_of s depth (contextAt s w) r.f1 l st lo → world (Refused k m) st' lo' ≡ run_of s depth (contextAt s w) n (suc l) st lo
-    first-refused k m h = then-refused _ onward st' lo' k m h ∙ sym runs
+    pub first-refused : (k m : ℕ) → world (Refused k m) st' lo' ≡ run_of s depth (context_at s w) r.f1 l st lo → world (Refused k m) st' lo' ≡ run_of s depth (context_at s w) n (suc l) st lo
+    first-refused k m h = then_refused _ onward st' lo' k m h ∙ sym runs
 
-    pub first-stuck : world Stuck st' lo' ≡ run_of s depth (contextAt s w) r.f1 l st lo → world Stuck st' lo' ≡ run_of s depth (contextAt s w) n (suc l) st lo
-    first-stuck h = then-stuck _ onward st' lo' h ∙ sym runs
+    pub first-stuck : world Stuck st' lo' ≡ run_of s depth (context_at s w) r.f1 l st lo → world Stuck st' lo' ≡ run_of s depth (context_at s w) n (suc l) st lo
+    first-stuck h = then_stuck _ onward st' lo' h ∙ sym runs
 
 -- ---- as code meets them
 
-pub with-ran : {o o' : Ran} {st lo : List ℤ} {v : World} → o ≡ o' → world o st lo ≡ v → world o' st lo ≡ v
-with-ran {st = st} {lo = lo} e h = ap (λ o. world o st lo) (sym e) ∙ h
+pub with_ran : {o o' : Ran} {st lo : List ℤ} {v : World} → o ≡ o' → world o st lo ≡ v → world o' st lo ≡ v
+with_ran {st = st} {lo = lo} e h = ap (λ o. world o st lo) (sym e) ∙ h
 
 pub step_back : {v : World} (s : List ℕ) (depth : ℕ) (x : Context) (n l : ℕ) (st lo : List ℤ) → (l ≡ 0 → ⊥) → v ≡ run_of s depth x n (suc (l - 1)) st lo → v ≡ run_of s depth x n l st lo
-step_back s depth x n l st lo h e = e ∙ ap (λ l. run_of s depth x n l st lo) (sym (step-there l h))
+step_back s depth x n l st lo h e = e ∙ ap (λ l. run_of s depth x n l st lo) (sym (step_there l h))
 
-pub past-four : {m op : ℕ} → m ≤ op → (op ≡ m → ⊥) → (op ≡ suc m → ⊥) → (op ≡ suc (suc m) → ⊥) → (op ≡ suc (suc (suc m)) → ⊥) → suc (suc (suc (suc m))) ≤ op
-past-four h a b c d = beyond (beyond (beyond (beyond h a) b) c) d
+pub past_four : {m op : ℕ} → m ≤ op → (op ≡ m → ⊥) → (op ≡ suc m → ⊥) → (op ≡ suc (suc m) → ⊥) → (op ≡ suc (suc (suc m)) → ⊥) → suc (suc (suc (suc m))) ≤ op
+past_four h a b c d = beyond (beyond (beyond (beyond h a) b) c) d
 
 pub below_next : {a b : ℕ} → a < suc b → a ≤ b
 below_next h = omega arith
 
 module _ (op : ℕ) where
-  pub form-assign-element : op ≡ 44 → form_of op ≡ assignElement
-  unfolding form_of lookUp
+  pub form-assign-element : op ≡ 44 → form_of op ≡ assign_element
+  unfolding form_of look_up
   form-assign-element e = ap form_of e
 
   pub form-assign : op ≡ 33 → form_of op ≡ assign
-  unfolding form_of lookUp
+  unfolding form_of look_up
   form-assign e = ap form_of e
 
-  pub form-external : op ≡ 34 → form_of op ≡ externalSend
-  unfolding form_of lookUp
+  pub form-external : op ≡ 34 → form_of op ≡ external_send
+  unfolding form_of look_up
   form-external e = ap form_of e
 
-  pub form-internal : op ≡ 35 → form_of op ≡ internalSend
-  unfolding form_of lookUp
+  pub form-internal : op ≡ 35 → form_of op ≡ internal_send
+  unfolding form_of look_up
   form-internal e = ap form_of e
 
   pub form-call : op ≡ 40 → form_of op ≡ call
-  unfolding form_of lookUp
+  unfolding form_of look_up
   form-call e = ap form_of e
 
   pub form-choice : op ≡ 41 → form_of op ≡ choice
-  unfolding form_of lookUp
+  unfolding form_of look_up
   form-choice e = ap form_of e
 
   pub form-loop : op ≡ 42 → form_of op ≡ loop
-  unfolding form_of lookUp
+  unfolding form_of look_up
   form-loop e = ap form_of e
 
   pub form-sequence : op ≡ 43 → form_of op ≡ sequence
-  unfolding form_of lookUp
+  unfolding form_of look_up
   form-sequence e = ap form_of e

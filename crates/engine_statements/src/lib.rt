@@ -2,7 +2,7 @@
 ghost use Rattle.std.specs.Prelude.{◌≡◌, List, suc, length, ℤ};
 ghost use Rattle.sheet_rules.specs.Forms.{call, loop};
 ghost use Rattle.machine.specs.Run.{world, entered, run_of};
-ghost use Rattle.engine_ready.specs.Ready.{contextAt};
+ghost use Rattle.engine_ready.specs.Ready.{context_at};
 ghost use Rattle.engine_statements.specs.Runs.{Runs, Visits, Enters};
 
 use engine_context::{FIRST_BODY, Frame, Locals};
@@ -24,7 +24,7 @@ fn enter(
     left: u32,
 ) -> Ran
     requires { Enters sheet.now directory.now context.now st.old depth number b d.now }
-    ensures { (lo : List ℤ) → world result st.new lo ≡ entered sheet.now (contextAt sheet.now context.now) (run_of sheet.now) depth b d.now left st.old lo }
+    ensures { (lo : List ℤ) → world result st.new lo ≡ entered sheet.now (context_at sheet.now context.now) (run_of sheet.now) depth b d.now left st.old lo }
 {
     if 16 <= depth {
         return Ran::Refused { number: 9, left };
@@ -57,7 +57,7 @@ fn call(
     left: u32,
 ) -> Ran
     requires { Visits sheet.now directory.now context.now st.old lo.now depth n r call }
-    ensures { world result st.new lo.now ≡ run_of sheet.now depth (contextAt sheet.now context.now) n (suc left) st.old lo.now }
+    ensures { world result st.new lo.now ≡ run_of sheet.now depth (context_at sheet.now context.now) n (suc left) st.old lo.now }
 {
     let number = context[FIRST_BODY] + r.f1 as usize;
     let Found::Present(b) = sheet_reader::read(sheet, directory, BODIES, number) else {
@@ -90,7 +90,7 @@ fn repeat(
     left: u32,
 ) -> Ran
     requires { Visits sheet.now directory.now context.now st.old lo.old depth n r loop }
-    ensures { (length lo.new ≡ 16) × (world result st.new lo.new ≡ run_of sheet.now depth (contextAt sheet.now context.now) n (suc left) st.old lo.old) }
+    ensures { (length lo.new ≡ 16) × (world result st.new lo.new ≡ run_of sheet.now depth (context_at sheet.now context.now) n (suc left) st.old lo.old) }
 {
     let mut l = left;
     loop {
@@ -142,7 +142,7 @@ pub fn run(
     left: u32,
 ) -> Ran
     requires { Runs sheet.now directory.now context.now st.old lo.old depth n }
-    ensures { (length lo.new ≡ 16) × (world result st.new lo.new ≡ run_of sheet.now depth (contextAt sheet.now context.now) n left st.old lo.old) }
+    ensures { (length lo.new ≡ 16) × (world result st.new lo.new ≡ run_of sheet.now depth (context_at sheet.now context.now) n left st.old lo.old) }
 {
     if left == 0 {
         return Ran::Refused {

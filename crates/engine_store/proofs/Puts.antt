@@ -6,11 +6,11 @@ use native.Mathlib.Omega.{arith}
 use lib.ListN.{length, take, drop, replicate, length-append, length-replicate, take-append-drop, replicate-append-replicate}
 use lib.Seq.{length-take-le, take_at, drop_at, drop-append-add, drop-drop}
 use lib.IntN.{ℤ, pos}
-use Rattle.machine.specs.State.{putWords}
+use Rattle.machine.specs.State.{put_words}
 
-pub put-none : (st : List ℤ) (at : ℕ) → putWords st at [] ≡ st
-unfolding putWords
-put-none st at =
+pub put_none : (st : List ℤ) (at : ℕ) → put_words st at [] ≡ st
+unfolding put_words
+put_none st at =
     let e : at + 0 ≡ at = omega arith in
     ap (λ (r : List ℤ). r ++ drop (at + 0) st) (append-nil (take at st)) ∙ ap (λ (k : ℕ). take at st ++ drop k st) e ∙ take-append-drop at st
 
@@ -30,23 +30,23 @@ module _ (st : List ℤ) (at : ℕ) (xs ys : List ℤ) (fit : at + length xs ≤
       let m : at + length xs + length ys ≡ at + length (xs ++ ys) = omega (arith, length-append xs ys) in
       ap (λ (k : ℕ). drop k (front ++ rest)) n ∙ drop-append-add front rest (length ys) ∙ drop-drop (length ys) (at + length xs) st ∙ ap (λ (k : ℕ). drop k st) m
 
-  pub put-behind : putWords (putWords st at xs) (at + length xs) ys ≡ putWords st at (xs ++ ys)
-  unfolding putWords
-  put-behind =
+  pub put_behind : put_words (put_words st at xs) (at + length xs) ys ≡ put_words st at (xs ++ ys)
+  unfolding put_words
+  put_behind =
       ap (λ (r : List ℤ). r ++ ys ++ drop (at + length xs + length ys) (front ++ rest)) (take_at front rest (at + length xs) front_length)
       ∙ ap (λ (r : List ℤ). front ++ ys ++ r) rest-behind
       ∙ ap (λ (r : List ℤ). r ++ drop (at + length (xs ++ ys)) st) (append_assoc (take at st) xs ys)
 
   -- words are put behind those that were put before
-  pub put-more : (st' st'' : List ℤ) (i : ℕ) → i ≡ at + length xs → st' ≡ putWords st at xs → st'' ≡ putWords st' i ys → st'' ≡ putWords st at (xs ++ ys)
-  put-more st' st'' i e h k = k ∙ ap (λ (r : List ℤ). putWords r i ys) h ∙ ap (λ (n : ℕ). putWords (putWords st at xs) n ys) e ∙ put-behind
+  pub put_more : (st' st'' : List ℤ) (i : ℕ) → i ≡ at + length xs → st' ≡ put_words st at xs → st'' ≡ put_words st' i ys → st'' ≡ put_words st at (xs ++ ys)
+  put_more st' st'' i e h k = k ∙ ap (λ (r : List ℤ). put_words r i ys) h ∙ ap (λ (n : ℕ). put_words (put_words st at xs) n ys) e ∙ put_behind
 
 abbrev zeros : ℕ → List ℤ
 zeros n = replicate n (pos 0)
 
-pub put-zeros : (a b : ℕ) (xs : List ℤ) → putWords (replicate (a + (length xs + b)) (pos 0)) a xs ≡ replicate a (pos 0) ++ xs ++ replicate b (pos 0)
-unfolding putWords
-put-zeros a b xs =
+pub put_zeros : (a b : ℕ) (xs : List ℤ) → put_words (replicate (a + (length xs + b)) (pos 0)) a xs ≡ replicate a (pos 0) ++ xs ++ replicate b (pos 0)
+unfolding put_words
+put_zeros a b xs =
     let whole = sym (replicate-append-replicate a (length xs + b) (pos 0)) in
     let n : a + length xs ≡ length (zeros a) + length xs = omega (arith, length-replicate a (pos 0)) in
     let behind : drop (a + length xs) (zeros a ++ zeros (length xs + b)) ≡ zeros b =

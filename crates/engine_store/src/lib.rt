@@ -1,8 +1,8 @@
 // Where things lie in a state, and a cell's words as the engine changes them.
 ghost use Rattle.std.specs.Prelude.{◌≡◌, [], ◌∷◌, ◌+◌, ◌-◌, ◌<◌, ◌≤◌, pos, length, set, replicate, get_or};
-ghost use Rattle.sheet_rules.specs.Shape.{mostCells};
-ghost use Rattle.machine.specs.State.{places, cell_at, putWords};
-ghost use Rattle.engine_store.specs.Layout.{wordsWith, shortest, longest, place_in};
+ghost use Rattle.sheet_rules.specs.Shape.{most_cells};
+ghost use Rattle.machine.specs.State.{places, cell_at, put_words};
+ghost use Rattle.engine_store.specs.Layout.{words_with, shortest, longest, place_in};
 
 use machine::Data;
 
@@ -15,8 +15,8 @@ pub const LONGEST: usize = 5128;
 // How many words a state with that many cells has: "8 head words ..; 8 words per variable ..; 128
 // telegram places of 8 words".
 pub fn state_length(cells: usize) -> usize
-    requires { cells ≤ mostCells }
-    ensures { result ≡ wordsWith cells }
+    requires { cells ≤ most_cells }
+    ensures { result ≡ words_with cells }
 {
     8 + 8 * cells + 8 * PLACES
 }
@@ -56,7 +56,7 @@ pub fn put_clock(
     d: &Data,
 )
     requires { at + 8 ≤ length st.old }
-    ensures { st.new ≡ putWords st.old at (running ∷ value ∷ period ∷ name ∷ get_or d.now 0 (pos 0) ∷ get_or d.now 1 (pos 0) ∷ get_or d.now 2 (pos 0) ∷ get_or d.now 3 (pos 0) ∷ []) }
+    ensures { st.new ≡ put_words st.old at (running ∷ value ∷ period ∷ name ∷ get_or d.now 0 (pos 0) ∷ get_or d.now 1 (pos 0) ∷ get_or d.now 2 (pos 0) ∷ get_or d.now 3 (pos 0) ∷ []) }
 {
     engine_rows::put_words(st, at, running, value, period, name, d[0], d[1], d[2], d[3]);
 }
@@ -64,7 +64,7 @@ pub fn put_clock(
 // A cell's first word, the others 0, whatever stood there: a default, or a clock that starts or stops.
 pub fn set_cell(st: &mut [i32], at: usize, z: i32)
     requires { at + 8 ≤ length st.old }
-    ensures { st.new ≡ putWords st.old at (z ∷ replicate 7 (pos 0)) }
+    ensures { st.new ≡ put_words st.old at (z ∷ replicate 7 (pos 0)) }
 {
     engine_rows::put_words(st, at, z, 0, 0, 0, 0, 0, 0, 0);
 }

@@ -13,24 +13,24 @@ use mir.Val.{of_z, to_z}
 use borrow.Author.Tests.{ltb-true, lt-ltb, le-ltb, eq-eqb, ne_eqb}
 use Rattle.sheet.specs.Names.{names}
 use Rattle.sheet.specs.Sheet.{count_of}
-use Rattle.sheet.proofs.All.{true-false}
+use Rattle.sheet.proofs.All.{true_false}
 use Rattle.machine.proofs.Appending.{appending}
-use Rattle.machine.specs.Values.{fits32, isBelow, is_zero, sameWord}
-use Rattle.machine.specs.State.{placeAt, stateLength, word_of, putWords, Changed, on, off, lost, appended}
-use Rattle.machine.specs.Play.{thenSlice, clockTelegram, ticks}
-use Rattle.machine_states.proofs.Words.{with-length, with-before}
-use Rattle.machine_states.proofs.Clocks.{timer-int}
+use Rattle.machine.specs.Values.{fits32, is_below, is_zero, same_word_lem}
+use Rattle.machine.specs.State.{place_at, state_length, word_of, put_words, Changed, on, off, lost, appended}
+use Rattle.machine.specs.Play.{then_slice, clock_telegram, ticks}
+use Rattle.machine_states.proofs.Words.{with_length, with_before}
+use Rattle.machine_states.proofs.Clocks.{timer_int}
 use Rattle.machine_states.proofs.Ticks.{fires-named}
 use Rattle.engine_queue.specs.Laid.{Laid}
 use Rattle.engine_rows.proofs.Laws.{given}
-use Rattle.engine_queue.specs.Changed.{changedTo}
+use Rattle.engine_queue.specs.Changed.{changed_to}
 use Rattle.engine_ticks.specs.Running.{Running}
 
 -- ---- words
 
-pub next-int : (w : ℤ) → mag w < 2147483648 → le_z (pos 0) w ≡ true → sameWord w (pos 2147483647) ≡ false → mag (w +ℤ pos 1) < 2147483648
+pub next_int : (w : ℤ) → mag w < 2147483648 → le_z (pos 0) w ≡ true → same_word_lem w (pos 2147483647) ≡ false → mag (w +ℤ pos 1) < 2147483648
 unfolding fits32
-next-int w h from q = ltb-true _ _ (timer-int w (lt-ltb _ _ h) from q)
+next_int w h from q = ltb-true _ _ (timer_int w (lt-ltb _ _ h) from q)
 
 pub last-int : (w : ℤ) → mag w < 2147483648 → le_z (pos 0) w ≡ true → mag (w -ℤ pos 1) < 2147483648
 last-int (pos zero) h from = omega arith
@@ -42,34 +42,34 @@ pub one_less : (w : ℤ) → mag w < 2147483648 → le_z (pos 0) w ≡ true → 
 one_less w h from = rw (given w h) (given (w -ℤ pos 1) (last-int w h from))
 
 -- a word is 0 where its bits are
-pub bits-zero : (z : ℤ) → mag z < 2147483648 → of_z w32 z ≡ 0 → is_zero z ≡ true
+pub bits_zero : (z : ℤ) → mag z < 2147483648 → of_z w32 z ≡ 0 → is_zero z ≡ true
 unfolding is_zero
-bits-zero (pos k) h e = eq-eqb k 0 e
-bits-zero (negsuc k) h e = absurd (omega arith)
+bits_zero (pos k) h e = eq-eqb k 0 e
+bits_zero (negsuc k) h e = absurd (omega arith)
 
-pub bits-some : (z : ℤ) → mag z < 2147483648 → (of_z w32 z ≡ 0 → ⊥) → is_zero z ≡ false
+pub bits_some : (z : ℤ) → mag z < 2147483648 → (of_z w32 z ≡ 0 → ⊥) → is_zero z ≡ false
 unfolding is_zero
-bits-some (pos k) h n = ne_eqb k 0 n
-bits-some (negsuc k) h n = refl
+bits_some (pos k) h n = ne_eqb k 0 n
+bits_some (negsuc k) h n = refl
 
-pub number-back : (z : ℤ) → le_z (pos 0) z ≡ true → z ≡ pos (nat_abs z)
-number-back (pos k) h = refl
-number-back (negsuc k) h = absurd (true≢false (sym h))
+pub number_back_lem : (z : ℤ) → le_z (pos 0) z ≡ true → z ≡ pos (nat_abs z)
+number_back_lem (pos k) h = refl
+number_back_lem (negsuc k) h = absurd (true≢false (sym h))
 
 -- ---- what a number says
 
-pub then-refused : (r : Changed) (n : ℕ) (st st' : List ℤ) (K : List ℤ → Changed) → r ≡ changedTo n st → (n ≡ 0 → ⊥) → thenSlice r K ≡ changedTo n st'
-unfolding changedTo thenSlice
-then-refused r zero st st' K e h = absurd (h refl)
-then-refused r (suc n) st st' K e h = rw e refl
+pub then_refused : (r : Changed) (n : ℕ) (st st' : List ℤ) (K : List ℤ → Changed) → r ≡ changed_to n st → (n ≡ 0 → ⊥) → then_slice r K ≡ changed_to n st'
+unfolding changed_to then_slice
+then_refused r zero st st' K e h = absurd (h refl)
+then_refused r (suc n) st st' K e h = rw e refl
 
-pub then-done : (r : Changed) (n : ℕ) (st : List ℤ) (K : List ℤ → Changed) → r ≡ changedTo n st → n ≡ 0 → thenSlice r K ≡ K st
-unfolding changedTo thenSlice
-then-done r n st K e h = rw (e, h) refl
+pub then_done : (r : Changed) (n : ℕ) (st : List ℤ) (K : List ℤ → Changed) → r ≡ changed_to n st → n ≡ 0 → then_slice r K ≡ K st
+unfolding changed_to then_slice
+then_done r n st K e h = rw (e, h) refl
 
-pub goes_on : (r : Changed) (n : ℕ) (st : List ℤ) → r ≡ changedTo n st → n ≡ 0 → r ≡ on st
-unfolding changedTo
-goes_on r n st e h = rw (e, h) refl
+pub goes_on_lem : (r : Changed) (n : ℕ) (st : List ℤ) → r ≡ changed_to n st → n ≡ 0 → r ≡ on st
+unfolding changed_to
+goes_on_lem r n st e h = rw (e, h) refl
 
 pub on-words : (a b : List ℤ) → on a ≡ on b → a ≡ b
 on-words a b e = ap words e
@@ -80,7 +80,7 @@ on-words a b e = ap words e
     words lost = a
 
 pub on-off : (a : List ℤ) (n : ℕ) → off n ≡ on a → ⊥
-on-off a n e = true-false {b = true} refl (ap refusal (sym e))
+on-off a n e = true_false {b = true} refl (ap refusal (sym e))
   where
     refusal : Changed → Bool
     refusal (on st) = true
@@ -94,20 +94,20 @@ laid st at r = record { long = let l = r.inside in omega arith; head = r.head }
 
 module _ (s : List ℕ) (e at : ℕ) (st : List ℤ) where
   abbrev fired : Changed
-  fired = appended s st (clockTelegram e st at)
+  fired = appended s st (clock_telegram e st at)
 
   -- it lies behind the cells
-  pub fired-word : length st ≡ stateLength s → Running st at → (st' : List ℤ) → fired ≡ on st' → (word_of st' at ≡ pos 1) × (length st' ≡ length st)
-  unfolding stateLength placeAt
-  fired-word whole r st' = appending s st (clockTelegram e st at) r.head (λ x. x ≡ on st' → (word_of st' at ≡ pos 1) × (length st' ≡ length st))
+  pub fired_word : length st ≡ state_length s → Running st at → (st' : List ℤ) → fired ≡ on st' → (word_of st' at ≡ pos 1) × (length st' ≡ length st)
+  unfolding state_length place_at
+  fired_word whole r st' = appending s st (clock_telegram e st at) r.head (λ x. x ≡ on st' → (word_of st' at ≡ pos 1) × (length st' ≡ length st))
       (λ room few f.
-      rw (sym (on-words _ _ f)) (with-before s st (clockTelegram e st at) whole room at (let l = r.behind in omega arith) (let l = r.inside in omega arith) ∙ r.runs, with-length s st (clockTelegram e st at) whole room))
+      rw (sym (on-words _ _ f)) (with_before s st (clock_telegram e st at) whole room at (let l = r.behind in omega arith) (let l = r.inside in omega arith) ∙ r.runs, with_length s st (clock_telegram e st at) whole room))
       (λ f. absurd (on-off st' 8 f))
       (λ f. absurd (on-off st' 12 f))
 
 -- the two words of a Cycler that fires; the first is 1 already
-pub put_two : (st : List ℤ) (at : ℕ) (z : ℤ) → at + 2 ≤ length st → word_of st at ≡ pos 1 → putWords st at (pos 1 ∷ z ∷ []) ≡ set st (at + 1) z
-unfolding putWords word_of
+pub put_two : (st : List ℤ) (at : ℕ) (z : ℤ) → at + 2 ≤ length st → word_of st at ≡ pos 1 → put_words st at (pos 1 ∷ z ∷ []) ≡ set st (at + 1) z
+unfolding put_words word_of
 put_two st at z l e =
     let f : at + 1 ≡ suc at = omega arith in
     let same : set st at (pos 1) ≡ st = rw (sym e) (set-get_or st at (pos 0)) in
@@ -118,28 +118,28 @@ put_two st at z l e =
 module _ (s : List ℕ) (e at : ℕ) (st : List ℤ) where
   -- the clock's name is one of the sheet
   abbrev Named : Type 0
-  Named = isBelow (word_of st (at + 3)) (count_of s names) ≡ true
+  Named = is_below (word_of st (at + 3)) (count_of s names) ≡ true
 
-  pub timer-last : sameWord (word_of st (at + 1)) (pos 2147483647) ≡ true → ticks s e 4 at st ≡ off 6
+  pub timer_last : same_word_lem (word_of st (at + 1)) (pos 2147483647) ≡ true → ticks s e 4 at st ≡ off 6
   unfolding ticks
-  timer-last q = rw (ticks, q) refl
+  timer_last q = rw (ticks, q) refl
 
-  pub timer-goes : sameWord (word_of st (at + 1)) (pos 2147483647) ≡ false → ticks s e 4 at st ≡ on (set st (at + 1) (word_of st (at + 1) +ℤ pos 1))
+  pub timer_goes : same_word_lem (word_of st (at + 1)) (pos 2147483647) ≡ false → ticks s e 4 at st ≡ on (set st (at + 1) (word_of st (at + 1) +ℤ pos 1))
   unfolding ticks
-  timer-goes q = rw (ticks, q) refl
+  timer_goes q = rw (ticks, q) refl
 
-  pub timeout-goes : sameWord (word_of st (at + 1)) (pos 1) ≡ false → ticks s e 5 at st ≡ on (set st (at + 1) (word_of st (at + 1) -ℤ pos 1))
+  pub timeout_goes : same_word_lem (word_of st (at + 1)) (pos 1) ≡ false → ticks s e 5 at st ≡ on (set st (at + 1) (word_of st (at + 1) -ℤ pos 1))
   unfolding ticks
-  timeout-goes q = rw (ticks, q) refl
+  timeout_goes q = rw (ticks, q) refl
 
-  pub timeout-fires : Named → sameWord (word_of st (at + 1)) (pos 1) ≡ true → ticks s e 5 at st ≡ thenSlice (appended s st (clockTelegram e st at)) (λ st'. on (putWords st' at (replicate 8 (pos 0))))
+  pub timeout_fires : Named → same_word_lem (word_of st (at + 1)) (pos 1) ≡ true → ticks s e 5 at st ≡ then_slice (appended s st (clock_telegram e st at)) (λ st'. on (put_words st' at (replicate 8 (pos 0))))
   unfolding ticks
-  timeout-fires n q = rw (ticks, q) (fires-named s e at (replicate 8 (pos 0)) st n)
+  timeout_fires n q = rw (ticks, q) (fires-named s e at (replicate 8 (pos 0)) st n)
 
-  pub cycler-goes : is_zero (word_of st (at + 1)) ≡ false → ticks s e 6 at st ≡ on (set st (at + 1) (word_of st (at + 1) -ℤ pos 1))
+  pub cycler_goes : is_zero (word_of st (at + 1)) ≡ false → ticks s e 6 at st ≡ on (set st (at + 1) (word_of st (at + 1) -ℤ pos 1))
   unfolding ticks
-  cycler-goes q = rw (ticks, q) refl
+  cycler_goes q = rw (ticks, q) refl
 
-  pub cycler-fires : Named → is_zero (word_of st (at + 1)) ≡ true → ticks s e 6 at st ≡ thenSlice (appended s st (clockTelegram e st at)) (λ st'. on (putWords st' at (pos 1 ∷ (word_of st (at + 2) -ℤ pos 1) ∷ [])))
+  pub cycler_fires : Named → is_zero (word_of st (at + 1)) ≡ true → ticks s e 6 at st ≡ then_slice (appended s st (clock_telegram e st at)) (λ st'. on (put_words st' at (pos 1 ∷ (word_of st (at + 2) -ℤ pos 1) ∷ [])))
   unfolding ticks
-  cycler-fires n q = rw (ticks, q) (fires-named s e at (pos 1 ∷ (word_of st (at + 2) -ℤ pos 1) ∷ []) st n)
+  cycler_fires n q = rw (ticks, q) (fires-named s e at (pos 1 ∷ (word_of st (at + 2) -ℤ pos 1) ∷ []) st n)

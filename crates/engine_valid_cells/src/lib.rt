@@ -1,17 +1,17 @@
 // The cell of a variable: a value and zeros, or a clock, stopped or running.
 ghost use Rattle.std.specs.Prelude.{◌≡◌, ℕ, ◌+◌, ◌≤◌, length};
 ghost use Rattle.sheet.specs.declared.Found.TheVariants.{Present};
-ghost use Rattle.sheet.specs.Sheet.{directoryOf};
-ghost use Rattle.machine.specs.Values.{chartOf};
-ghost use Rattle.machine.specs.Valid.{zeroWords, runningClock, clockCell, cellFits};
-ghost use Rattle.engine_valid_cells.specs.Parts.{valueFits};
+ghost use Rattle.sheet.specs.Sheet.{directory_of};
+ghost use Rattle.machine.specs.Values.{chart_of};
+ghost use Rattle.machine.specs.Valid.{zero_words, running_clock, clock_cell, cell_fits};
+ghost use Rattle.engine_valid_cells.specs.Parts.{value_fits};
 
 use sheet::{Directory, Record};
 
 // Whether the words from `at + from` on, up to `at + 8`, are zero.
 pub fn zero_words(st: &[i32], at: usize, from: usize) -> bool
     requires { at + 8 ≤ length st.now }
-    ensures { result ≡ zeroWords st.now at from }
+    ensures { result ≡ zero_words st.now at from }
 {
     if 8 <= from {
         return true;
@@ -30,7 +30,7 @@ pub fn zero_words(st: &[i32], at: usize, from: usize) -> bool
 
 // Value and period of a running Timeout or Cycler.
 fn value_fits(t: usize, value: i32, period: i32) -> bool
-    ensures { result ≡ valueFits t value period }
+    ensures { result ≡ value_fits t value period }
 {
     if t == 5 {
         if !engine_valid_words::at_least(value, 1) {
@@ -52,8 +52,8 @@ fn running_clock(
     st: &[i32],
     at: usize,
 ) -> bool
-    requires { (directory.now ≡ directoryOf sheet.now) × (at + 8 ≤ length st.now) }
-    ensures { (e : ℕ) → chartOf sheet.now e ≡ Present c → result ≡ runningClock sheet.now e t st.now at }
+    requires { (directory.now ≡ directory_of sheet.now) × (at + 8 ≤ length st.now) }
+    ensures { (e : ℕ) → chart_of sheet.now e ≡ Present c → result ≡ running_clock sheet.now e t st.now at }
 {
     let value = engine_valid_words::word(st, at + 1);
     let period = engine_valid_words::word(st, at + 2);
@@ -85,8 +85,8 @@ fn clock_cell(
     st: &[i32],
     at: usize,
 ) -> bool
-    requires { (directory.now ≡ directoryOf sheet.now) × (at + 8 ≤ length st.now) }
-    ensures { (e : ℕ) → chartOf sheet.now e ≡ Present c → result ≡ clockCell sheet.now e t st.now at }
+    requires { (directory.now ≡ directory_of sheet.now) × (at + 8 ≤ length st.now) }
+    ensures { (e : ℕ) → chart_of sheet.now e ≡ Present c → result ≡ clock_cell sheet.now e t st.now at }
 {
     if engine_valid_words::zero_at(st, at) {
         return zero_words(st, at, 1);
@@ -106,8 +106,8 @@ pub fn cell_fits(
     st: &[i32],
     at: usize,
 ) -> bool
-    requires { (directory.now ≡ directoryOf sheet.now) × (at + 8 ≤ length st.now) }
-    ensures { (e : ℕ) → chartOf sheet.now e ≡ Present c → result ≡ cellFits sheet.now e t st.now at }
+    requires { (directory.now ≡ directory_of sheet.now) × (at + 8 ≤ length st.now) }
+    ensures { (e : ℕ) → chart_of sheet.now e ≡ Present c → result ≡ cell_fits sheet.now e t st.now at }
 {
     if sheet_types::is_clock(t) {
         return clock_cell(sheet, directory, c, t, st, at);

@@ -10,33 +10,33 @@ use lib.IntN.{ℤ}
 use Rattle.sheet.specs.declared.Record.{Record}
 use Rattle.sheet.specs.declared.Found.TheVariants.{Present}
 use Rattle.sheet.specs.All.{all_below}
-use Rattle.sheet.specs.Names.{chartVariables}
-use Rattle.sheet_rules.specs.Fields.{type_at, externalsOf}
-use Rattle.sheet_rules.specs.Indices.{cellsTaken, cellsBefore}
+use Rattle.sheet.specs.Names.{chart_variables}
+use Rattle.sheet_rules.specs.Fields.{type_at, externals_of}
+use Rattle.sheet_rules.specs.Indices.{cells_taken, cells_before}
 use Rattle.sheet_rules.proofs.Fields.{holds-present}
-use Rattle.machine.specs.Values.{chartOf, firstCell}
-use Rattle.machine.specs.State.{cell_at, cell_of, placeAt, stateLength}
-use Rattle.machine.specs.Valid.{cellFits, variableFits, elementFits}
-use Rattle.machine_passed.proofs.Records.{cells-limit}
-use Rattle.machine_passed.proofs.Declared.{declared-so, element-declared}
-use Rattle.machine_states.proofs.Elements.{cells-next, variable-cells, element-number, element-cells}
+use Rattle.machine.specs.Values.{chart_of, first_cell}
+use Rattle.machine.specs.State.{cell_at, cell_of, place_at, state_length}
+use Rattle.machine.specs.Valid.{cell_fits, variable_fits, element_fits}
+use Rattle.machine_passed.proofs.Records.{cells_limit}
+use Rattle.machine_passed.proofs.Declared.{declared_so_lem, element-declared}
+use Rattle.machine_states.proofs.Elements.{cells_next, variable-cells, element-number, element-cells}
 use Rattle.engine_cells.specs.Lent.{Lent, CellsIn}
-use Rattle.engine_cells.proofs.Laws.{bound-below, chart-variables}
+use Rattle.engine_cells.proofs.Laws.{bound-below, chart_variables_lem}
 
 -- ---- the cells of a variable
 
-pub cell-judged : (s : List ℕ) (e t : ℕ) (st : List ℤ) (at i : ℕ) (b : Bool) → at ≡ cell_at i → b ≡ cellFits s e t st at → b ≡ cellFits s e t st (cell_at i)
-cell-judged s e t st at i b q h = h ∙ ap (cellFits s e t st) q
+pub cell_judged : (s : List ℕ) (e t : ℕ) (st : List ℤ) (at i : ℕ) (b : Bool) → at ≡ cell_at i → b ≡ cell_fits s e t st at → b ≡ cell_fits s e t st (cell_at i)
+cell_judged s e t st at i b q h = h ∙ ap (cell_fits s e t st) q
 
 -- ---- the cells of an element, by its row of the table
 
-pub element-is : (s : List ℕ) (st : List ℤ) (e : ℕ) (c : Record) → chartOf s e ≡ Present c → all_below c.f3 (variableFits s st e c) ≡ elementFits s st e
-unfolding elementFits
-element-is s st e c p = sym (holds-present (chartOf s e) c _ p)
+pub element_is : (s : List ℕ) (st : List ℤ) (e : ℕ) (c : Record) → chart_of s e ≡ Present c → all_below c.f3 (variable_fits s st e c) ≡ element_fits s st e
+unfolding element_fits
+element_is s st e c p = sym (holds-present (chart_of s e) c _ p)
 
-module _ (s d t : List ℕ) (st : List ℤ) (lent : Lent s d t st) (e : ℕ) (c : Record) (p : chartOf s e ≡ Present c) (row : ℕ) (at : row ≡ 34 * (e - externalsOf s)) where
+module _ (s d t : List ℕ) (st : List ℤ) (lent : Lent s d t st) (e : ℕ) (c : Record) (p : chart_of s e ≡ Present c) (row : ℕ) (at : row ≡ 34 * (e - externals_of s)) where
   pub row_inside : (j : ℕ) → j ≤ c.f3 → row + j < 2176
-  row_inside j l = omega (arith, chart-variables s lent.passed e c p, element-number s e c p, bound-below s lent.passed)
+  row_inside j l = omega (arith, chart_variables_lem s lent.passed e c p, element-number s e c p, bound-below s lent.passed)
 
   module _ (j : ℕ) (l : j < c.f3) where
     abbrev cell : ℕ
@@ -47,36 +47,36 @@ module _ (s d t : List ℕ) (st : List ℤ) (lent : Lent s d t st) (e : ℕ) (c 
 
     -- variable j's declaration
     abbrev own : ℕ
-    own = (chartVariables c).first + j
+    own = (chart_variables c).first + j
 
-    cell-is : cell ≡ firstCell s e + cellsBefore s c j
-    cell-is = ap (λ (r : ℕ). get_or t (r + j) 0) at ∙ lent.cells.right e c p j (omega arith)
+    cell_is : cell ≡ first_cell s e + cells_before s c j
+    cell_is = ap (λ (r : ℕ). get_or t (r + j) 0) at ∙ lent.cells.right e c p j (omega arith)
 
-    next-is : next ≡ firstCell s e + cellsBefore s c (j + 1)
-    next-is = ap (λ (r : ℕ). get_or t (r + (j + 1)) 0) at ∙ lent.cells.right e c p (j + 1) (omega arith)
+    next_is_lem : next ≡ first_cell s e + cells_before s c (j + 1)
+    next_is_lem = ap (λ (r : ℕ). get_or t (r + (j + 1)) 0) at ∙ lent.cells.right e c p (j + 1) (omega arith)
 
-    cells-more : cellsBefore s c (j + 1) ≡ cellsBefore s c j + cellsTaken s own
-    cells-more = rw add-one (cells-next s c j)
+    cells_more : cells_before s c (j + 1) ≡ cells_before s c j + cells_taken s own
+    cells_more = rw add-one (cells_next s c j)
 
-    taken_is : next - cell ≡ cellsTaken s own
-    taken_is = omega (arith, cell-is, next-is, cells-more)
+    taken_is : next - cell ≡ cells_taken s own
+    taken_is = omega (arith, cell_is, next_is_lem, cells_more)
 
-    pub cell-rises : cell ≤ next
-    cell-rises = omega (arith, cell-is, next-is, cells-more)
+    pub cell_rises : cell ≤ next
+    cell_rises = omega (arith, cell_is, next_is_lem, cells_more)
 
     pub cells_in : CellsIn st cell (next - cell)
-    unfolding cell_at stateLength placeAt
+    unfolding cell_at state_length place_at
     cells_in =
-        let a = cell-is in
+        let a = cell_is in
         let b = taken_is in
         let v = variable-cells s c j c.f3 l in
         let x = element-cells s e c p in
-        let m = cells-limit s lent.passed in
+        let m = cells_limit s lent.passed in
         let w = lent.whole in
         record { few = omega arith; inside = omega arith }
 
-    pub variable-judged : (k : ℕ) → k ≡ type_at s own → (b : Bool) → b ≡ all_below (next - cell) (λ i. cellFits s e k st (cell_at (cell + i))) → b ≡ variableFits s st e c j
-    unfolding variableFits cell_of
-    variable-judged k a b h =
-        let declared = declared-so s own (λ k. all_below (cellsTaken s own) (λ i. cellFits s e k st (cell_of s e c j i))) (element-declared s lent.passed e c p j l) in
-        h ∙ rw (a, taken_is, cell-is) (sym declared)
+    pub variable_judged : (k : ℕ) → k ≡ type_at s own → (b : Bool) → b ≡ all_below (next - cell) (λ i. cell_fits s e k st (cell_at (cell + i))) → b ≡ variable_fits s st e c j
+    unfolding variable_fits cell_of
+    variable_judged k a b h =
+        let declared = declared_so_lem s own (λ k. all_below (cells_taken s own) (λ i. cell_fits s e k st (cell_of s e c j i))) (element-declared s lent.passed e c p j l) in
+        h ∙ rw (a, taken_is, cell_is) (sym declared)

@@ -2,10 +2,10 @@
 ghost use Rattle.std.specs.Prelude.{◌≡◌, ℕ, ◌+◌};
 ghost use Rattle.sheet.specs.declared.Found.TheVariants.{Present};
 ghost use Rattle.sheet.specs.All.{all_below};
-ghost use Rattle.sheet.specs.Sheet.{directoryOf};
-ghost use Rattle.machine.specs.Values.{chartOf};
+ghost use Rattle.sheet.specs.Sheet.{directory_of};
+ghost use Rattle.machine.specs.Values.{chart_of};
 ghost use Rattle.machine.specs.State.{cell_at};
-ghost use Rattle.machine.specs.Valid.{cellFits, elementFits};
+ghost use Rattle.machine.specs.Valid.{cell_fits, element_fits};
 ghost use Rattle.engine_cells.specs.Lent.{Lent, CellsIn};
 
 use engine_cells::{CellLayout, ROW};
@@ -21,8 +21,8 @@ fn variable_fits(
     n: usize,
     st: &[i32],
 ) -> bool
-    requires { (directory.now ≡ directoryOf sheet.now) × CellsIn st.now cell n }
-    ensures { (e : ℕ) → chartOf sheet.now e ≡ Present c → result ≡ all_below n (λ k. cellFits sheet.now e t st.now (cell_at (cell + k))) }
+    requires { (directory.now ≡ directory_of sheet.now) × CellsIn st.now cell n }
+    ensures { (e : ℕ) → chart_of sheet.now e ≡ Present c → result ≡ all_below n (λ k. cell_fits sheet.now e t st.now (cell_at (cell + k))) }
 {
     let mut k: usize = 0;
     while k < n {
@@ -45,8 +45,8 @@ pub fn element_fits(
     e: usize,
     st: &[i32],
 ) -> bool
-    requires { Lent sheet.now directory.now cells.now st.now × (chartOf sheet.now e ≡ Present c) }
-    ensures { result ≡ elementFits sheet.now st.now e }
+    requires { Lent sheet.now directory.now cells.now st.now × (chart_of sheet.now e ≡ Present c) }
+    ensures { result ≡ element_fits sheet.now st.now e }
 {
     let row = ROW * (e - engine_valid_values::externals(sheet, directory));
     let count = c.f3 as usize;

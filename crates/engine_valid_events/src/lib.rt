@@ -1,10 +1,10 @@
 // An event's nine words, taken apart by its kind where they are well formed.
 ghost use Rattle.std.specs.Prelude.{◌≡◌, List, ℕ, length};
-ghost use Rattle.sheet.specs.Sheet.{directoryOf};
+ghost use Rattle.sheet.specs.Sheet.{directory_of};
 ghost use Rattle.machine.specs.Kinds as kind;
-ghost use Rattle.machine.specs.Play.{wordsOfEvent};
-ghost use Rattle.machine_events.specs.Event.{eventOf, isMalformed};
-ghost use Rattle.engine_valid_events.specs.Read.{readAs};
+ghost use Rattle.machine.specs.Play.{words_of_event};
+ghost use Rattle.machine_events.specs.Event.{event_of, is_malformed};
+ghost use Rattle.engine_valid_events.specs.Read.{read_as};
 
 use machine::EVENT_WORDS;
 use machine_events::Event;
@@ -12,8 +12,8 @@ use sheet::Directory;
 
 // Each kind's words, or Malformed.
 fn outside(sheet: &[u8], directory: &Directory, ev: &[i32]) -> Event
-    requires { (directory.now ≡ directoryOf sheet.now) × (length ev.now ≡ wordsOfEvent) }
-    ensures { result ≡ readAs sheet.now ev.now kind.outside }
+    requires { (directory.now ≡ directory_of sheet.now) × (length ev.now ≡ words_of_event) }
+    ensures { result ≡ read_as sheet.now ev.now kind.outside }
 {
     if engine_valid_kinds::outside_formed(sheet, directory, ev) {
         return Event::Outside(engine_rows::telegram_in(ev, 1));
@@ -22,8 +22,8 @@ fn outside(sheet: &[u8], directory: &Directory, ev: &[i32]) -> Event
 }
 
 fn deliver(sheet: &[u8], directory: &Directory, ev: &[i32]) -> Event
-    requires { (directory.now ≡ directoryOf sheet.now) × (length ev.now ≡ wordsOfEvent) }
-    ensures { result ≡ readAs sheet.now ev.now kind.deliver }
+    requires { (directory.now ≡ directory_of sheet.now) × (length ev.now ≡ words_of_event) }
+    ensures { result ≡ read_as sheet.now ev.now kind.deliver }
 {
     if engine_valid_kinds::deliver_formed(sheet, directory, ev) {
         return Event::Deliver {
@@ -35,8 +35,8 @@ fn deliver(sheet: &[u8], directory: &Directory, ev: &[i32]) -> Event
 }
 
 fn corrupt(sheet: &[u8], directory: &Directory, ev: &[i32]) -> Event
-    requires { (directory.now ≡ directoryOf sheet.now) × (length ev.now ≡ wordsOfEvent) }
-    ensures { result ≡ readAs sheet.now ev.now kind.corrupt }
+    requires { (directory.now ≡ directory_of sheet.now) × (length ev.now ≡ words_of_event) }
+    ensures { result ≡ read_as sheet.now ev.now kind.corrupt }
 {
     if engine_valid_kinds::corrupt_formed(sheet, directory, ev) {
         return Event::Corrupt {
@@ -48,8 +48,8 @@ fn corrupt(sheet: &[u8], directory: &Directory, ev: &[i32]) -> Event
 }
 
 fn inner(sheet: &[u8], directory: &Directory, ev: &[i32]) -> Event
-    requires { (directory.now ≡ directoryOf sheet.now) × (length ev.now ≡ wordsOfEvent) }
-    ensures { result ≡ readAs sheet.now ev.now kind.inner }
+    requires { (directory.now ≡ directory_of sheet.now) × (length ev.now ≡ words_of_event) }
+    ensures { result ≡ read_as sheet.now ev.now kind.inner }
 {
     if engine_valid_kinds::inner_formed(sheet, directory, ev) {
         return Event::Inner {
@@ -60,8 +60,8 @@ fn inner(sheet: &[u8], directory: &Directory, ev: &[i32]) -> Event
 }
 
 fn slice(ev: &[i32]) -> Event
-    requires { length ev.now ≡ wordsOfEvent }
-    ensures { (s : List ℕ) → result ≡ readAs s ev.now kind.slice }
+    requires { length ev.now ≡ words_of_event }
+    ensures { (s : List ℕ) → result ≡ read_as s ev.now kind.slice }
 {
     if engine_valid_kinds::rest_zero(ev, 1) {
         return Event::Slice;
@@ -71,8 +71,8 @@ fn slice(ev: &[i32]) -> Event
 
 // An event's words taken apart. A Slice, kind 5, uses no other word.
 pub fn event_of(sheet: &[u8], directory: &Directory, ev: &[i32]) -> Event
-    requires { directory.now ≡ directoryOf sheet.now }
-    ensures { result ≡ eventOf sheet.now ev.now }
+    requires { directory.now ≡ directory_of sheet.now }
+    ensures { result ≡ event_of sheet.now ev.now }
 {
     if ev.len() != EVENT_WORDS {
         return Event::Malformed;
@@ -90,7 +90,7 @@ pub fn event_of(sheet: &[u8], directory: &Directory, ev: &[i32]) -> Event
 
 // Whether it is turned down with 4.
 pub fn is_malformed(e: Event) -> bool
-    ensures { result ≡ isMalformed e }
+    ensures { result ≡ is_malformed e }
 {
     match e {
         Event::Malformed => true,

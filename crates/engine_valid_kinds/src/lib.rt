@@ -1,17 +1,17 @@
 // Whether an event's nine words are well formed, kind by kind.
 ghost use Rattle.std.specs.Prelude.{◌≡◌, ◌<◌, ◌≤◌, length};
-ghost use Rattle.sheet.specs.Sheet.{directoryOf};
+ghost use Rattle.sheet.specs.Sheet.{directory_of};
 ghost use Rattle.machine.specs.State.{word_of};
 ghost use Rattle.machine.specs.Kinds as kind;
-ghost use Rattle.machine.specs.Play.{wordsOfEvent, restZero, boundWord, wellFormed};
+ghost use Rattle.machine.specs.Play.{words_of_event, rest_zero, bound_word, well_formed};
 
 use machine::EVENT_WORDS;
 use sheet::Directory;
 
 // Whether the words from number i on are 0.
 pub fn rest_zero(ev: &[i32], i: usize) -> bool
-    requires { (length ev.now ≡ wordsOfEvent) × (i ≤ wordsOfEvent) }
-    ensures { result ≡ restZero ev.now i }
+    requires { (length ev.now ≡ words_of_event) × (i ≤ words_of_event) }
+    ensures { result ≡ rest_zero ev.now i }
 {
     let count = EVENT_WORDS - i;
     let mut k: usize = 0;
@@ -26,8 +26,8 @@ pub fn rest_zero(ev: &[i32], i: usize) -> bool
 
 // Whether word i is a bound element.
 fn bound_word(sheet: &[u8], directory: &Directory, ev: &[i32], i: usize) -> bool
-    requires { (directory.now ≡ directoryOf sheet.now) × (i < length ev.now) }
-    ensures { result ≡ boundWord sheet.now (word_of ev.now i) }
+    requires { (directory.now ≡ directory_of sheet.now) × (i < length ev.now) }
+    ensures { result ≡ bound_word sheet.now (word_of ev.now i) }
 {
     if !engine_valid_words::below_at(ev, i, engine_valid_values::components(sheet, directory)) {
         return false;
@@ -37,8 +37,8 @@ fn bound_word(sheet: &[u8], directory: &Directory, ev: &[i32], i: usize) -> bool
 
 // Kind 1, Outside: from an external component to a bound element.
 pub fn outside_formed(sheet: &[u8], directory: &Directory, ev: &[i32]) -> bool
-    requires { (directory.now ≡ directoryOf sheet.now) × (length ev.now ≡ wordsOfEvent) }
-    ensures { result ≡ wellFormed sheet.now ev.now kind.outside }
+    requires { (directory.now ≡ directory_of sheet.now) × (length ev.now ≡ words_of_event) }
+    ensures { result ≡ well_formed sheet.now ev.now kind.outside }
 {
     if !engine_valid_words::below_at(ev, 1, engine_valid_values::externals(sheet, directory)) {
         return false;
@@ -54,8 +54,8 @@ pub fn outside_formed(sheet: &[u8], directory: &Directory, ev: &[i32]) -> bool
 
 // Kind 2, Deliver: between components that are not both external.
 pub fn deliver_formed(sheet: &[u8], directory: &Directory, ev: &[i32]) -> bool
-    requires { (directory.now ≡ directoryOf sheet.now) × (length ev.now ≡ wordsOfEvent) }
-    ensures { result ≡ wellFormed sheet.now ev.now kind.deliver }
+    requires { (directory.now ≡ directory_of sheet.now) × (length ev.now ≡ words_of_event) }
+    ensures { result ≡ well_formed sheet.now ev.now kind.deliver }
 {
     let count = engine_valid_values::components(sheet, directory);
     if !engine_valid_words::below_at(ev, 1, count) {
@@ -72,8 +72,8 @@ pub fn deliver_formed(sheet: &[u8], directory: &Directory, ev: &[i32]) -> bool
 
 // Kind 3, Corrupt: to a bound element.
 pub fn corrupt_formed(sheet: &[u8], directory: &Directory, ev: &[i32]) -> bool
-    requires { (directory.now ≡ directoryOf sheet.now) × (length ev.now ≡ wordsOfEvent) }
-    ensures { result ≡ wellFormed sheet.now ev.now kind.corrupt }
+    requires { (directory.now ≡ directory_of sheet.now) × (length ev.now ≡ words_of_event) }
+    ensures { result ≡ well_formed sheet.now ev.now kind.corrupt }
 {
     if !engine_valid_words::below_at(ev, 1, engine_valid_values::components(sheet, directory)) {
         return false;
@@ -86,8 +86,8 @@ pub fn corrupt_formed(sheet: &[u8], directory: &Directory, ev: &[i32]) -> bool
 
 // Kind 4, Inner: of a component.
 pub fn inner_formed(sheet: &[u8], directory: &Directory, ev: &[i32]) -> bool
-    requires { (directory.now ≡ directoryOf sheet.now) × (length ev.now ≡ wordsOfEvent) }
-    ensures { result ≡ wellFormed sheet.now ev.now kind.inner }
+    requires { (directory.now ≡ directory_of sheet.now) × (length ev.now ≡ words_of_event) }
+    ensures { result ≡ well_formed sheet.now ev.now kind.inner }
 {
     if !engine_valid_words::zero_at(ev, 1) {
         return false;

@@ -1,6 +1,6 @@
 // Whether a state is of the sheet: each sentence of the paper's State paragraph as a test.
 ghost use Rattle.std.specs.Prelude.{◌≡◌, ◌≤◌, length};
-ghost use Rattle.machine.specs.Valid.{headFits, cellsFit, contentFits};
+ghost use Rattle.machine.specs.Valid.{head_fits, cells_fit, content_fits};
 ghost use Rattle.engine_cells.specs.Lent.{Lent};
 
 use engine_cells::CellLayout;
@@ -8,7 +8,7 @@ use sheet::{Directory, Found};
 
 fn head_fits(st: &[i32]) -> bool
     requires { 8 ≤ length st.now }
-    ensures { result ≡ headFits st.now }
+    ensures { result ≡ head_fits st.now }
 {
     if !engine_valid_words::below_at(st, 0, engine_store::PLACES + 1) {
         return false;
@@ -18,7 +18,7 @@ fn head_fits(st: &[i32]) -> bool
 
 fn cells_fit(sheet: &[u8], directory: &Directory, cells: &CellLayout, st: &[i32]) -> bool
     requires { Lent sheet.now directory.now cells.now st.now }
-    ensures { result ≡ cellsFit sheet.now st.now }
+    ensures { result ≡ cells_fit sheet.now st.now }
 {
     let from = engine_valid_values::externals(sheet, directory);
     let count = engine_cells::elements(sheet, directory);
@@ -39,7 +39,7 @@ fn cells_fit(sheet: &[u8], directory: &Directory, cells: &CellLayout, st: &[i32]
 // Whether all that the paper says of a state's content holds.
 pub fn content_fits(sheet: &[u8], directory: &Directory, cells: &CellLayout, st: &[i32]) -> bool
     requires { Lent sheet.now directory.now cells.now st.now }
-    ensures { result ≡ contentFits sheet.now st.now }
+    ensures { result ≡ content_fits sheet.now st.now }
 {
     if !head_fits(st) {
         return false;

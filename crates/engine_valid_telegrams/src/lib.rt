@@ -1,11 +1,11 @@
 // Whether a telegram may wait: its eight words are sender, receiver, port, name, four data.
 ghost use Rattle.std.specs.Prelude.{◌≡◌, true, ◌+◌, ◌≤◌, length, pos};
 ghost use Rattle.std.specs.Int.Signed.{le_z};
-ghost use Rattle.sheet.specs.Sheet.{directoryOf};
+ghost use Rattle.sheet.specs.Sheet.{directory_of};
 ghost use Rattle.sheet_rules.specs.declared.Checked.TheVariants.{Passed};
-ghost use Rattle.sheet_rules.specs.Check.{checkOf};
-ghost use Rattle.machine.specs.State.{word_of, telegramIn, isInternal};
-ghost use Rattle.machine.specs.Valid.{internalFits, externalFits, telegramFits};
+ghost use Rattle.sheet_rules.specs.Check.{check_of};
+ghost use Rattle.machine.specs.State.{word_of, telegram_in, is_internal};
+ghost use Rattle.machine.specs.Valid.{internal_fits, external_fits, telegram_fits};
 ghost use Rattle.engine_cells.specs.Cells.{CellTable};
 
 use engine_cells::CellLayout;
@@ -13,7 +13,7 @@ use sheet::{Directory, Found};
 
 pub fn is_internal(st: &[i32], at: usize) -> bool
     requires { at + 8 ≤ length st.now }
-    ensures { result ≡ isInternal (telegramIn st.now at) }
+    ensures { result ≡ is_internal (telegram_in st.now at) }
 {
     engine_valid_words::same(engine_valid_words::word(st, at + 2), -1)
 }
@@ -25,8 +25,8 @@ fn internal_fits(
     st: &[i32],
     at: usize,
 ) -> bool
-    requires { (directory.now ≡ directoryOf sheet.now) × (checkOf sheet.now ≡ Passed) × CellTable sheet.now cells.now × (at + 8 ≤ length st.now) × (le_z (pos 0) (word_of st.now (at + 1)) ≡ true) }
-    ensures { result ≡ internalFits sheet.now (telegramIn st.now at) }
+    requires { (directory.now ≡ directory_of sheet.now) × (check_of sheet.now ≡ Passed) × CellTable sheet.now cells.now × (at + 8 ≤ length st.now) × (le_z (pos 0) (word_of st.now (at + 1)) ≡ true) }
+    ensures { result ≡ internal_fits sheet.now (telegram_in st.now at) }
 {
     let sender = engine_valid_words::word(st, at);
     let receiver = engine_valid_words::word(st, at + 1);
@@ -52,8 +52,8 @@ fn internal_fits(
 }
 
 fn external_fits(sheet: &[u8], directory: &Directory, st: &[i32], at: usize) -> bool
-    requires { (directory.now ≡ directoryOf sheet.now) × (at + 8 ≤ length st.now) }
-    ensures { result ≡ externalFits sheet.now (telegramIn st.now at) }
+    requires { (directory.now ≡ directory_of sheet.now) × (at + 8 ≤ length st.now) }
+    ensures { result ≡ external_fits sheet.now (telegram_in st.now at) }
 {
     if engine_valid_values::both_external(sheet, directory, st, at) {
         return false;
@@ -71,8 +71,8 @@ pub fn telegram_fits(
     st: &[i32],
     at: usize,
 ) -> bool
-    requires { (directory.now ≡ directoryOf sheet.now) × (checkOf sheet.now ≡ Passed) × CellTable sheet.now cells.now × (at + 8 ≤ length st.now) }
-    ensures { result ≡ telegramFits sheet.now (telegramIn st.now at) }
+    requires { (directory.now ≡ directory_of sheet.now) × (check_of sheet.now ≡ Passed) × CellTable sheet.now cells.now × (at + 8 ≤ length st.now) }
+    ensures { result ≡ telegram_fits sheet.now (telegram_in st.now at) }
 {
     if !engine_valid_values::both_components(sheet, directory, st, at) {
         return false;

@@ -5,43 +5,43 @@ use mathlib.Core.List.{List}
 use mathlib.Core.Bool.{Bool, false}
 use native.Mathlib.Omega.{arith}
 use lib.IntN.{ℤ}
-use Rattle.sheet.specs.Table.{lookUp}
-use Rattle.sheet_rules.specs.Fields.{componentsOf, portsOf, members_of}
-use Rattle.sheet_rules.specs.DataTypes.{dataTypeOf}
-use Rattle.sheet_rules.proofs.DataTypes.{type-no-data, type-enumerated}
-use Rattle.machine.specs.Values.{fits32, isBelow, inDataType, inType}
+use Rattle.sheet.specs.Table.{look_up}
+use Rattle.sheet_rules.specs.Fields.{components_of, ports_of, members_of}
+use Rattle.sheet_rules.specs.DataTypes.{data_type_of}
+use Rattle.sheet_rules.proofs.DataTypes.{type_no_data, type_enumerated}
+use Rattle.machine.specs.Values.{fits32, is_below, in_data_type, in_type}
 
 -- ---- values
 
 module _ (s : List ℕ) (t : ℕ) (z : ℤ) where
-  pub of-bool : t ≡ 0 → isBelow z 2 ≡ inType s t z
-  unfolding inType inDataType dataTypeOf lookUp
-  of-bool e = sym (ap (λ t. inType s t z) e)
+  pub of_bool : t ≡ 0 → is_below z 2 ≡ in_type s t z
+  unfolding in_type in_data_type data_type_of look_up
+  of_bool e = sym (ap (λ t. in_type s t z) e)
 
-  pub of-int : t ≡ 1 → fits32 z ≡ inType s t z
-  unfolding inType inDataType dataTypeOf lookUp
-  of-int e = sym (ap (λ t. inType s t z) e)
+  pub of_int_lem : t ≡ 1 → fits32 z ≡ in_type s t z
+  unfolding in_type in_data_type data_type_of look_up
+  of_int_lem e = sym (ap (λ t. in_type s t z) e)
 
-  pub of-component : t ≡ 2 → isBelow z (componentsOf s) ≡ inType s t z
-  unfolding inType inDataType dataTypeOf lookUp
-  of-component e = sym (ap (λ t. inType s t z) e)
+  pub of_component : t ≡ 2 → is_below z (components_of s) ≡ in_type s t z
+  unfolding in_type in_data_type data_type_of look_up
+  of_component e = sym (ap (λ t. in_type s t z) e)
 
-  pub of-port : t ≡ 3 → isBelow z (portsOf s) ≡ inType s t z
-  unfolding inType inDataType dataTypeOf lookUp
-  of-port e = sym (ap (λ t. inType s t z) e)
+  pub of_port : t ≡ 3 → is_below z (ports_of s) ≡ in_type s t z
+  unfolding in_type in_data_type data_type_of look_up
+  of_port e = sym (ap (λ t. in_type s t z) e)
 
-  pub no_value : 4 ≤ t → t < 8 → false ≡ inType s t z
-  unfolding inType inDataType
-  no_value h k = sym (ap (λ d. inDataType s d z) (type-no-data t h k))
+  pub no_value : 4 ≤ t → t < 8 → false ≡ in_type s t z
+  unfolding in_type in_data_type
+  no_value h k = sym (ap (λ d. in_data_type s d z) (type_no_data t h k))
 
-  pub of-member : 8 ≤ t → isBelow z (members_of s (t - 8)) ≡ inType s t z
-  unfolding inType inDataType
-  of-member h = sym (ap (λ d. inDataType s d z) (type-enumerated t h))
+  pub of_member : 8 ≤ t → is_below z (members_of s (t - 8)) ≡ in_type s t z
+  unfolding in_type in_data_type
+  of_member h = sym (ap (λ d. in_data_type s d z) (type_enumerated t h))
 
-pub from-four : (t : ℕ) → (t ≡ 0 → ⊥) → (t ≡ 1 → ⊥) → (t ≡ 2 → ⊥) → (t ≡ 3 → ⊥) → 4 ≤ t
-from-four t a b c d = omega arith
+pub from_four : (t : ℕ) → (t ≡ 0 → ⊥) → (t ≡ 1 → ⊥) → (t ≡ 2 → ⊥) → (t ≡ 3 → ⊥) → 4 ≤ t
+from_four t a b c d = omega arith
 
 -- ---- words
 
-pub below-same : (z : ℤ) (n m : ℕ) (b : Bool) → b ≡ isBelow z n → n ≡ m → b ≡ isBelow z m
-below-same z n m b e p = e ∙ ap (isBelow z) p
+pub below_same : (z : ℤ) (n m : ℕ) (b : Bool) → b ≡ is_below z n → n ≡ m → b ≡ is_below z m
+below_same z n m b e p = e ∙ ap (is_below z) p

@@ -1,9 +1,9 @@
 // Values of the sheet's types, and which components are bound.
 ghost use Rattle.std.specs.Prelude.{◌≡◌, ◌+◌, ◌<◌, ◌≤◌, length};
-ghost use Rattle.sheet.specs.Sheet.{directoryOf};
+ghost use Rattle.sheet.specs.Sheet.{directory_of};
 ghost use Rattle.sheet.specs.All.{◌and◌};
-ghost use Rattle.sheet_rules.specs.Fields.{componentsOf, externalsOf, portsOf, members_of};
-ghost use Rattle.machine.specs.Values.{isBelow, inType, isBound};
+ghost use Rattle.sheet_rules.specs.Fields.{components_of, externals_of, ports_of, members_of};
+ghost use Rattle.machine.specs.Values.{is_below, in_type, is_bound};
 ghost use Rattle.machine.specs.State.{word_of};
 
 use sheet::{Directory, ENUMERATED_TYPES, HEAD};
@@ -11,29 +11,29 @@ use sheet::{Directory, ENUMERATED_TYPES, HEAD};
 // ---- numbers of the sheet
 
 pub fn components(sheet: &[u8], directory: &Directory) -> usize
-    requires { directory.now ≡ directoryOf sheet.now }
-    ensures { (result ≡ componentsOf sheet.now) × (result < 65536) }
+    requires { directory.now ≡ directory_of sheet.now }
+    ensures { (result ≡ components_of sheet.now) × (result < 65536) }
 {
     sheet_fields::field_at(sheet, directory, HEAD, 0, 0)
 }
 
 pub fn externals(sheet: &[u8], directory: &Directory) -> usize
-    requires { directory.now ≡ directoryOf sheet.now }
-    ensures { (result ≡ externalsOf sheet.now) × (result < 65536) }
+    requires { directory.now ≡ directory_of sheet.now }
+    ensures { (result ≡ externals_of sheet.now) × (result < 65536) }
 {
     sheet_fields::field_at(sheet, directory, HEAD, 0, 1)
 }
 
 pub fn ports(sheet: &[u8], directory: &Directory) -> usize
-    requires { directory.now ≡ directoryOf sheet.now }
-    ensures { (result ≡ portsOf sheet.now) × (result < 65536) }
+    requires { directory.now ≡ directory_of sheet.now }
+    ensures { (result ≡ ports_of sheet.now) × (result < 65536) }
 {
     sheet_fields::field_at(sheet, directory, HEAD, 0, 2)
 }
 
 // How many values enumerated type k has.
 fn members(sheet: &[u8], directory: &Directory, k: usize) -> usize
-    requires { directory.now ≡ directoryOf sheet.now }
+    requires { directory.now ≡ directory_of sheet.now }
     ensures { (result ≡ members_of sheet.now k) × (result < 65536) }
 {
     sheet_fields::field_at(sheet, directory, ENUMERATED_TYPES, k, 0)
@@ -42,8 +42,8 @@ fn members(sheet: &[u8], directory: &Directory, k: usize) -> usize
 // ---- which components are bound
 
 pub fn is_bound(sheet: &[u8], directory: &Directory, e: usize) -> bool
-    requires { directory.now ≡ directoryOf sheet.now }
-    ensures { result ≡ isBound sheet.now e }
+    requires { directory.now ≡ directory_of sheet.now }
+    ensures { result ≡ is_bound sheet.now e }
 {
     if e < externals(sheet, directory) {
         return false;
@@ -55,8 +55,8 @@ pub fn is_bound(sheet: &[u8], directory: &Directory, e: usize) -> bool
 
 // Whether a word is a member of enumerated type t - 8.
 fn is_member(sheet: &[u8], directory: &Directory, t: usize, z: i32) -> bool
-    requires { (directory.now ≡ directoryOf sheet.now) × (4 ≤ t) }
-    ensures { result ≡ inType sheet.now t z }
+    requires { (directory.now ≡ directory_of sheet.now) × (4 ≤ t) }
+    ensures { result ≡ in_type sheet.now t z }
 {
     if t < 8 {
         return false;
@@ -66,8 +66,8 @@ fn is_member(sheet: &[u8], directory: &Directory, t: usize, z: i32) -> bool
 
 // Whether a word is a value of type t. Every word is an Int.
 fn in_type(sheet: &[u8], directory: &Directory, t: usize, z: i32) -> bool
-    requires { directory.now ≡ directoryOf sheet.now }
-    ensures { result ≡ inType sheet.now t z }
+    requires { directory.now ≡ directory_of sheet.now }
+    ensures { result ≡ in_type sheet.now t z }
 {
     match t {
         0 => engine_valid_words::is_below(z, 2),
@@ -79,8 +79,8 @@ fn in_type(sheet: &[u8], directory: &Directory, t: usize, z: i32) -> bool
 }
 
 pub fn value_at(sheet: &[u8], directory: &Directory, t: usize, st: &[i32], i: usize) -> bool
-    requires { (directory.now ≡ directoryOf sheet.now) × (i < length st.now) }
-    ensures { result ≡ inType sheet.now t (word_of st.now i) }
+    requires { (directory.now ≡ directory_of sheet.now) × (i < length st.now) }
+    ensures { result ≡ in_type sheet.now t (word_of st.now i) }
 {
     in_type(sheet, directory, t, engine_valid_words::word(st, i))
 }
@@ -89,8 +89,8 @@ pub fn value_at(sheet: &[u8], directory: &Directory, t: usize, st: &[i32], i: us
 
 // Whether the words at `at` and after it are two external components.
 pub fn both_external(sheet: &[u8], directory: &Directory, st: &[i32], at: usize) -> bool
-    requires { (directory.now ≡ directoryOf sheet.now) × (at + 2 ≤ length st.now) }
-    ensures { result ≡ isBelow (word_of st.now at) (externalsOf sheet.now) and isBelow (word_of st.now (at + 1)) (externalsOf sheet.now) }
+    requires { (directory.now ≡ directory_of sheet.now) × (at + 2 ≤ length st.now) }
+    ensures { result ≡ is_below (word_of st.now at) (externals_of sheet.now) and is_below (word_of st.now (at + 1)) (externals_of sheet.now) }
 {
     let count = externals(sheet, directory);
     if !engine_valid_words::below_at(st, at, count) {
@@ -101,8 +101,8 @@ pub fn both_external(sheet: &[u8], directory: &Directory, st: &[i32], at: usize)
 
 // Whether the two words from `at` on are components.
 pub fn both_components(sheet: &[u8], directory: &Directory, st: &[i32], at: usize) -> bool
-    requires { (directory.now ≡ directoryOf sheet.now) × (at + 2 ≤ length st.now) }
-    ensures { result ≡ isBelow (word_of st.now at) (componentsOf sheet.now) and isBelow (word_of st.now (at + 1)) (componentsOf sheet.now) }
+    requires { (directory.now ≡ directory_of sheet.now) × (at + 2 ≤ length st.now) }
+    ensures { result ≡ is_below (word_of st.now at) (components_of sheet.now) and is_below (word_of st.now (at + 1)) (components_of sheet.now) }
 {
     let count = components(sheet, directory);
     if !engine_valid_words::below_at(st, at, count) {

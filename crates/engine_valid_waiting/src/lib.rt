@@ -1,7 +1,7 @@
 // Whether the places of a state fit: the telegrams that wait, and zeros in the unused ones.
 ghost use Rattle.std.specs.Prelude.{◌≡◌, List, ℕ, length};
-ghost use Rattle.machine.specs.State.{stateLength};
-ghost use Rattle.machine.specs.Valid.{waitingFit, unusedZero};
+ghost use Rattle.machine.specs.State.{state_length};
+ghost use Rattle.machine.specs.Valid.{waiting_fit, unused_zero};
 ghost use Rattle.engine_cells.specs.Lent.{Lent};
 ghost use Rattle.engine_valid_telegrams.specs.Waits.{Waits};
 
@@ -17,7 +17,7 @@ pub fn waiting_fit(
     n: usize,
 ) -> bool
     requires { Lent sheet.now directory.now cells.now st.now × Waits st.now n }
-    ensures { result ≡ waitingFit sheet.now st.now }
+    ensures { result ≡ waiting_fit sheet.now st.now }
 {
     let mut j: usize = 0;
     while j < n {
@@ -33,7 +33,7 @@ pub fn waiting_fit(
 // The places behind n telegrams.
 pub fn unused_zero(st: &[i32], n: usize) -> bool
     requires { Waits st.now n }
-    ensures { (s : List ℕ) → length st.now ≡ stateLength s → result ≡ unusedZero s st.now }
+    ensures { (s : List ℕ) → length st.now ≡ state_length s → result ≡ unused_zero s st.now }
 {
     let count = engine_store::PLACES - n;
     let mut k: usize = 0;

@@ -10,15 +10,15 @@ use mir.Syntax.{w32}
 use mir.Val.{SFits, to_z, of_z}
 use mir.Facts.{to_z-of_z}
 use borrow.Author.Tests.{ltb-true, lt-ltb, le-leb, ne_eqb}
-use Rattle.machine.specs.Values.{fits32, isBelow, is_zero}
+use Rattle.machine.specs.Values.{fits32, is_below, is_zero}
 
 -- what fits is read back from its bits
 pub back : {z : ℤ} → SFits w32 z → to_z w32 (of_z w32 z) ≡ z
 back h = to_z-of_z h
 
-pub fits-32 : {z : ℤ} → SFits w32 z → fits32 z ≡ true
+pub fits_32 : {z : ℤ} → SFits w32 z → fits32 z ≡ true
 unfolding fits32
-fits-32 {z} h = lt-ltb (mag z) 2147483648 h.sfits
+fits_32 {z} h = lt-ltb (mag z) 2147483648 h.sfits
 
 -- .. and so is a word that was read
 pub read_back : (z w : ℤ) → z ≡ w → fits32 z ≡ true → to_z w32 (of_z w32 z) ≡ w
@@ -40,18 +40,18 @@ pub not_negative : (z : ℤ) → le_z (pos 0) z ≡ true → T (non_neg z)
 not_negative (pos k) e = tt
 not_negative (negsuc k) e = absurd (true≢false (sym e))
 
-pub negative : (z : ℤ) (n : ℕ) → lt_z z (pos 0) ≡ true → false ≡ isBelow z n
-unfolding isBelow
+pub negative : (z : ℤ) (n : ℕ) → lt_z z (pos 0) ≡ true → false ≡ is_below z n
+unfolding is_below
 negative (pos k) n e = absurd (let l : k < 0 = ltb-true k 0 e in omega arith)
 negative (negsuc k) n e = refl
 
-pub below-number : (z : ℤ) (n : ℕ) → le_z (pos 0) z ≡ true → ltb (nat_abs z) n ≡ isBelow z n
-unfolding isBelow
+pub below-number : (z : ℤ) (n : ℕ) → le_z (pos 0) z ≡ true → ltb (nat_abs z) n ≡ is_below z n
+unfolding is_below
 below-number (pos k) n e = refl
 below-number (negsuc k) n e = absurd (true≢false (sym e))
 
 -- a number below another is one from 0 on
-pub below-from : (z : ℤ) (n : ℕ) → isBelow z n ≡ true → le_z (pos 0) z ≡ true
-unfolding isBelow
+pub below-from : (z : ℤ) (n : ℕ) → is_below z n ≡ true → le_z (pos 0) z ≡ true
+unfolding is_below
 below-from (pos k) n e = le-leb 0 k (omega arith)
 below-from (negsuc k) n e = absurd (true≢false (sym e))

@@ -1,7 +1,7 @@
 // Words of a state and of an event, and the tests that compare them.
 ghost use Rattle.std.specs.Prelude.{◌≡◌, true, ◌<◌, length, pos, nat_abs};
 ghost use Rattle.std.specs.Int.Signed.{le_z, lt_z};
-ghost use Rattle.machine.specs.Values.{fits32, isBelow, is_zero, sameWord};
+ghost use Rattle.machine.specs.Values.{fits32, is_below, is_zero, same_word};
 ghost use Rattle.machine.specs.State.{word_of};
 
 // A word: a number of 32 bits, like every one that the machine holds.
@@ -25,7 +25,7 @@ pub fn less(a: i32, b: i32) -> bool
 }
 
 pub fn same(a: i32, b: i32) -> bool
-    ensures { result ≡ sameWord a b }
+    ensures { result ≡ same_word a b }
 {
     a == b
 }
@@ -45,7 +45,7 @@ pub fn number(z: i32) -> usize
 }
 
 pub fn is_below(z: i32, n: usize) -> bool
-    ensures { result ≡ isBelow z n }
+    ensures { result ≡ is_below z n }
 {
     if z < 0 {
         return false;
@@ -64,7 +64,7 @@ pub fn zero_at(st: &[i32], i: usize) -> bool
 
 pub fn below_at(st: &[i32], i: usize, n: usize) -> bool
     requires { i < length st.now }
-    ensures { result ≡ isBelow (word_of st.now i) n }
+    ensures { result ≡ is_below (word_of st.now i) n }
 {
     is_below(word(st, i), n)
 }

@@ -11,7 +11,7 @@ use mir.Syntax.{w32, w64}
 use mir.Val.{SFits, of_z, to_z}
 use mir.ValLaws.{to_z-of_z, to_z_pos, to_z-Fits}
 use borrow.Author.Tests.{lt-ltb, le-ltb}
-use Rattle.engine_words.specs.Words.{signedAt, wordsAt}
+use Rattle.engine_words.specs.Words.{signed_at, words_at}
 
 module _ (n : ℕ) (h : 2147483648 ≤ n) (k : n < 4294967296) where
   less : pos n -ℤ pos 4294967296 ≡ to_z w32 n
@@ -32,13 +32,13 @@ module _ (n : ℕ) (h : 2147483648 ≤ n) (k : n < 4294967296) where
   pub high_word : to_z w64 (of_z w64 (to_z w64 n -ℤ pos 4294967296)) ≡ to_z w32 n
   high_word = rw (plain, less) (to_z-of_z w64 (to_z w32 n) wide)
 
-  pub high-narrow : SFits w32 (to_z w64 (of_z w64 (to_z w64 n -ℤ pos 4294967296)))
-  high-narrow = rw high_word fits
+  pub high_narrow : SFits w32 (to_z w64 (of_z w64 (to_z w64 n -ℤ pos 4294967296)))
+  high_narrow = rw high_word fits
 
-  pub high-back : to_z w32 (of_z w32 (to_z w64 (of_z w64 (to_z w64 n -ℤ pos 4294967296)))) ≡ to_z w32 n
-  high-back = rw high_word (to_z-of_z w32 (to_z w32 n) fits)
+  pub high_back : to_z w32 (of_z w32 (to_z w64 (of_z w64 (to_z w64 n -ℤ pos 4294967296)))) ≡ to_z w32 n
+  high_back = rw high_word (to_z-of_z w32 (to_z w32 n) fits)
 
 -- one word more
-pub words_more : (b : List ℕ) (at : ℕ) (out : List ℤ) (i : ℕ) (z : ℤ) → i < length out → take i out ≡ wordsAt b at i → z ≡ signedAt b (at + 4 * i) → take (i + 1) (set out i z) ≡ wordsAt b at (i + 1)
-unfolding wordsAt
-words_more b at out i z l e q = rw (add-one i) (take-suc-set out i z l ∙ ap (λ t. t ++ (z ∷ [])) e ∙ ap (λ w. wordsAt b at i ++ (w ∷ [])) q)
+pub words_more : (b : List ℕ) (at : ℕ) (out : List ℤ) (i : ℕ) (z : ℤ) → i < length out → take i out ≡ words_at b at i → z ≡ signed_at b (at + 4 * i) → take (i + 1) (set out i z) ≡ words_at b at (i + 1)
+unfolding words_at
+words_more b at out i z l e q = rw (add-one i) (take-suc-set out i z l ∙ ap (λ t. t ++ (z ∷ [])) e ∙ ap (λ w. words_at b at i ++ (w ∷ [])) q)

@@ -7,10 +7,10 @@ unfoldable pub number_at : List ℕ → ℕ → ℕ
 number_at b at = get_or b at 0 + 256 * get_or b (at + 1) 0 + 65536 * get_or b (at + 2) 0 + 16777216 * get_or b (at + 3) 0
 
 -- the same as a signed number, in two's complement
-unfoldable pub signedAt : List ℕ → ℕ → ℤ
-signedAt b at = to_z w32 (number_at b at)
+unfoldable pub signed_at : List ℕ → ℕ → ℤ
+signed_at b at = to_z w32 (number_at b at)
 
 -- k words side by side
-unfoldable pub wordsAt : List ℕ → ℕ → ℕ → List ℤ
-wordsAt b at zero = []
-wordsAt b at (suc k) = wordsAt b at k ++ (signedAt b (at + 4 * k) ∷ [])
+unfoldable pub words_at : List ℕ → ℕ → ℕ → List ℤ
+words_at b at zero = []
+words_at b at (suc k) = words_at b at k ++ (signed_at b (at + 4 * k) ∷ [])

@@ -2,7 +2,7 @@
 ghost use Rattle.std.specs.Prelude.{◌+◌, ◌*◌, ◌<◌, ◌≤◌, ◌≡◌, length};
 ghost use Rattle.std.specs.Int.{w32};
 ghost use Rattle.std.proofs.Common.{to_z};
-ghost use Rattle.engine_words.specs.Words.{number_at, signedAt, wordsAt};
+ghost use Rattle.engine_words.specs.Words.{number_at, signed_at, words_at};
 
 fn join(a: u8, b: u8, c: u8, d: u8) -> u32
     ensures { (result ≡ a + 256 * b + 65536 * c + 16777216 * d) × (result < 4294967296) }
@@ -30,7 +30,7 @@ pub fn signed(n: u32) -> i32
 
 fn word(bytes: &[u8], at: usize) -> i32
     requires { at + 4 ≤ length bytes.now }
-    ensures { result ≡ signedAt bytes.now at }
+    ensures { result ≡ signed_at bytes.now at }
 {
     signed(number(bytes, at))
 }
@@ -38,7 +38,7 @@ fn word(bytes: &[u8], at: usize) -> i32
 // As many words as there is room for, from `at` on.
 pub fn words(bytes: &[u8], at: usize, out: &mut [i32])
     requires { at + 4 * length out.old ≤ length bytes.now }
-    ensures { out.new ≡ wordsAt bytes.now at (length out.old) }
+    ensures { out.new ≡ words_at bytes.now at (length out.old) }
 {
     let mut i = 0;
     while i < out.len() {

@@ -14,9 +14,9 @@ abbrev nodes : List ℕ → List (List ℕ)
 nodes ns = headless [] [] [] ns []
 
 -- "a value .. lies outside its type": a Bool of 2
-bool-two : gives (nodes (rec3 1 2 0)) (in_body 0 0 0 0) [] 0 1 ≡ Stuck
+bool_two : gives (nodes (rec3 1 2 0)) (in_body 0 0 0 0) [] 0 1 ≡ Stuck
 unfolding gives
-bool-two = refl
+bool_two = refl
 
 -- not of itself, until the step limit
 not_itself : gives (nodes (rec3 8 0 0)) (in_body 0 0 0 0) [] 0 20 ≡ Refused 10 0
@@ -26,23 +26,23 @@ not_itself = refl
 -- ---- variables
 
 -- 7 read of a chart's variable that isn't declared; of an array, which "operators 7 and 33 don't take"
-read-absent : gives (nodes (rec3 7 1 0)) (in_body 0 1 0 0) [] 0 1 ≡ Stuck
+read_absent : gives (nodes (rec3 7 1 0)) (in_body 0 1 0 0) [] 0 1 ≡ Stuck
 unfolding gives
-read-absent = refl
+read_absent = refl
 
-read-array : gives (headless (rec3 1 60003 0) [] [] (rec3 7 1 0) []) (in_body 0 1 0 0) [] 0 1 ≡ Stuck
+read_array : gives (headless (rec3 1 60003 0) [] [] (rec3 7 1 0) []) (in_body 0 1 0 0) [] 0 1 ≡ Stuck
 unfolding gives
-read-array = refl
+read_array = refl
 
 -- "Parameters and locals together at most 16": of a local behind 16 parameters
-read-seventeenth : gives (headless (rec3 1 0 0) [] [] (rec3 7 2 16) []) (in_body 0 0 16 1) [] 0 1 ≡ Stuck
+read_seventeenth : gives (headless (rec3 1 0 0) [] [] (rec3 7 2 16) []) (in_body 0 0 16 1) [] 0 1 ≡ Stuck
 unfolding gives
-read-seventeenth = refl
+read_seventeenth = refl
 
 -- 18 "its value, 0 when stopped", whatever the word there is
-value-stopped : gives (headless (rec3 4 0 0) [] [] (rec3 18 0 0) []) (in_body 0 1 0 0) (replicate 9 (pos 0) ++ pos 5 ∷ []) 0 1 ≡ int (pos 0) 0
+value_stopped : gives (headless (rec3 4 0 0) [] [] (rec3 18 0 0) []) (in_body 0 1 0 0) (replicate 9 (pos 0) ++ pos 5 ∷ []) 0 1 ≡ int (pos 0) 0
 unfolding gives int
-value-stopped = refl
+value_stopped = refl
 
 -- ---- chart parameters: "the first as today, the second with f0 = 65,535 and the eighth parameter onward in f1 to f7"
 
@@ -71,16 +71,16 @@ element : List ℕ → Out
 unfolding gives
 element index = gives (headless (rec3 1 60003 0) [] [] (index ++ rec3 19 0 0) []) (in_body 0 1 0 0) (replicate 8 (pos 0) ++ (pos 5 ∷ replicate 7 (pos 0)) ++ pos 7 ∷ []) 1 2
 
-second-element : element (rec3 2 1 0) ≡ int (pos 7) 0
+second_element : element (rec3 2 1 0) ≡ int (pos 7) 0
 unfolding element int
-second-element = refl
+second_element = refl
 
 -- "11, index outside its number"
-one-too-far : element (rec3 2 3 0) ≡ Refused 11 0
+one_too_far : element (rec3 2 3 0) ≡ Refused 11 0
 unfolding element
-one-too-far = refl
+one_too_far = refl
 
 -- "with an index of the array's index type (Int for a number)": not true
-bool-index : element (rec3 1 1 0) ≡ Stuck
+bool_index : element (rec3 1 1 0) ≡ Stuck
 unfolding element
-bool-index = refl
+bool_index = refl

@@ -1,14 +1,14 @@
 -- The kinds of event, by an event's first word.
 use Rattle.std.specs.Prelude.{List, [], ◌∷◌, ℤ, pos, negsuc}
-use Rattle.sheet.specs.Table.{Line, up_to, lookUp}
+use Rattle.sheet.specs.Table.{Line, up_to, look_up}
 
 pub data Kind : Type 0 where
   outside deliver corrupt inner slice : Kind
-  noKind : Kind
+  no_kind_lem : Kind
 
-abbrev pub kindTable : List (Line Kind)
-kindTable =
-    up_to 0 noKind
+abbrev pub kind_table : List (Line Kind)
+kind_table =
+    up_to 0 no_kind_lem
     ∷ up_to 1 outside
     ∷ up_to 2 deliver
     ∷ up_to 3 corrupt
@@ -18,5 +18,5 @@ kindTable =
 
 -- "its kind isn't 1 to 5": none
 unfoldable pub kind_of : ℤ → Kind
-kind_of (pos n) = lookUp kindTable noKind n
-kind_of (negsuc n) = noKind
+kind_of (pos n) = look_up kind_table no_kind_lem n
+kind_of (negsuc n) = no_kind_lem

@@ -6,22 +6,22 @@ use Rattle.sheet.specs.declared.Found.{Found}
 use Rattle.sheet.specs.declared.Found.TheVariants.{Present, Absent}
 use Rattle.sheet.specs.All.{◌and◌, all_below}
 use Rattle.sheet.specs.Names
-use Rattle.sheet.specs.Names.{names, nodes, data_of, bodyParameters, bodyLocals, root, operator, Bool-type, Int-type, Component-type, Port-type, Timer-type, Timeout-type, isClock}
-use Rattle.sheet.specs.Sheet.{recordOf}
+use Rattle.sheet.specs.Names.{names, nodes, data_of, body_parameters, body_locals, root, operator, bool_type, int_type, component_type, port_type, timer_type, timeout_type, is_clock}
+use Rattle.sheet.specs.Sheet.{record_of}
 use Rattle.machine.specs.declared.Value.{Value}
 use Rattle.machine.specs.declared.Out.{Out}
 use Rattle.machine.specs.declared.Out.TheVariants as out
 use Rattle.machine.specs.declared.Ran.{Ran}
 use Rattle.machine.specs.declared.Ran.TheVariants.{Done, Refused, Stuck}
 use Rattle.machine.specs.declared.Telegram.{Telegram}
-use Rattle.sheet_rules.specs.Fields.{isField, field_of, declaredSo, type_at}
-use Rattle.sheet_rules.specs.Forms.{Form, literal, read, unary, binary, clock, readElement, skip, assign, externalSend, internalSend, arm, clockAct, call, choice, loop, sequence, assignElement, unknown, form_of, calledBody}
+use Rattle.sheet_rules.specs.Fields.{is_field, field_of, declared_so, type_at}
+use Rattle.sheet_rules.specs.Forms.{Form, literal, read, unary, binary, clock, read_element, skip, assign, external_send, internal_send, arm, clock_act, call, choice, loop, sequence, assign_element, unknown, form_of, called_body}
 use Rattle.sheet_rules.specs.Indices.{index_at, is_plain}
-use Rattle.sheet_rules.specs.Shape.{variablesAt}
-use Rattle.sheet_rules.specs.Types.{variableAt, chartVariableIndex, clockOf}
-use Rattle.machine.specs.Values.{is_zero, defaultOf, hasDefault}
-use Rattle.machine.specs.State.{on, off, lost, putWords, appended}
-use Rattle.machine.specs.Eval.{Context, isVariable, isPlainVariable, bodyWords, variableAtCell, Reached, inside, outOfRange, unfit, reached, evalOf}
+use Rattle.sheet_rules.specs.Shape.{variables_at}
+use Rattle.sheet_rules.specs.Types.{variable_at, chart_variable_index, clock_of}
+use Rattle.machine.specs.Values.{is_zero, default_of, has_default}
+use Rattle.machine.specs.State.{on, off, lost, put_words, appended}
+use Rattle.machine.specs.Eval.{Context, is_variable, is_plain_variable, body_words, variable_at_cell, Reached, inside, out_of_range, unfit, reached, eval_of}
 
 -- how a statement ended, and the state and the body's variables then
 pub record World : Type 0 where
@@ -34,23 +34,23 @@ world r st lo = record { ran = r; st = st; lo = lo }
 
 -- ---- how parts follow each other
 
-unfoldable pub goOn : Ran → List ℤ → List ℤ → (ℕ → List ℤ → List ℤ → World) → World
-goOn (Done l) st lo K = K l st lo
-goOn (Refused n l) st lo K = world (Refused n l) st lo
-goOn Stuck st lo K = world Stuck st lo
+unfoldable pub go_on : Ran → List ℤ → List ℤ → (ℕ → List ℤ → List ℤ → World) → World
+go_on (Done l) st lo K = K l st lo
+go_on (Refused n l) st lo K = world (Refused n l) st lo
+go_on Stuck st lo K = world Stuck st lo
 
-abbrev pub thenRun : World → (ℕ → List ℤ → List ℤ → World) → World
-thenRun w K = goOn w.ran w.st w.lo K
+abbrev pub then_run : World → (ℕ → List ℤ → List ℤ → World) → World
+then_run w K = go_on w.ran w.st w.lo K
 
 -- a value goes on; a refusal and stuck end the statement
-unfoldable pub thenOperand : Out → List ℤ → List ℤ → (Value → ℕ → World) → World
-thenOperand (out.Val v l) st lo K = K v l
-thenOperand (out.Refused n l) st lo K = world (Refused n l) st lo
-thenOperand out.Stuck st lo K = world Stuck st lo
+unfoldable pub then_operand : Out → List ℤ → List ℤ → (Value → ℕ → World) → World
+then_operand (out.Val v l) st lo K = K v l
+then_operand (out.Refused n l) st lo K = world (Refused n l) st lo
+then_operand out.Stuck st lo K = world Stuck st lo
 
-unfoldable pub withRecord : Found → List ℤ → List ℤ → (Record → World) → World
-withRecord (Present r) st lo K = K r
-withRecord Absent st lo K = world Stuck st lo
+unfoldable pub with_record : Found → List ℤ → List ℤ → (Record → World) → World
+with_record (Present r) st lo K = K r
+with_record Absent st lo K = world Stuck st lo
 
 unfoldable pub provided : Bool → List ℤ → List ℤ → World → World
 provided true st lo w = w
@@ -69,25 +69,25 @@ before v (given vs l) = given (v ∷ vs) l
 before v (refused n l) = refused n l
 before v stuck = stuck
 
-unfoldable pub nextValue : Out → (ℕ → Values) → Values
-nextValue (out.Val v l) K = before v (K l)
-nextValue (out.Refused n l) K = refused n l
-nextValue out.Stuck K = stuck
+unfoldable pub next_value : Out → (ℕ → Values) → Values
+next_value (out.Val v l) K = before v (K l)
+next_value (out.Refused n l) K = refused n l
+next_value out.Stuck K = stuck
 
 -- n data of a node from number j on; they stand in the fields from f4 on
-unfoldable pub valuesFrom : (ℕ → ℕ → Out) → Record → ℕ → ℕ → ℕ → Values
-valuesFrom f r zero j l = given [] l
-valuesFrom f r (suc n) j l = elim (isField (4 + j)) [ true ↦ nextValue (f (field_of r (4 + j)) l) (λ l. valuesFrom f r n (suc j) l) | false ↦ stuck ]
+unfoldable pub values_from : (ℕ → ℕ → Out) → Record → ℕ → ℕ → ℕ → Values
+values_from f r zero j l = given [] l
+values_from f r (suc n) j l = elim (is_field (4 + j)) [ true ↦ next_value (f (field_of r (4 + j)) l) (λ l. values_from f r n (suc j) l) | false ↦ stuck ]
 
-unfoldable pub thenValues : Values → List ℤ → List ℤ → (List Value → ℕ → World) → World
-thenValues (given vs l) st lo K = K vs l
-thenValues (refused n l) st lo K = world (Refused n l) st lo
-thenValues stuck st lo K = world Stuck st lo
+unfoldable pub then_values : Values → List ℤ → List ℤ → (List Value → ℕ → World) → World
+then_values (given vs l) st lo K = K vs l
+then_values (refused n l) st lo K = world (Refused n l) st lo
+then_values stuck st lo K = world Stuck st lo
 
 -- the values are of the types of the declarations from number d on
-unfoldable pub areOf : List ℕ → ℕ → List Value → Bool
-areOf s d [] = true
-areOf s d (v ∷ vs) = declaredSo s d (eqb v.kind) and areOf s (suc d) vs
+unfoldable pub are_of : List ℕ → ℕ → List Value → Bool
+are_of s d [] = true
+are_of s d (v ∷ vs) = declared_so s d (eqb v.kind) and are_of s (suc d) vs
 
 unfoldable pub words_in : List Value → List ℤ
 words_in [] = []
@@ -103,9 +103,9 @@ telegram sender receiver port name zs = record { sender = sender; receiver = rec
 
 unfoldable pub local_at : List ℕ → Record → List ℤ → ℕ → ℤ
 local_at s b zs i =
-    elim (ltb i (bodyParameters b).count) [
+    elim (ltb i (body_parameters b).count) [
       | true ↦ datum zs i
-      | false ↦ elim (ltb i ((bodyParameters b).count + (bodyLocals b).count)) [ true ↦ defaultOf s (type_at s ((bodyLocals b).first + (i - (bodyParameters b).count))) | false ↦ pos 0 ]
+      | false ↦ elim (ltb i ((body_parameters b).count + (body_locals b).count)) [ true ↦ default_of s (type_at s ((body_locals b).first + (i - (body_parameters b).count))) | false ↦ pos 0 ]
     ]
 
 unfoldable pub list_from : ℕ → ℕ → (ℕ → ℤ) → List ℤ
@@ -113,10 +113,10 @@ list_from zero i f = []
 list_from (suc n) i f = f i ∷ list_from n (suc i) f
 
 unfoldable pub locals_of : List ℕ → Record → List ℤ → List ℤ
-locals_of s b zs = list_from bodyWords 0 (local_at s b zs)
+locals_of s b zs = list_from body_words 0 (local_at s b zs)
 
-unfoldable pub localsThere : List ℕ → Record → Bool
-localsThere s b = all_below (bodyLocals b).count (λ j. hasDefault s ((bodyLocals b).first + j))
+unfoldable pub locals_there : List ℕ → Record → Bool
+locals_there s b = all_below (body_locals b).count (λ j. has_default s ((body_locals b).first + j))
 
 -- ---- acts
 
@@ -128,17 +128,17 @@ append s t l st lo = elim (appended s st t) [ on st' ↦ world (Done l) st' lo |
 unfoldable pub armed : ℕ → ℕ → ℤ → ℕ → List ℤ → ℕ → List ℤ → List ℤ → World
 armed cell t period name zs l st lo =
     elim (le_z (pos 1) period) [
-      | true ↦ world (Done l) (putWords st cell (pos 1 ∷ elim (eqb t Timeout-type) [ true ↦ period | false ↦ pos 0 ] ∷ period ∷ pos name ∷ datum zs 0 ∷ datum zs 1 ∷ datum zs 2 ∷ datum zs 3 ∷ [])) lo
+      | true ↦ world (Done l) (put_words st cell (pos 1 ∷ elim (eqb t timeout_type) [ true ↦ period | false ↦ pos 0 ] ∷ period ∷ pos name ∷ datum zs 0 ∷ datum zs 1 ∷ datum zs 2 ∷ datum zs 3 ∷ [])) lo
       | false ↦ world (Refused 7 l) st lo
     ]
 
 -- "starting a Timer sets 0"; a stopped clock is all zero
-unfoldable pub clockSet : ℕ → ℤ → ℕ → List ℤ → List ℤ → World
-clockSet cell running l st lo = world (Done l) (putWords st cell (running ∷ replicate 7 (pos 0))) lo
+unfoldable pub clock_set : ℕ → ℤ → ℕ → List ℤ → List ℤ → World
+clock_set cell running l st lo = world (Done l) (put_words st cell (running ∷ replicate 7 (pos 0))) lo
 
 -- "up to 16 calls may be open"
-abbrev pub openCalls : ℕ
-openCalls = 16
+abbrev pub open_calls : ℕ
+open_calls = 16
 
 -- open calls, the context, node, steps left, state, body's variables
 abbrev pub Runs : Type 0
@@ -154,125 +154,125 @@ in_body x b = record { element = x.element; chart = x.chart; binding = x.binding
 module _ (s : List ℕ) (x : Context) where
   unfoldable pub assigned : ℕ → ℕ → ℤ → ℕ → List ℤ → List ℤ → World
   assigned place n z l st lo =
-      elim (eqb place Names.chartVariable) [
-        | true ↦ world (Done l) (set st (variableAtCell s x n 0) z) lo
-        | false ↦ elim (eqb place Names.bodyVariable) [ true ↦ world (Done l) st (set lo n z) | false ↦ world Stuck st lo ]
+      elim (eqb place Names.chart_variable) [
+        | true ↦ world (Done l) (set st (variable_at_cell s x n 0) z) lo
+        | false ↦ elim (eqb place Names.body_variable) [ true ↦ world (Done l) st (set lo n z) | false ↦ world Stuck st lo ]
       ]
 
   -- the body has plain variable n of a place, and it is of type t
-  unfoldable pub hasVariable : ℕ → ℕ → ℕ → Bool
-  hasVariable place n t =
-      ltb n (variablesAt x.chart x.body place)
-      and elim (eqb place Names.bodyVariable) [ true ↦ ltb n bodyWords | false ↦ true ]
-      and declaredSo s (variableAt x.chart x.body place n) (eqb t)
-      and is_plain (index_at s (variableAt x.chart x.body place n))
+  unfoldable pub has_variable : ℕ → ℕ → ℕ → Bool
+  has_variable place n t =
+      ltb n (variables_at x.chart x.body place)
+      and elim (eqb place Names.body_variable) [ true ↦ ltb n body_words | false ↦ true ]
+      and declared_so s (variable_at x.chart x.body place n) (eqb t)
+      and is_plain (index_at s (variable_at x.chart x.body place n))
 
-  unfoldable pub assignOf : Record → ℕ → List ℤ → List ℤ → World
-  assignOf r l st lo =
-      thenOperand (evalOf s x st lo r.f3 l) st lo (λ v l.
-      provided (hasVariable r.f1 r.f2 v.kind) st lo
+  unfoldable pub assign_of : Record → ℕ → List ℤ → List ℤ → World
+  assign_of r l st lo =
+      then_operand (eval_of s x st lo r.f3 l) st lo (λ v l.
+      provided (has_variable r.f1 r.f2 v.kind) st lo
       (assigned r.f1 r.f2 v.word l st lo))
 
   -- a value to a variable, where an index leads
-  unfoldable pub elementAssigned : ℕ → Reached → ℤ → ℕ → List ℤ → List ℤ → World
-  elementAssigned n (inside k) z l st lo = world (Done l) (set st (variableAtCell s x n k) z) lo
-  elementAssigned n outOfRange z l st lo = world (Refused 11 l) st lo
-  elementAssigned n unfit z l st lo = world Stuck st lo
+  unfoldable pub element_assigned : ℕ → Reached → ℤ → ℕ → List ℤ → List ℤ → World
+  element_assigned n (inside k) z l st lo = world (Done l) (set st (variable_at_cell s x n k) z) lo
+  element_assigned n out_of_range z l st lo = world (Refused 11 l) st lo
+  element_assigned n unfit z l st lo = world Stuck st lo
 
   -- "assign (44: f1 variable, f2 index, f3 value) an element"
-  unfoldable pub assignElementOf : Record → ℕ → List ℤ → List ℤ → World
-  assignElementOf r l st lo =
-      thenOperand (evalOf s x st lo r.f2 l) st lo (λ i l.
-      thenOperand (evalOf s x st lo r.f3 l) st lo (λ value l.
-      provided (isVariable s x r.f1 (eqb value.kind)) st lo
-      (elementAssigned r.f1 (reached (chartVariableIndex s x.chart r.f1) i) value.word l st lo)))
+  unfoldable pub assign_element_of : Record → ℕ → List ℤ → List ℤ → World
+  assign_element_of r l st lo =
+      then_operand (eval_of s x st lo r.f2 l) st lo (λ i l.
+      then_operand (eval_of s x st lo r.f3 l) st lo (λ value l.
+      provided (is_variable s x r.f1 (eqb value.kind)) st lo
+      (element_assigned r.f1 (reached (chart_variable_index s x.chart r.f1) i) value.word l st lo)))
 
   -- the data that a node hands to a name: as many as the name has
-  unfoldable pub nameValues : Record → Record → ℕ → List ℤ → List ℤ → Values
-  nameValues n r l st lo = valuesFrom (evalOf s x st lo) r (data_of n).count 0 l
+  unfoldable pub name_values : Record → Record → ℕ → List ℤ → List ℤ → Values
+  name_values n r l st lo = values_from (eval_of s x st lo) r (data_of n).count 0 l
 
-  unfoldable pub externalSendOf : Record → ℕ → List ℤ → List ℤ → World
-  externalSendOf r l st lo =
-      thenOperand (evalOf s x st lo r.f1 l) st lo (λ receiver l.
-      thenOperand (evalOf s x st lo r.f2 l) st lo (λ port l.
-      withRecord (recordOf s names r.f3) st lo (λ n.
-      thenValues (nameValues n r l st lo) st lo (λ vs l.
-      provided (eqb receiver.kind Component-type and eqb port.kind Port-type and areOf s (data_of n).first vs) st lo
+  unfoldable pub external_send_of : Record → ℕ → List ℤ → List ℤ → World
+  external_send_of r l st lo =
+      then_operand (eval_of s x st lo r.f1 l) st lo (λ receiver l.
+      then_operand (eval_of s x st lo r.f2 l) st lo (λ port l.
+      with_record (record_of s names r.f3) st lo (λ n.
+      then_values (name_values n r l st lo) st lo (λ vs l.
+      provided (eqb receiver.kind component_type and eqb port.kind port_type and are_of s (data_of n).first vs) st lo
       (append s (telegram (pos x.element) receiver.word port.word r.f3 (words_in vs)) l st lo)))))
 
-  unfoldable pub internalSendOf : Record → ℕ → List ℤ → List ℤ → World
-  internalSendOf r l st lo =
-      withRecord (recordOf s names r.f3) st lo (λ n.
-      thenValues (nameValues n r l st lo) st lo (λ vs l.
-      provided (areOf s (data_of n).first vs) st lo
+  unfoldable pub internal_send_of : Record → ℕ → List ℤ → List ℤ → World
+  internal_send_of r l st lo =
+      with_record (record_of s names r.f3) st lo (λ n.
+      then_values (name_values n r l st lo) st lo (λ vs l.
+      provided (are_of s (data_of n).first vs) st lo
       (append s (telegram (pos x.element) (pos x.element) (negsuc 0) r.f3 (words_in vs)) l st lo)))
 
   -- 36 arms a Timeout, 37 a Cycler
-  unfoldable pub armOf : Record → ℕ → List ℤ → List ℤ → World
-  armOf r l st lo =
-      thenOperand (evalOf s x st lo r.f2 l) st lo (λ period l.
-      withRecord (recordOf s names r.f3) st lo (λ n.
-      thenValues (nameValues n r l st lo) st lo (λ vs l.
-      provided (isPlainVariable s x r.f1 (eqb (clockOf (operator r))) and eqb period.kind Int-type and areOf s (data_of n).first vs) st lo
-      (armed (variableAtCell s x r.f1 0) (clockOf (operator r)) period.word r.f3 (words_in vs) l st lo))))
+  unfoldable pub arm_of : Record → ℕ → List ℤ → List ℤ → World
+  arm_of r l st lo =
+      then_operand (eval_of s x st lo r.f2 l) st lo (λ period l.
+      with_record (record_of s names r.f3) st lo (λ n.
+      then_values (name_values n r l st lo) st lo (λ vs l.
+      provided (is_plain_variable s x r.f1 (eqb (clock_of (operator r))) and eqb period.kind int_type and are_of s (data_of n).first vs) st lo
+      (armed (variable_at_cell s x r.f1 0) (clock_of (operator r)) period.word r.f3 (words_in vs) l st lo))))
 
   -- 38 start Timer, 39 stop any clock
-  unfoldable pub clockActOf : Record → ℕ → List ℤ → List ℤ → World
-  clockActOf r l st lo =
+  unfoldable pub clock_act_of : Record → ℕ → List ℤ → List ℤ → World
+  clock_act_of r l st lo =
       elim (eqb (operator r) 38) [
-        | true ↦ provided (isPlainVariable s x r.f1 (eqb Timer-type)) st lo (clockSet (variableAtCell s x r.f1 0) (pos 1) l st lo)
-        | false ↦ provided (isPlainVariable s x r.f1 isClock) st lo (clockSet (variableAtCell s x r.f1 0) (pos 0) l st lo)
+        | true ↦ provided (is_plain_variable s x r.f1 (eqb timer_type)) st lo (clock_set (variable_at_cell s x r.f1 0) (pos 1) l st lo)
+        | false ↦ provided (is_plain_variable s x r.f1 is_clock) st lo (clock_set (variable_at_cell s x r.f1 0) (pos 0) l st lo)
       ]
 
   -- "a 17th open call": 9. The called body has variables of its own
   unfoldable pub entered : Runs → ℕ → Record → List ℤ → ℕ → List ℤ → List ℤ → World
   entered f depth b zs l st lo =
-      elim (ltb depth openCalls) [
-        | true ↦ provided (localsThere s b) st lo (let w = f (depth + 1) (in_body x b) (root b) l st (locals_of s b zs) in world w.ran w.st lo)
+      elim (ltb depth open_calls) [
+        | true ↦ provided (locals_there s b) st lo (let w = f (depth + 1) (in_body x b) (root b) l st (locals_of s b zs) in world w.ran w.st lo)
         | false ↦ world (Refused 9 l) st lo
       ]
 
   unfoldable pub call_of : Runs → ℕ → Record → ℕ → List ℤ → List ℤ → World
   call_of f depth r l st lo =
-      withRecord (calledBody s x.chart r) st lo (λ b.
-      thenValues (valuesFrom (evalOf s x st lo) r (bodyParameters b).count 0 l) st lo (λ vs l.
-      provided (areOf s (bodyParameters b).first vs) st lo
+      with_record (called_body s x.chart r) st lo (λ b.
+      then_values (values_from (eval_of s x st lo) r (body_parameters b).count 0 l) st lo (λ vs l.
+      provided (are_of s (body_parameters b).first vs) st lo
       (entered f depth b (words_in vs) l st lo)))
 
   -- a condition, and what follows if it holds or not
   unfoldable pub choice_of : ℕ → ℕ → List ℤ → List ℤ → (ℕ → World) → (ℕ → World) → World
-  choice_of n l st lo K L = thenOperand (evalOf s x st lo n l) st lo (λ v l. provided (eqb v.kind Bool-type) st lo (elim (is_zero v.word) [ true ↦ L l | false ↦ K l ]))
+  choice_of n l st lo K L = then_operand (eval_of s x st lo n l) st lo (λ v l. provided (eqb v.kind bool_type) st lo (elim (is_zero v.word) [ true ↦ L l | false ↦ K l ]))
 
-  unfoldable pub runIn : Runs → ℕ → ℕ → Record → ℕ → List ℤ → List ℤ → Form → World
-  runIn f depth n r l st lo literal = world Stuck st lo
-  runIn f depth n r l st lo read = world Stuck st lo
-  runIn f depth n r l st lo unary = world Stuck st lo
-  runIn f depth n r l st lo binary = world Stuck st lo
-  runIn f depth n r l st lo clock = world Stuck st lo
-  runIn f depth n r l st lo readElement = world Stuck st lo
-  runIn f depth n r l st lo skip = world (Done l) st lo
-  runIn f depth n r l st lo assign = assignOf r l st lo
-  runIn f depth n r l st lo externalSend = externalSendOf r l st lo
-  runIn f depth n r l st lo internalSend = internalSendOf r l st lo
-  runIn f depth n r l st lo arm = armOf r l st lo
-  runIn f depth n r l st lo clockAct = clockActOf r l st lo
-  runIn f depth n r l st lo call = call_of f depth r l st lo
-  runIn f depth n r l st lo choice = choice_of r.f1 l st lo (λ l. f depth x r.f2 l st lo) (λ l. f depth x r.f3 l st lo)
+  unfoldable pub run_in : Runs → ℕ → ℕ → Record → ℕ → List ℤ → List ℤ → Form → World
+  run_in f depth n r l st lo literal = world Stuck st lo
+  run_in f depth n r l st lo read = world Stuck st lo
+  run_in f depth n r l st lo unary = world Stuck st lo
+  run_in f depth n r l st lo binary = world Stuck st lo
+  run_in f depth n r l st lo clock = world Stuck st lo
+  run_in f depth n r l st lo read_element = world Stuck st lo
+  run_in f depth n r l st lo skip = world (Done l) st lo
+  run_in f depth n r l st lo assign = assign_of r l st lo
+  run_in f depth n r l st lo external_send = external_send_of r l st lo
+  run_in f depth n r l st lo internal_send = internal_send_of r l st lo
+  run_in f depth n r l st lo arm = arm_of r l st lo
+  run_in f depth n r l st lo clock_act = clock_act_of r l st lo
+  run_in f depth n r l st lo call = call_of f depth r l st lo
+  run_in f depth n r l st lo choice = choice_of r.f1 l st lo (λ l. f depth x r.f2 l st lo) (λ l. f depth x r.f3 l st lo)
   -- "42 is visited anew before each test"
-  runIn f depth n r l st lo loop = choice_of r.f1 l st lo (λ l. thenRun (f depth x r.f2 l st lo) (λ l st lo. f depth x n l st lo)) (λ l. world (Done l) st lo)
-  runIn f depth n r l st lo sequence = thenRun (f depth x r.f1 l st lo) (λ l st lo. f depth x r.f2 l st lo)
-  runIn f depth n r l st lo assignElement = assignElementOf r l st lo
-  runIn f depth n r l st lo unknown = world Stuck st lo
+  run_in f depth n r l st lo loop = choice_of r.f1 l st lo (λ l. then_run (f depth x r.f2 l st lo) (λ l st lo. f depth x n l st lo)) (λ l. world (Done l) st lo)
+  run_in f depth n r l st lo sequence = then_run (f depth x r.f1 l st lo) (λ l st lo. f depth x r.f2 l st lo)
+  run_in f depth n r l st lo assign_element = assign_element_of r l st lo
+  run_in f depth n r l st lo unknown = world Stuck st lo
 
-unfoldable pub runStep : List ℕ → Runs → Runs
-runStep s f depth x n zero st lo = world (Refused 10 0) st lo
-runStep s f depth x n (suc l) st lo = withRecord (recordOf s nodes n) st lo (λ r. runIn s x f depth n r l st lo (form_of (operator r)))
+unfoldable pub run_step_lem : List ℕ → Runs → Runs
+run_step_lem s f depth x n zero st lo = world (Refused 10 0) st lo
+run_step_lem s f depth x n (suc l) st lo = with_record (record_of s nodes n) st lo (λ r. run_in s x f depth n r l st lo (form_of (operator r)))
 
 -- fuel is not the paper's: each visit takes a step, so enough of it makes no difference
-unfoldable pub runF : List ℕ → ℕ → Runs
-runF s zero depth x n left st lo = world Stuck st lo
-runF s (suc k) depth x n left st lo = runStep s (fewer left (runF s k)) depth x n left st lo
+unfoldable pub run_f : List ℕ → ℕ → Runs
+run_f s zero depth x n left st lo = world Stuck st lo
+run_f s (suc k) depth x n left st lo = run_step_lem s (fewer left (run_f s k)) depth x n left st lo
 
 -- what node n does, with that many steps left
 unfoldable pub run_of : List ℕ → Runs
-run_of s depth x n left st lo = runF s (suc left) depth x n left st lo
+run_of s depth x n left st lo = run_f s (suc left) depth x n left st lo

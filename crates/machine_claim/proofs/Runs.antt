@@ -8,39 +8,39 @@ use lib.Dec.{eqb}
 use lib.IntN.{ℤ, pos}
 use Rattle.machine.specs.declared.Answer.{Answer}
 use Rattle.sheet_rules.specs.declared.Checked.TheVariants.{Passed}
-use Rattle.machine.specs.State.{stateLength}
-use Rattle.machine.specs.Play.{Outcome, ended, stuck, limitOf, startCall, eventCall}
-use Rattle.sheet_rules.specs.Check.{checkOf}
-use Rattle.machine.specs.Lists.{Played, played, nowhere, thenPlayed, afterAnswer, goesOn, eventsOf, playOf, StartGives}
+use Rattle.machine.specs.State.{state_length}
+use Rattle.machine.specs.Play.{Outcome, ended, stuck, limit_of, start_call, event_call}
+use Rattle.sheet_rules.specs.Check.{check_of}
+use Rattle.machine.specs.Lists.{Played, played, nowhere, then_played, after_answer, goes_on_lem, events_of, play_of, StartGives}
 use Rattle.machine_events.proofs.Laws.{start_is}
 use Rattle.machine_claim.specs.Claim.{AllWithin}
 use Rattle.machine_claim.proofs.Limit.{Within, event-within}
 
 -- n answers, none over the limit
 abbrev pub Bounded : List ℕ → ℕ → Played → Type 0
-Bounded s n (played answers last) = (length answers ≡ n) × AllWithin (limitOf s) answers
+Bounded s n (played answers last) = (length answers ≡ n) × AllWithin (limit_of s) answers
 Bounded s n nowhere = Unit {0}
 
 module _ (s : List ℕ) where
-  after-bounded : (n : ℕ) (a : Answer) (p : Played) → a.steps ≤ limitOf s → Bounded s n p → Bounded s (suc n) (afterAnswer a p)
-  unfolding afterAnswer
-  after-bounded n a (played answers last) l h = (ap suc h.0, (l, h.1))
-  after-bounded n a nowhere l h = h
+  after_bounded : (n : ℕ) (a : Answer) (p : Played) → a.steps ≤ limit_of s → Bounded s n p → Bounded s (suc n) (after_answer a p)
+  unfolding after_answer
+  after_bounded n a (played answers last) l h = (ap suc h.0, (l, h.1))
+  after_bounded n a nowhere l h = h
 
-  then-bounded : (n : ℕ) (w : Outcome) (K : Answer → List ℤ → Played) → Within (limitOf s) w → ((a : Answer) (st : List ℤ) → Bounded s n (K a st)) → Bounded s (suc n) (thenPlayed w (λ a st. afterAnswer a (K a st)))
-  unfolding thenPlayed
-  then-bounded n (ended a st) K h k = after-bounded n a (K a st) (h.steps a st refl) (k a st)
-  then-bounded n stuck K h k = tt
+  then_bounded : (n : ℕ) (w : Outcome) (K : Answer → List ℤ → Played) → Within (limit_of s) w → ((a : Answer) (st : List ℤ) → Bounded s n (K a st)) → Bounded s (suc n) (then_played w (λ a st. after_answer a (K a st)))
+  unfolding then_played
+  then_bounded n (ended a st) K h k = after_bounded n a (K a st) (h.steps a st refl) (k a st)
+  then_bounded n stuck K h k = tt
 
-  pub events-bounded : (evs : List (List ℤ)) (st : List ℤ) → Bounded s (length evs) (eventsOf s (limitOf s) st evs)
-  unfolding eventsOf
-  events-bounded [] st = (refl, tt)
-  events-bounded (ev ∷ evs) st = then-bounded (length evs) (eventCall s (limitOf s) st st ev) _ (event-within s st st ev) (λ a new. events-bounded evs (goesOn a st new))
+  pub events_bounded : (evs : List (List ℤ)) (st : List ℤ) → Bounded s (length evs) (events_of s (limit_of s) st evs)
+  unfolding events_of
+  events_bounded [] st = (refl, tt)
+  events_bounded (ev ∷ evs) st = then_bounded (length evs) (event_call s (limit_of s) st st ev) _ (event-within s st st ev) (λ a new. events_bounded evs (goes_on_lem a st new))
 
   -- whatever was lent, start's answer and state are those of the machine's own run
-  pub play-is : checkOf s ≡ Passed → (lent : List ℤ) → length lent ≡ stateLength s → (a : Answer) (st : List ℤ) → StartGives s (limitOf s) lent a st → (evs : List (List ℤ)) → playOf s (limitOf s) evs ≡ afterAnswer a (elim (eqb a.number 0) [ true ↦ eventsOf s (limitOf s) st evs | false ↦ played [] st ])
-  unfolding playOf thenPlayed
-  play-is ok lent l a st g evs =
-      let fresh = replicate (stateLength s) (pos 0) in
-      let same : ended a st ≡ startCall s (limitOf s) fresh = g ∙ start_is s lent ok l ∙ sym (start_is s fresh ok (length-replicate (stateLength s) (pos 0))) in
-      ap (λ w. thenPlayed w (λ a st. afterAnswer a (elim (eqb a.number 0) as (λ b. Played) [ true ↦ eventsOf s (limitOf s) st evs | false ↦ played [] st ]))) (sym same)
+  pub play_is : check_of s ≡ Passed → (lent : List ℤ) → length lent ≡ state_length s → (a : Answer) (st : List ℤ) → StartGives s (limit_of s) lent a st → (evs : List (List ℤ)) → play_of s (limit_of s) evs ≡ after_answer a (elim (eqb a.number 0) [ true ↦ events_of s (limit_of s) st evs | false ↦ played [] st ])
+  unfolding play_of then_played
+  play_is ok lent l a st g evs =
+      let fresh = replicate (state_length s) (pos 0) in
+      let same : ended a st ≡ start_call s (limit_of s) fresh = g ∙ start_is s lent ok l ∙ sym (start_is s fresh ok (length-replicate (state_length s) (pos 0))) in
+      ap (λ w. then_played w (λ a st. after_answer a (elim (eqb a.number 0) as (λ b. Played) [ true ↦ events_of s (limit_of s) st evs | false ↦ played [] st ]))) (sym same)

@@ -2,12 +2,12 @@
 use Rattle.std.specs.Prelude.{ℕ, ◌*◌, ◌≤◌, ◌≡◌, List, [], ◌∷◌, map, true, false, length, replicate, eqb, ℤ, pos}
 use Rattle.machine.specs.declared.Answer.{Answer}
 use Rattle.sheet_rules.specs.declared.Checked.TheVariants.{Passed}
-use Rattle.sheet_rules.specs.Fields.{elementsOf}
-use Rattle.machine.specs.State.{stateLength}
+use Rattle.sheet_rules.specs.Fields.{elements_of}
+use Rattle.machine.specs.State.{state_length}
 use Rattle.machine.specs.Valid.{OfSheet}
-use Rattle.machine.specs.Play.{defaultLimit, limitOf, limitBy}
-use Rattle.sheet_rules.specs.Check.{checkOf}
-use Rattle.machine.specs.Lists.{Played, played, afterAnswer, goesOn, playOf, StartGives, EventGives}
+use Rattle.machine.specs.Play.{default_limit, limit_of, limit_by}
+use Rattle.sheet_rules.specs.Check.{check_of}
+use Rattle.machine.specs.Lists.{Played, played, after_answer, goes_on_lem, play_of, StartGives, EventGives}
 use Rattle.machine_words.specs.Words.{Bytes, Words}
 use Rattle.machine_promise.specs.Promise.{OneOf, AllAnswered, OneReaction}
 
@@ -25,11 +25,11 @@ pub record Engine : Type 0 where
 
 -- the contracts of start and event, by a machine with that default limit: whatever the bytes, the words and their number. That is what the compiled pair gets
 pub record MeetsBy (default : ℕ) (e : Engine) : Type 0 where
-  pub start : (s : List ℕ) → Bytes s → (lent : List ℤ) → Words lent → StartGives s (limitBy default s) lent (e.start s lent).answer (e.start s lent).state
-  pub event : (s : List ℕ) → Bytes s → (old lent ev : List ℤ) → Words old → Words lent → Words ev → EventGives s (limitBy default s) old lent ev (e.event s old lent ev).answer (e.event s old lent ev).state
+  pub start : (s : List ℕ) → Bytes s → (lent : List ℤ) → Words lent → StartGives s (limit_by default s) lent (e.start s lent).answer (e.start s lent).state
+  pub event : (s : List ℕ) → Bytes s → (old lent ev : List ℤ) → Words old → Words lent → Words ev → EventGives s (limit_by default s) old lent ev (e.event s old lent ev).answer (e.event s old lent ev).state
 
 abbrev pub Meets : Engine → Type 0
-Meets e = MeetsBy defaultLimit e
+Meets e = MeetsBy default_limit e
 
 -- ---- a run made of its calls
 
@@ -38,13 +38,13 @@ pub record Call : Type 0 where
   pub words : List ℤ
   pub lent : List ℤ
 
-abbrev pub eventsCalled : List Call → List (List ℤ)
-eventsCalled calls = map (λ c. c.words) calls
+abbrev pub events_called : List Call → List (List ℤ)
+events_called calls = map (λ c. c.words) calls
 
 -- every result state is lent at its length
 abbrev pub AllLent : List ℕ → List Call → Type 0
 AllLent s [] = Unit {0}
-AllLent s (c ∷ calls) = (length c.lent ≡ stateLength s) × AllLent s calls
+AllLent s (c ∷ calls) = (length c.lent ≡ state_length s) × AllLent s calls
 
 -- every event, and every state that is lent, is words
 abbrev pub AllWords : List Call → Type 0
@@ -52,13 +52,13 @@ AllWords [] = Unit {0}
 AllWords (c ∷ calls) = Words c.words × Words c.lent × AllWords calls
 
 -- "Each event gets the same sheet .. and the state that the last accepted one (or start) left, unchanged in between."
-unfoldable pub calledFrom : Engine → List ℕ → List ℤ → List Call → Played
-calledFrom e s st [] = played [] st
-calledFrom e s st (c ∷ calls) = let r = e.event s st c.lent c.words in afterAnswer r.answer (calledFrom e s (goesOn r.answer st r.state) calls)
+unfoldable pub called_from : Engine → List ℕ → List ℤ → List Call → Played
+called_from e s st [] = played [] st
+called_from e s st (c ∷ calls) = let r = e.event s st c.lent c.words in after_answer r.answer (called_from e s (goes_on_lem r.answer st r.state) calls)
 
 -- start, and after answer 0 the events
-unfoldable pub runOfEngine : Engine → List ℕ → List ℤ → List Call → Played
-runOfEngine e s lent calls = let r = e.start s lent in afterAnswer r.answer (elim (eqb r.answer.number 0) [ true ↦ calledFrom e s r.state calls | false ↦ played [] r.state ])
+unfoldable pub run_of_engine : Engine → List ℕ → List ℤ → List Call → Played
+run_of_engine e s lent calls = let r = e.start s lent in after_answer r.answer (elim (eqb r.answer.number 0) [ true ↦ called_from e s r.state calls | false ↦ played [] r.state ])
 
 -- ---- the claim
 
@@ -72,9 +72,9 @@ pub record Claim (e : Engine) (s : List ℕ) (lent : List ℤ) (calls : List Cal
   pub answers : List Answer
   pub last : List ℤ
   -- they are what the engine's run comes to
-  pub run : runOfEngine e s lent calls ≡ played (first ∷ answers) last
+  pub run : run_of_engine e s lent calls ≡ played (first ∷ answers) last
   -- "The machine is fed with the sheet and the events alone and keeps its own state. Compared are each answer, whole, and after the list the two states, word for word": it isn't stuck and comes to the very same
-  pub machine : playOf s (limitOf s) (eventsCalled calls) ≡ played (first ∷ answers) last
+  pub machine : play_of s (limit_of s) (events_called calls) ≡ played (first ∷ answers) last
   -- start gives 0 or 6 to 12
   pub start : OneOf 6 first.number
   -- each event gives 0 or 4 to 12, and after a start of 0 each has its answer
@@ -82,19 +82,19 @@ pub record Claim (e : Engine) (s : List ℕ) (lent : List ℤ) (calls : List Cal
   pub each : first.number ≡ 0 → length answers ≡ length calls
   -- after another start no event was played, and "its state is all zeros"
   pub refused : (first.number ≡ 0 → ⊥) → answers ≡ []
-  pub zeros : (first.number ≡ 0 → ⊥) → last ≡ replicate (stateLength s) (pos 0)
+  pub zeros : (first.number ≡ 0 → ⊥) → last ≡ replicate (state_length s) (pos 0)
   -- an event has at most as many steps as the limit, start at most a limit for each bound element
-  pub within : AllWithin (limitOf s) answers
-  pub startWithin : first.steps ≤ elementsOf s * limitOf s
+  pub within : AllWithin (limit_of s) answers
+  pub start_within : first.steps ≤ elements_of s * limit_of s
   -- "the state is then of the sheet"
-  pub ofSheet : first.number ≡ 0 → OfSheet s last
+  pub of_sheet : first.number ≡ 0 → OfSheet s last
   -- every internal name that waits or is armed has one reaction in its element's chart
   pub reactions : first.number ≡ 0 → OneReaction s last
 
 -- for every engine that meets the contracts, every sheet that check passes, every list of events of any number of words, and states lent at their length.
 -- The states between the calls are the engine's own, and nothing is asked of them
 abbrev pub EveryList : Type 0
-EveryList = (e : Engine) → Meets e → (s : List ℕ) → Bytes s → checkOf s ≡ Passed → (lent : List ℤ) → Words lent → length lent ≡ stateLength s → (calls : List Call) → AllWords calls → AllLent s calls → Claim e s lent calls
+EveryList = (e : Engine) → Meets e → (s : List ℕ) → Bytes s → check_of s ≡ Passed → (lent : List ℤ) → Words lent → length lent ≡ state_length s → (calls : List Call) → AllWords calls → AllLent s calls → Claim e s lent calls
 
 -- it speaks of something: there is an engine that meets the contracts (the machine's own calls, which never end stuck)
 abbrev pub SomeEngine : Type 0

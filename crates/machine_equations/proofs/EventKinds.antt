@@ -3,22 +3,22 @@ use Prim.Native.Nat.{ℕ, zero, suc, ◌≤◌}
 use mathlib.Core.Path.{◌≡◌, refl}
 use native.Mathlib.Omega.{arith}
 use lib.IntN.{ℤ, pos, negsuc}
-use Rattle.sheet.specs.Table.{lookUp}
-use Rattle.sheet.proofs.Table.{lines-past}
-use Rattle.machine.specs.Kinds.{noKind, kindTable, kind_of}
+use Rattle.sheet.specs.Table.{look_up}
+use Rattle.sheet.proofs.Table.{lines_past}
+use Rattle.machine.specs.Kinds.{no_kind_lem, kind_table, kind_of}
 
 -- numbers from 6 on
-no_more : (n : ℕ) → 6 ≤ n → kind_of (pos n) ≡ noKind
-unfolding kind_of lookUp
-no_more n h = lines-past noKind 6 kindTable 6 n tt h
+no_more : (n : ℕ) → 6 ≤ n → kind_of (pos n) ≡ no_kind_lem
+unfolding kind_of look_up
+no_more n h = lines_past no_kind_lem 6 kind_table 6 n tt h
 
-pub no_kind : (z : ℤ) → (z ≡ pos 1 → ⊥) → (z ≡ pos 2 → ⊥) → (z ≡ pos 3 → ⊥) → (z ≡ pos 4 → ⊥) → (z ≡ pos 5 → ⊥) → kind_of z ≡ noKind
-unfolding kind_of lookUp
-no_kind (pos zero) a b c d e = refl
-no_kind (pos (suc zero)) a b c d e = absurd (a refl)
-no_kind (pos (suc (suc zero))) a b c d e = absurd (b refl)
-no_kind (pos (suc (suc (suc zero)))) a b c d e = absurd (c refl)
-no_kind (pos (suc (suc (suc (suc zero))))) a b c d e = absurd (d refl)
-no_kind (pos (suc (suc (suc (suc (suc zero)))))) a b c d e = absurd (e refl)
-no_kind (pos (suc (suc (suc (suc (suc (suc n))))))) a b c d e = no_more (suc (suc (suc (suc (suc (suc n)))))) (omega arith)
-no_kind (negsuc n) a b c d e = refl
+pub no_kind_lem : (z : ℤ) → (z ≡ pos 1 → ⊥) → (z ≡ pos 2 → ⊥) → (z ≡ pos 3 → ⊥) → (z ≡ pos 4 → ⊥) → (z ≡ pos 5 → ⊥) → kind_of z ≡ no_kind_lem
+unfolding kind_of look_up
+no_kind_lem (pos zero) a b c d e = refl
+no_kind_lem (pos (suc zero)) a b c d e = absurd (a refl)
+no_kind_lem (pos (suc (suc zero))) a b c d e = absurd (b refl)
+no_kind_lem (pos (suc (suc (suc zero)))) a b c d e = absurd (c refl)
+no_kind_lem (pos (suc (suc (suc (suc zero))))) a b c d e = absurd (d refl)
+no_kind_lem (pos (suc (suc (suc (suc (suc zero)))))) a b c d e = absurd (e refl)
+no_kind_lem (pos (suc (suc (suc (suc (suc (suc n))))))) a b c d e = no_more (suc (suc (suc (suc (suc (suc n)))))) (omega arith)
+no_kind_lem (negsuc n) a b c d e = refl

@@ -7,90 +7,90 @@ use lib.ListN.{length}
 use lib.Dec.{eqb}
 use lib.IntN.{ℤ}
 use Rattle.sheet.specs.All.{◌and◌}
-use Rattle.sheet.proofs.All.{true-false, and_first, and_second}
+use Rattle.sheet.proofs.All.{true_false, and_first, and_second}
 use Rattle.sheet_rules.specs.declared.Checked.TheVariants.{Passed}
-use Rattle.sheet_rules.specs.Fields.{componentsOf}
-use Rattle.sheet_rules.specs.Check.{checkOf}
-use Rattle.machine.specs.Values.{isBelow}
-use Rattle.machine.specs.State.{stateLength, word_of}
-use Rattle.machine.specs.Valid.{contentFits}
+use Rattle.sheet_rules.specs.Fields.{components_of}
+use Rattle.sheet_rules.specs.Check.{check_of}
+use Rattle.machine.specs.Values.{is_below}
+use Rattle.machine.specs.State.{state_length, word_of}
+use Rattle.machine.specs.Valid.{content_fits}
 use Rattle.machine.specs.Kinds as kind
 use Rattle.machine.specs.Kinds.{Kind, kind_of}
-use Rattle.machine.specs.Play.{limitOf, restZero, boundWord, wellFormed, wordsOfEvent, isEvent, happensAs, happens, eventCall}
+use Rattle.machine.specs.Play.{limit_of, rest_zero, bound_word, well_formed, words_of_event, is_event, happens_as, happens, event_call}
 use Rattle.machine_events.specs.declared.Event.{Event}
 use Rattle.machine_events.specs.declared.Event.TheVariants.{Malformed}
-use Rattle.machine_events.specs.Event.{eventAs, eventOf, isMalformed, happensBy}
-use Rattle.machine_events.specs.Sought.{receiverBound}
+use Rattle.machine_events.specs.Event.{event_as, event_of, is_malformed, happens_by}
+use Rattle.machine_events.specs.Sought.{receiver_bound}
 use Rattle.machine.proofs.Calls.{event-played}
-use Rattle.machine_events.proofs.Laws.{event-malformed}
+use Rattle.machine_events.proofs.Laws.{event_malformed}
 
 module _ (s : List ℕ) (ev : List ℤ) where
-  formed : isEvent s ev ≡ true → wellFormed s ev (kind_of (word_of ev 0)) ≡ true
-  unfolding isEvent
-  formed h = and_second (eqb (length ev) wordsOfEvent) _ h
+  formed : is_event s ev ≡ true → well_formed s ev (kind_of (word_of ev 0)) ≡ true
+  unfolding is_event
+  formed h = and_second (eqb (length ev) words_of_event) _ h
 
-  pub event-as : isEvent s ev ≡ true → eventOf s ev ≡ eventAs ev (kind_of (word_of ev 0))
-  unfolding eventOf
-  event-as h = rw (eventOf, h) refl
+  pub event_as_lem : is_event s ev ≡ true → event_of s ev ≡ event_as ev (kind_of (word_of ev 0))
+  unfolding event_of
+  event_as_lem h = rw (event_of, h) refl
 
-  pub event-none : isEvent s ev ≡ false → eventOf s ev ≡ Malformed
-  unfolding eventOf
-  event-none h = rw (eventOf, h) refl
+  pub event-none : is_event s ev ≡ false → event_of s ev ≡ Malformed
+  unfolding event_of
+  event-none h = rw (event_of, h) refl
 
   -- what holds of every well formed event, kind by kind, and of a malformed one
-  each : (p : Event → Bool) → p Malformed ≡ true → ((k : Kind) → wellFormed s ev k ≡ true → p (eventAs ev k) ≡ true) → p (eventOf s ev) ≡ true
-  each p none some = go (isEvent s ev) refl
+  each : (p : Event → Bool) → p Malformed ≡ true → ((k : Kind) → well_formed s ev k ≡ true → p (event_as ev k) ≡ true) → p (event_of s ev) ≡ true
+  each p none some = go (is_event s ev) refl
     where
-      go : (b : Bool) → isEvent s ev ≡ b → p (eventOf s ev) ≡ true
-      go true q = ap p (event-as q) ∙ some (kind_of (word_of ev 0)) (formed q)
+      go : (b : Bool) → is_event s ev ≡ b → p (event_of s ev) ≡ true
+      go true q = ap p (event_as_lem q) ∙ some (kind_of (word_of ev 0)) (formed q)
       go false q = ap p (event-none q) ∙ none
 
-  pub receiver-bound : receiverBound s (eventOf s ev) ≡ true
-  unfolding receiverBound eventAs wellFormed
-  receiver-bound = each (receiverBound s) refl go
+  pub receiver-bound : receiver_bound s (event_of s ev) ≡ true
+  unfolding receiver_bound event_as well_formed
+  receiver-bound = each (receiver_bound s) refl go
     where
-      go : (k : Kind) → wellFormed s ev k ≡ true → receiverBound s (eventAs ev k) ≡ true
+      go : (k : Kind) → well_formed s ev k ≡ true → receiver_bound s (event_as ev k) ≡ true
       go kind.outside h = refl
       go kind.deliver h = refl
-      go kind.corrupt h = and_first (boundWord s (word_of ev 2)) (restZero ev 3) (and_second (isBelow (word_of ev 1) (componentsOf s)) _ h)
+      go kind.corrupt h = and_first (bound_word s (word_of ev 2)) (rest_zero ev 3) (and_second (is_below (word_of ev 1) (components_of s)) _ h)
       go kind.inner h = refl
       go kind.slice h = refl
-      go kind.noKind h = refl
+      go kind.no_kind h = refl
 
-  pub malformed-is : isMalformed (eventOf s ev) ≡ not (isEvent s ev)
-  unfolding isMalformed eventAs wellFormed
-  malformed-is = go (isEvent s ev) refl
+  pub malformed_is : is_malformed (event_of s ev) ≡ not (is_event s ev)
+  unfolding is_malformed event_as well_formed
+  malformed_is = go (is_event s ev) refl
     where
-      of-kind : (k : Kind) → wellFormed s ev k ≡ true → isMalformed (eventAs ev k) ≡ false
-      of-kind kind.outside h = refl
-      of-kind kind.deliver h = refl
-      of-kind kind.corrupt h = refl
-      of-kind kind.inner h = refl
-      of-kind kind.slice h = refl
-      of-kind kind.noKind h = absurd (true-false h refl)
+      of_kind_lem : (k : Kind) → well_formed s ev k ≡ true → is_malformed (event_as ev k) ≡ false
+      of_kind_lem kind.outside h = refl
+      of_kind_lem kind.deliver h = refl
+      of_kind_lem kind.corrupt h = refl
+      of_kind_lem kind.inner h = refl
+      of_kind_lem kind.slice h = refl
+      of_kind_lem kind.no_kind h = absurd (true_false h refl)
 
-      go : (b : Bool) → isEvent s ev ≡ b → isMalformed (eventOf s ev) ≡ not (isEvent s ev)
-      go true q = ap isMalformed (event-as q) ∙ of-kind (kind_of (word_of ev 0)) (formed q) ∙ sym (ap not q)
-      go false q = ap isMalformed (event-none q) ∙ sym (ap not q)
+      go : (b : Bool) → is_event s ev ≡ b → is_malformed (event_of s ev) ≡ not (is_event s ev)
+      go true q = ap is_malformed (event_as_lem q) ∙ of_kind_lem (kind_of (word_of ev 0)) (formed q) ∙ sym (ap not q)
+      go false q = ap is_malformed (event-none q) ∙ sym (ap not q)
 
   -- the one law to the machine's own reading of an event's words
-  pub happens-by : (limit : ℕ) (st : List ℤ) → isEvent s ev ≡ true → happens s limit st ev ≡ happensBy s limit st (eventOf s ev)
-  unfolding happens happensAs happensBy eventAs wellFormed
-  happens-by limit st h = go (kind_of (word_of ev 0)) (formed h) ∙ sym (ap (happensBy s limit st) (event-as h))
+  pub happens_by_lem : (limit : ℕ) (st : List ℤ) → is_event s ev ≡ true → happens s limit st ev ≡ happens_by s limit st (event_of s ev)
+  unfolding happens happens_as happens_by event_as well_formed
+  happens_by_lem limit st h = go (kind_of (word_of ev 0)) (formed h) ∙ sym (ap (happens_by s limit st) (event_as_lem h))
     where
-      go : (k : Kind) → wellFormed s ev k ≡ true → happensAs s limit st ev k ≡ happensBy s limit st (eventAs ev k)
+      go : (k : Kind) → well_formed s ev k ≡ true → happens_as s limit st ev k ≡ happens_by s limit st (event_as ev k)
       go kind.outside w = refl
       go kind.deliver w = refl
       go kind.corrupt w = refl
       go kind.inner w = refl
       go kind.slice w = refl
-      go kind.noKind w = absurd (true-false w refl)
+      go kind.no_kind w = absurd (true_false w refl)
 
   -- an event on a state of a passed sheet that is lent as the result too
-  pub event-by : checkOf s ≡ Passed → (st : List ℤ) → length st ≡ stateLength s → contentFits s st ≡ true → happensBy s (limitOf s) st (eventOf s ev) ≡ eventCall s (limitOf s) st st ev
-  unfolding happensBy
-  event-by ok st l c = go (isEvent s ev) refl
+  pub event_by : check_of s ≡ Passed → (st : List ℤ) → length st ≡ state_length s → content_fits s st ≡ true → happens_by s (limit_of s) st (event_of s ev) ≡ event_call s (limit_of s) st st ev
+  unfolding happens_by
+  event_by ok st l c = go (is_event s ev) refl
     where
-      go : (b : Bool) → isEvent s ev ≡ b → happensBy s (limitOf s) st (eventOf s ev) ≡ eventCall s (limitOf s) st st ev
-      go true q = sym (event-played s (limitOf s) st st ev ok l l c q ∙ happens-by (limitOf s) st q)
-      go false q = ap (happensBy s (limitOf s) st) (event-none q) ∙ sym (event-malformed s st st ev ok l l c q)
+      go : (b : Bool) → is_event s ev ≡ b → happens_by s (limit_of s) st (event_of s ev) ≡ event_call s (limit_of s) st st ev
+      go true q = sym (event-played s (limit_of s) st st ev ok l l c q ∙ happens_by_lem (limit_of s) st q)
+      go false q = ap (happens_by s (limit_of s) st) (event-none q) ∙ sym (event_malformed s st st ev ok l l c q)

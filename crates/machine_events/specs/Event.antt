@@ -3,35 +3,35 @@ use Rattle.std.specs.Prelude.{ℕ, List, Bool, true, false, ℤ}
 use Rattle.machine.specs.State.{word_of}
 use Rattle.machine.specs.Kinds as kind
 use Rattle.machine.specs.Kinds.{Kind, kind_of}
-use Rattle.machine.specs.Play.{Outcome, outside, deliver, corrupt, inner, slice, isEvent, telegramOfEvent, turnedDown}
+use Rattle.machine.specs.Play.{Outcome, outside, deliver, corrupt, inner, slice, is_event, telegram_of_event, turned_down}
 use Rattle.machine_events.specs.declared.Event.{Event}
 use Rattle.machine_events.specs.declared.Event.TheVariants.{Malformed, Outside, Deliver, Corrupt, Inner, Slice}
 
 -- the words of a well formed event of that kind
-unfoldable pub eventAs : List ℤ → Kind → Event
-eventAs ev kind.outside = Outside (telegramOfEvent ev)
-eventAs ev kind.deliver = Deliver (word_of ev 1) (word_of ev 2)
-eventAs ev kind.corrupt = Corrupt (word_of ev 1) (word_of ev 2)
-eventAs ev kind.inner = Inner (word_of ev 2)
-eventAs ev kind.slice = Slice
-eventAs ev kind.noKind = Malformed
+unfoldable pub event_as : List ℤ → Kind → Event
+event_as ev kind.outside = Outside (telegram_of_event ev)
+event_as ev kind.deliver = Deliver (word_of ev 1) (word_of ev 2)
+event_as ev kind.corrupt = Corrupt (word_of ev 1) (word_of ev 2)
+event_as ev kind.inner = Inner (word_of ev 2)
+event_as ev kind.slice = Slice
+event_as ev kind.no_kind = Malformed
 
-unfoldable pub eventOf : List ℕ → List ℤ → Event
-eventOf s ev = elim (isEvent s ev) [ true ↦ eventAs ev (kind_of (word_of ev 0)) | false ↦ Malformed ]
+unfoldable pub event_of : List ℕ → List ℤ → Event
+event_of s ev = elim (is_event s ev) [ true ↦ event_as ev (kind_of (word_of ev 0)) | false ↦ Malformed ]
 
-unfoldable pub isMalformed : Event → Bool
-isMalformed Malformed = true
-isMalformed (Outside t) = false
-isMalformed (Deliver a r) = false
-isMalformed (Corrupt a r) = false
-isMalformed (Inner r) = false
-isMalformed Slice = false
+unfoldable pub is_malformed : Event → Bool
+is_malformed Malformed = true
+is_malformed (Outside t) = false
+is_malformed (Deliver a r) = false
+is_malformed (Corrupt a r) = false
+is_malformed (Inner r) = false
+is_malformed Slice = false
 
 -- on a state that is lent as the result too
-unfoldable pub happensBy : List ℕ → ℕ → List ℤ → Event → Outcome
-happensBy s limit st Malformed = turnedDown 4 st
-happensBy s limit st (Outside t) = outside s st t
-happensBy s limit st (Deliver a r) = deliver s limit st a r
-happensBy s limit st (Corrupt a r) = corrupt s limit st a r
-happensBy s limit st (Inner r) = inner s limit st r
-happensBy s limit st Slice = slice s st
+unfoldable pub happens_by : List ℕ → ℕ → List ℤ → Event → Outcome
+happens_by s limit st Malformed = turned_down 4 st
+happens_by s limit st (Outside t) = outside s st t
+happens_by s limit st (Deliver a r) = deliver s limit st a r
+happens_by s limit st (Corrupt a r) = corrupt s limit st a r
+happens_by s limit st (Inner r) = inner s limit st r
+happens_by s limit st Slice = slice s st

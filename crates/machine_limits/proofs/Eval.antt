@@ -7,127 +7,127 @@ use lib.Dec.{ltb, eqb}
 use lib.IntN.{ℤ, pos}
 use Rattle.sheet.specs.declared.Record.{Record}
 use Rattle.sheet.specs.All.{◌and◌}
-use Rattle.sheet.specs.Names.{declaredType, chartVariables, operator, Bool-type, Int-type, isClock, isLiteral}
+use Rattle.sheet.specs.Names.{declared_type, chart_variables, operator, bool_type, int_type, is_clock, is_literal}
 use Rattle.sheet.specs.Names
-use Rattle.sheet_rules.specs.Fields.{isField}
-use Rattle.sheet_rules.specs.Forms.{Form, literal, read, unary, binary, clock, readElement, skip, assign, externalSend, internalSend, arm, clockAct, call, choice, loop, sequence, assignElement, unknown, form_of}
+use Rattle.sheet_rules.specs.Fields.{is_field}
+use Rattle.sheet_rules.specs.Forms.{Form, literal, read, unary, binary, clock, read_element, skip, assign, external_send, internal_send, arm, clock_act, call, choice, loop, sequence, assign_element, unknown, form_of}
 use Rattle.sheet_rules.specs.Indices.{is_plain}
-use Rattle.sheet_rules.specs.Bindings.{constantField, constant_of}
-use Rattle.sheet_rules.specs.Shape.{variablesAt}
-use Rattle.sheet_rules.specs.Types.{variableAt}
+use Rattle.sheet_rules.specs.Bindings.{constant_field, constant_of}
+use Rattle.sheet_rules.specs.Shape.{variables_at}
+use Rattle.sheet_rules.specs.Types.{variable_at}
 use Rattle.machine.specs.declared.Out.{Out}
 use Rattle.machine.specs.declared.Out.TheVariants.{Val, Refused, Stuck}
 use Rattle.machine.specs.Values.{is_zero}
 use Rattle.machine.specs.State.{word_of}
-use Rattle.machine.specs.Eval.{and_then, needs, onRecord, val, literalValue, within, isVariable, isPlainVariable, ofType, onType, parameterVal, bodyWords, variableAtCell, reached, clockWord, clockVal, elementAs, elementVal, readAs, readVal, evalIn, evalStep, evalF, evalOf, Context, Reached, inside, outOfRange, unfit}
+use Rattle.machine.specs.Eval.{and_then, needs, on_record, val, literal_value, within, is_variable, is_plain_variable, of_type, on_type, parameter_val, body_words, variable_at_cell, reached, clock_word, clock_val, element_as, element_val, read_as_lem, read_val, eval_in, eval_step, eval_f, eval_of, Context, Reached, inside, out_of_range, unfit}
 use Rattle.sheet_limits.specs.ButLimit.{ButLimit}
-use Rattle.sheet_limits.proofs.Fields.{same-declaredSo}
-use Rattle.sheet_limits.proofs.Indices.{same-indexAt}
-use Rattle.sheet_limits.proofs.Bindings.{same-constantBinding}
-use Rattle.sheet_limits.proofs.Records.{same-declarations, same_nodes}
-use Rattle.sheet_limits.proofs.Types.{same-chartVariableIndex}
-use Rattle.machine_limits.proofs.State.{same-cellOf}
-use Rattle.machine_limits.proofs.Values.{same-inType}
+use Rattle.sheet_limits.proofs.Fields.{same_declared_so}
+use Rattle.sheet_limits.proofs.Indices.{same_index_at}
+use Rattle.sheet_limits.proofs.Bindings.{same_constant_binding}
+use Rattle.sheet_limits.proofs.Records.{same_declarations, same_nodes}
+use Rattle.sheet_limits.proofs.Types.{same_chart_variable_index}
+use Rattle.machine_limits.proofs.State.{same_cell_of}
+use Rattle.machine_limits.proofs.Values.{same_in_type}
 
 module _ {s s' : List ℕ} (h : ButLimit s s') where
-  pub same-within : within s ≡ within s'
+  pub same_within_lem : within s ≡ within s'
   unfolding within
-  same-within = λ q x l. needs (same-inType h q x.kind x.word) (Val x l)
+  same_within_lem = λ q x l. needs (same_in_type h q x.kind x.word) (Val x l)
 
-  pub same-isVariable : isVariable s ≡ isVariable s'
-  unfolding isVariable
-  same-isVariable = λ q x n p. ltb n (chartVariables x.chart).count and same-declaredSo h q ((chartVariables x.chart).first + n) p
+  pub same_is_variable : is_variable s ≡ is_variable s'
+  unfolding is_variable
+  same_is_variable = λ q x n p. ltb n (chart_variables x.chart).count and same_declared_so h q ((chart_variables x.chart).first + n) p
 
-  pub same-isPlainVariable : isPlainVariable s ≡ isPlainVariable s'
-  unfolding isPlainVariable
-  same-isPlainVariable = λ q x n p. same-isVariable q x n p and is_plain (same-chartVariableIndex h q x.chart n)
+  pub same_is_plain_variable : is_plain_variable s ≡ is_plain_variable s'
+  unfolding is_plain_variable
+  same_is_plain_variable = λ q x n p. same_is_variable q x n p and is_plain (same_chart_variable_index h q x.chart n)
 
-  pub same-onType : onType s ≡ onType s'
-  same-onType = λ q d K. onRecord (same-declarations h q d) (λ r. K (declaredType r))
+  pub same_on_type : on_type s ≡ on_type s'
+  same_on_type = λ q d K. on_record (same_declarations h q d) (λ r. K (declared_type r))
 
-  pub same-parameterVal : parameterVal s ≡ parameterVal s'
-  unfolding parameterVal
-  same-parameterVal = λ q x n t l. needs (isField (constantField n)) (onRecord (same-constantBinding h q x.binding n) (λ b. onRecord (same_nodes h q (constant_of b n)) (λ r. needs (isLiteral (operator r)) (ofType t (literalValue x.element r) (same-within q (literalValue x.element r) l)))))
+  pub same_parameter_val : parameter_val s ≡ parameter_val s'
+  unfolding parameter_val
+  same_parameter_val = λ q x n t l. needs (is_field (constant_field n)) (on_record (same_constant_binding h q x.binding n) (λ b. on_record (same_nodes h q (constant_of b n)) (λ r. needs (is_literal (operator r)) (of_type t (literal_value x.element r) (same_within_lem q (literal_value x.element r) l)))))
 
-  pub same-variableAtCell : variableAtCell s ≡ variableAtCell s'
-  unfolding variableAtCell
-  same-variableAtCell = λ q x n k. same-cellOf h q x.element x.chart n k
+  pub same_variable_at_cell : variable_at_cell s ≡ variable_at_cell s'
+  unfolding variable_at_cell
+  same_variable_at_cell = λ q x n k. same_cell_of h q x.element x.chart n k
 
-  pub same-clockWord : clockWord s ≡ clockWord s'
-  unfolding clockWord
-  same-clockWord = λ q x st n. elim (is_zero (word_of st (same-variableAtCell q x n 0))) [ true ↦ pos 0 | false ↦ word_of st (same-variableAtCell q x n 0 + 1) ]
+  pub same_clock_word : clock_word s ≡ clock_word s'
+  unfolding clock_word
+  same_clock_word = λ q x st n. elim (is_zero (word_of st (same_variable_at_cell q x n 0))) [ true ↦ pos 0 | false ↦ word_of st (same_variable_at_cell q x n 0 + 1) ]
 
-  pub same-clockVal : clockVal s ≡ clockVal s'
-  unfolding clockVal
-  same-clockVal = λ q x st op n l.
-      needs (same-isPlainVariable q x n isClock)
-      (elim (eqb op 17) [ true ↦ same-within q (val Bool-type (word_of st (same-variableAtCell q x n 0))) l | false ↦ same-within q (val Int-type (same-clockWord q x st n)) l ])
+  pub same_clock_val : clock_val s ≡ clock_val s'
+  unfolding clock_val
+  same_clock_val = λ q x st op n l.
+      needs (same_is_plain_variable q x n is_clock)
+      (elim (eqb op 17) [ true ↦ same_within_lem q (val bool_type (word_of st (same_variable_at_cell q x n 0))) l | false ↦ same_within_lem q (val int_type (same_clock_word q x st n)) l ])
 
-  elementAs-at : (x : Context) (st : List ℤ) (n t : ℕ) (a : Reached) → elementAs s x st n t a ≡ elementAs s' x st n t a
-  unfolding elementAs
-  elementAs-at x st n t (inside k) = λ q l. same-within q (val t (word_of st (same-variableAtCell q x n k))) l
-  elementAs-at x st n t outOfRange = λ q l. Refused 11 l
-  elementAs-at x st n t unfit = λ q l. Stuck
+  element_as_at : (x : Context) (st : List ℤ) (n t : ℕ) (a : Reached) → element_as s x st n t a ≡ element_as s' x st n t a
+  unfolding element_as
+  element_as_at x st n t (inside k) = λ q l. same_within_lem q (val t (word_of st (same_variable_at_cell q x n k))) l
+  element_as_at x st n t out_of_range = λ q l. Refused 11 l
+  element_as_at x st n t unfit = λ q l. Stuck
 
-  pub same-elementAs : elementAs s ≡ elementAs s'
-  same-elementAs = λ q x st n t a. elementAs-at x st n t a q
+  pub same_element_as : element_as s ≡ element_as s'
+  same_element_as = λ q x st n t a. element_as_at x st n t a q
 
-  pub same-elementVal : elementVal s ≡ elementVal s'
-  unfolding elementVal
-  same-elementVal = λ q x st n i l. needs (ltb n (chartVariables x.chart).count) (same-onType q ((chartVariables x.chart).first + n) (λ t. same-elementAs q x st n t (reached (same-chartVariableIndex h q x.chart n) i) l))
+  pub same_element_val : element_val s ≡ element_val s'
+  unfolding element_val
+  same_element_val = λ q x st n i l. needs (ltb n (chart_variables x.chart).count) (same_on_type q ((chart_variables x.chart).first + n) (λ t. same_element_as q x st n t (reached (same_chart_variable_index h q x.chart n) i) l))
 
-  pub same-readAs : readAs s ≡ readAs s'
-  unfolding readAs
-  same-readAs = λ q x st lo place n t l.
-      elim (eqb place Names.chartParameter) [
-        | true ↦ same-parameterVal q x n t l
-        | false ↦ elim (eqb place Names.chartVariable) [ true ↦ same-within q (val t (word_of st (same-variableAtCell q x n 0))) l | false ↦ needs (ltb n bodyWords) (same-within q (val t (word_of lo n)) l) ]
+  pub same_read_as : read_as_lem s ≡ read_as_lem s'
+  unfolding read_as_lem
+  same_read_as = λ q x st lo place n t l.
+      elim (eqb place Names.chart_parameter) [
+        | true ↦ same_parameter_val q x n t l
+        | false ↦ elim (eqb place Names.chart_variable) [ true ↦ same_within_lem q (val t (word_of st (same_variable_at_cell q x n 0))) l | false ↦ needs (ltb n body_words) (same_within_lem q (val t (word_of lo n)) l) ]
       ]
 
-  pub same-readVal : readVal s ≡ readVal s'
-  unfolding readVal
-  same-readVal = λ q x st lo place n l. needs (ltb n (variablesAt x.chart x.body place) and is_plain (same-indexAt h q (variableAt x.chart x.body place n))) (same-onType q (variableAt x.chart x.body place n) (λ t. same-readAs q x st lo place n t l))
+  pub same_read_val : read_val s ≡ read_val s'
+  unfolding read_val
+  same_read_val = λ q x st lo place n l. needs (ltb n (variables_at x.chart x.body place) and is_plain (same_index_at h q (variable_at x.chart x.body place n))) (same_on_type q (variable_at x.chart x.body place n) (λ t. same_read_as q x st lo place n t l))
 
-  evalIn-at : (x : Context) (st lo : List ℤ) (f : (ℕ → ℕ → Out)) (r : Record) (l : ℕ) (a : Form) → evalIn s x st lo f r l a ≡ evalIn s' x st lo f r l a
-  unfolding evalIn
-  evalIn-at x st lo f r l literal = λ q. same-within q (literalValue x.element r) l
-  evalIn-at x st lo f r l read = λ q. same-readVal q x st lo r.f1 r.f2 l
-  evalIn-at x st lo f r l unary = refl
-  evalIn-at x st lo f r l binary = refl
-  evalIn-at x st lo f r l clock = λ q. same-clockVal q x st (operator r) r.f1 l
-  evalIn-at x st lo f r l readElement = λ q. and_then (f r.f2 l) (λ i l. same-elementVal q x st r.f1 i l)
-  evalIn-at x st lo f r l skip = refl
-  evalIn-at x st lo f r l assign = refl
-  evalIn-at x st lo f r l externalSend = refl
-  evalIn-at x st lo f r l internalSend = refl
-  evalIn-at x st lo f r l arm = refl
-  evalIn-at x st lo f r l clockAct = refl
-  evalIn-at x st lo f r l call = refl
-  evalIn-at x st lo f r l choice = refl
-  evalIn-at x st lo f r l loop = refl
-  evalIn-at x st lo f r l sequence = refl
-  evalIn-at x st lo f r l assignElement = refl
-  evalIn-at x st lo f r l unknown = refl
+  eval_in_at : (x : Context) (st lo : List ℤ) (f : (ℕ → ℕ → Out)) (r : Record) (l : ℕ) (a : Form) → eval_in s x st lo f r l a ≡ eval_in s' x st lo f r l a
+  unfolding eval_in
+  eval_in_at x st lo f r l literal = λ q. same_within_lem q (literal_value x.element r) l
+  eval_in_at x st lo f r l read = λ q. same_read_val q x st lo r.f1 r.f2 l
+  eval_in_at x st lo f r l unary = refl
+  eval_in_at x st lo f r l binary = refl
+  eval_in_at x st lo f r l clock = λ q. same_clock_val q x st (operator r) r.f1 l
+  eval_in_at x st lo f r l read_element = λ q. and_then (f r.f2 l) (λ i l. same_element_val q x st r.f1 i l)
+  eval_in_at x st lo f r l skip = refl
+  eval_in_at x st lo f r l assign = refl
+  eval_in_at x st lo f r l external_send = refl
+  eval_in_at x st lo f r l internal_send = refl
+  eval_in_at x st lo f r l arm = refl
+  eval_in_at x st lo f r l clock_act = refl
+  eval_in_at x st lo f r l call = refl
+  eval_in_at x st lo f r l choice = refl
+  eval_in_at x st lo f r l loop = refl
+  eval_in_at x st lo f r l sequence = refl
+  eval_in_at x st lo f r l assign_element = refl
+  eval_in_at x st lo f r l unknown = refl
 
-  pub same-evalIn : evalIn s ≡ evalIn s'
-  same-evalIn = λ q x st lo f r l a. evalIn-at x st lo f r l a q
+  pub same_eval_in : eval_in s ≡ eval_in s'
+  same_eval_in = λ q x st lo f r l a. eval_in_at x st lo f r l a q
 
-  evalStep-at : (x : Context) (st lo : List ℤ) (f : (ℕ → ℕ → Out)) (n a : ℕ) → evalStep s x st lo f n a ≡ evalStep s' x st lo f n a
-  unfolding evalStep
-  evalStep-at x st lo f n zero = refl
-  evalStep-at x st lo f n (suc l) = λ q. onRecord (same_nodes h q n) (λ r. same-evalIn q x st lo f r l (form_of (operator r)))
+  eval_step_at : (x : Context) (st lo : List ℤ) (f : (ℕ → ℕ → Out)) (n a : ℕ) → eval_step s x st lo f n a ≡ eval_step s' x st lo f n a
+  unfolding eval_step
+  eval_step_at x st lo f n zero = refl
+  eval_step_at x st lo f n (suc l) = λ q. on_record (same_nodes h q n) (λ r. same_eval_in q x st lo f r l (form_of (operator r)))
 
-  pub same-evalStep : evalStep s ≡ evalStep s'
-  same-evalStep = λ q x st lo f n a. evalStep-at x st lo f n a q
+  pub same_eval_step : eval_step s ≡ eval_step s'
+  same_eval_step = λ q x st lo f n a. eval_step_at x st lo f n a q
 
-  evalF-at : (x : Context) (st lo : List ℤ) (a : ℕ) → evalF s x st lo a ≡ evalF s' x st lo a
-  unfolding evalF
-  evalF-at x st lo zero = λ q n l. Stuck
-  evalF-at x st lo (suc k) = λ q n l. same-evalStep q x st lo (evalF-at x st lo k q) n l
+  eval_f_at : (x : Context) (st lo : List ℤ) (a : ℕ) → eval_f s x st lo a ≡ eval_f s' x st lo a
+  unfolding eval_f
+  eval_f_at x st lo zero = λ q n l. Stuck
+  eval_f_at x st lo (suc k) = λ q n l. same_eval_step q x st lo (eval_f_at x st lo k q) n l
 
-  pub same-evalF : evalF s ≡ evalF s'
-  same-evalF = λ q x st lo a. evalF-at x st lo a q
+  pub same_eval_f : eval_f s ≡ eval_f s'
+  same_eval_f = λ q x st lo a. eval_f_at x st lo a q
 
-  pub same-evalOf : evalOf s ≡ evalOf s'
-  unfolding evalOf
-  same-evalOf = λ q x st lo n l. same-evalF q x st lo (suc l) n l
+  pub same_eval_of : eval_of s ≡ eval_of s'
+  unfolding eval_of
+  same_eval_of = λ q x st lo n l. same_eval_f q x st lo (suc l) n l

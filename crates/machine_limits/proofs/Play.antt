@@ -9,282 +9,282 @@ use lib.IntN.{ℤ, pos, ◌+ℤ◌, ◌-ℤ◌}
 use Rattle.sheet.specs.declared.Record.{Record}
 use Rattle.sheet.specs.declared.Found.TheVariants.{Present, Absent}
 use Rattle.sheet.specs.All.{◌and◌, all_below}
-use Rattle.sheet.specs.Names.{names, bodies, declaredType, data_of, external, chartVariables, chartBodies, bodyParameters, root, Timer-type, Timeout-type, isClock}
+use Rattle.sheet.specs.Names.{names, bodies, declared_type, data_of, external, chart_variables, chart_bodies, body_parameters, root, timer_type, timeout_type, is_clock}
 use Rattle.sheet_rules.specs.Fields.{holds}
-use Rattle.sheet_rules.specs.Types.{reactsTo}
+use Rattle.sheet_rules.specs.Types.{reacts_to}
 use Rattle.machine.specs.declared.Telegram.{Telegram}
 use Rattle.machine.specs.declared.Handed.TheVariants.{Nothing, Outside}
 use Rattle.machine.specs.declared.Ran.{Ran}
 use Rattle.machine.specs.declared.Ran.TheVariants.{Done, Refused, Stuck}
-use Rattle.machine.specs.Values.{isBelow, is_zero, sameWord}
-use Rattle.machine.specs.State.{places, cell_at, word_of, waiting, putWords, on, off, lost, counted}
-use Rattle.machine.specs.Valid.{datumOf}
-use Rattle.machine.specs.Run.{withRecord, provided}
+use Rattle.machine.specs.Values.{is_below, is_zero, same_word_lem}
+use Rattle.machine.specs.State.{places, cell_at, word_of, waiting, put_words, on, off, lost, counted}
+use Rattle.machine.specs.Valid.{datum_of}
+use Rattle.machine.specs.Run.{with_record, provided}
 use Rattle.machine.specs.Kinds.{Kind, kind_of}
-use Rattle.machine.specs.Play.{answer, bodyFrom, bodyWhere, hasPanic, isInitial, reactsOn, ranBody, elementBody, alone, eventEnd, bodyEvent}
-use Rattle.machine.specs.Play.{defaultCell, alike, defaultCells, elementCells, cellsFrom, defaultState, hasHead, elementThere, elementsThere, startNext}
-use Rattle.machine.specs.Play.{startFrom, started, oldestFrom, oldest, goesFrom, inner_of, taking, sameDeclared, brought, reacting}
-use Rattle.machine.specs.Play.{panicking, with_number, changeEnd, outside, bodiesThere, received, delivered, deliver, corrupt}
-use Rattle.machine.specs.Play.{inner, thenSlice, clockTelegram, fires, ticks, slicedCell, slicedEach, slicedVariable, slicedCells, slicedElement}
-use Rattle.machine.specs.Play.{slicedFrom, slice, restZero, boundWord, wellFormed, isEvent, telegramOfEvent, happensAs, happens, ended, stuck}
+use Rattle.machine.specs.Play.{answer, body_from, body_where, has_panic, is_initial, reacts_on, ran_body, element_body, alone, event_end, body_event}
+use Rattle.machine.specs.Play.{default_cell, alike, default_cells, element_cells, cells_from, default_state, has_head, element_there, elements_there, start_next}
+use Rattle.machine.specs.Play.{start_from, started, oldest_from, oldest, goes_from, inner_of, taking, same_declared, brought, reacting}
+use Rattle.machine.specs.Play.{panicking, with_number, change_end, outside, bodies_there, received, delivered, deliver, corrupt}
+use Rattle.machine.specs.Play.{inner, then_slice, clock_telegram, fires, ticks, sliced_cell, sliced_each, sliced_variable, sliced_cells, sliced_element}
+use Rattle.machine.specs.Play.{sliced_from, slice, rest_zero, bound_word, well_formed, is_event, telegram_of_event, happens_as, happens, ended, stuck}
 use Rattle.machine.specs.Kinds as kind
 use Rattle.sheet_limits.specs.ButLimit.{ButLimit}
-use Rattle.sheet_limits.proofs.Fields.{same-componentsOf, same-declaredSo, same-elementsOf, same-externalsOf, same-inSection, same-portsOf, same-typeAt}
-use Rattle.sheet_limits.proofs.Indices.{same-cellsTaken}
-use Rattle.sheet_limits.proofs.Records.{same-bodies, same-countOf, same-declarations, same-head-test}
-use Rattle.machine_limits.proofs.Run.{same-localsOf, same-localsThere, same-runOf}
-use Rattle.machine_limits.proofs.State.{same-appended, same-stateLength, same-telegramOf, same-withoutTelegram}
-use Rattle.machine_limits.proofs.Valid.{same-dataFit, same-nameFits}
-use Rattle.machine_limits.proofs.Values.{same-bindingAt, same-chartOf, same-defaultOf, same-firstCell, same-hasDefault, same-namesBy}
+use Rattle.sheet_limits.proofs.Fields.{same_components_of, same_declared_so, same_elements_of, same_externals_of, same_in_section, same_ports_of, same_type_at}
+use Rattle.sheet_limits.proofs.Indices.{same_cells_taken}
+use Rattle.sheet_limits.proofs.Records.{same_bodies, same_count_of, same_declarations, same_head_test}
+use Rattle.machine_limits.proofs.Run.{same_locals_of, same_locals_there, same_run_of}
+use Rattle.machine_limits.proofs.State.{same_appended, same_state_length, same_telegram_of, same_without_telegram}
+use Rattle.machine_limits.proofs.Valid.{same_data_fit, same_name_fits}
+use Rattle.machine_limits.proofs.Values.{same_binding_at, same_chart_of, same_default_of, same_first_cell, same_has_default, same_names_by}
 
 module _ {s s' : List ℕ} (h : ButLimit s s') where
-  pub same-hasHead : hasHead s ≡ hasHead s'
-  unfolding hasHead
-  same-hasHead = same-head-test h (λ r. true) (λ r. refl) 0
+  pub same_has_head : has_head s ≡ has_head s'
+  unfolding has_head
+  same_has_head = same_head_test h (λ r. true) (λ r. refl) 0
 
-  bodyFrom-at : (p : (Record → Bool)) (a : ℕ) → bodyFrom s p a ≡ bodyFrom s' p a
-  unfolding bodyFrom
-  bodyFrom-at p zero = λ q i. Absent
-  bodyFrom-at p (suc n) = λ q i. elim (holds (same-bodies h q i) p) [ true ↦ same-bodies h q i | false ↦ bodyFrom-at p n q (suc i) ]
+  body_from_at : (p : (Record → Bool)) (a : ℕ) → body_from s p a ≡ body_from s' p a
+  unfolding body_from
+  body_from_at p zero = λ q i. Absent
+  body_from_at p (suc n) = λ q i. elim (holds (same_bodies h q i) p) [ true ↦ same_bodies h q i | false ↦ body_from_at p n q (suc i) ]
 
-  pub same-bodyFrom : bodyFrom s ≡ bodyFrom s'
-  same-bodyFrom = λ q p a. bodyFrom-at p a q
+  pub same_body_from : body_from s ≡ body_from s'
+  same_body_from = λ q p a. body_from_at p a q
 
-  pub same-bodyWhere : bodyWhere s ≡ bodyWhere s'
-  unfolding bodyWhere
-  same-bodyWhere = λ q c p. same-bodyFrom q p (chartBodies c).count (chartBodies c).first
+  pub same_body_where : body_where s ≡ body_where s'
+  unfolding body_where
+  same_body_where = λ q c p. same_body_from q p (chart_bodies c).count (chart_bodies c).first
 
-  pub same-ranBody : ranBody s ≡ ranBody s'
-  unfolding ranBody
-  same-ranBody = λ q limit e f zs st.
-      withRecord (same-chartOf h q e) st [] (λ c.
-      withRecord f st [] (λ d.
-      provided (same-localsThere h q d) st []
-      (same-runOf h q 0 (record { element = e; chart = c; binding = same-bindingAt h q e; body = d }) (root d) limit st (same-localsOf h q d zs))))
+  pub same_ran_body : ran_body s ≡ ran_body s'
+  unfolding ran_body
+  same_ran_body = λ q limit e f zs st.
+      with_record (same_chart_of h q e) st [] (λ c.
+      with_record f st [] (λ d.
+      provided (same_locals_there h q d) st []
+      (same_run_of h q 0 (record { element = e; chart = c; binding = same_binding_at h q e; body = d }) (root d) limit st (same_locals_of h q d zs))))
 
-  pub same-elementBody : elementBody s ≡ elementBody s'
-  unfolding elementBody
-  same-elementBody = λ q e p. elim (same-chartOf h q e) [ Present c ↦ same-bodyWhere q c p | Absent ↦ Absent ]
+  pub same_element_body : element_body s ≡ element_body s'
+  unfolding element_body
+  same_element_body = λ q e p. elim (same_chart_of h q e) [ Present c ↦ same_body_where q c p | Absent ↦ Absent ]
 
-  pub same-bodyEvent : bodyEvent s ≡ bodyEvent s'
-  same-bodyEvent = λ q limit old e f zs st. let w = same-ranBody q limit e f zs st in eventEnd limit old w.ran w.st
+  pub same_body_event : body_event s ≡ body_event s'
+  same_body_event = λ q limit old e f zs st. let w = same_ran_body q limit e f zs st in event_end limit old w.ran w.st
 
-  pub same-defaultCell : defaultCell s ≡ defaultCell s'
-  unfolding defaultCell
-  same-defaultCell = λ q t. same-defaultOf h q t ∷ replicate 7 (pos 0)
+  pub same_default_cell : default_cell s ≡ default_cell s'
+  unfolding default_cell
+  same_default_cell = λ q t. same_default_of h q t ∷ replicate 7 (pos 0)
 
-  defaultCells-at : (a : ℕ) → defaultCells s a ≡ defaultCells s' a
-  unfolding defaultCells
-  defaultCells-at zero = λ q d. []
-  defaultCells-at (suc n) = λ q d. alike (same-cellsTaken h q d) (same-defaultCell q (same-typeAt h q d)) ++ defaultCells-at n q (suc d)
+  default_cells_at : (a : ℕ) → default_cells s a ≡ default_cells s' a
+  unfolding default_cells
+  default_cells_at zero = λ q d. []
+  default_cells_at (suc n) = λ q d. alike (same_cells_taken h q d) (same_default_cell q (same_type_at h q d)) ++ default_cells_at n q (suc d)
 
-  pub same-defaultCells : defaultCells s ≡ defaultCells s'
-  same-defaultCells = λ q a. defaultCells-at a q
+  pub same_default_cells : default_cells s ≡ default_cells s'
+  same_default_cells = λ q a. default_cells_at a q
 
-  pub same-elementCells : elementCells s ≡ elementCells s'
-  unfolding elementCells
-  same-elementCells = λ q e. elim (same-chartOf h q e) [ Present c ↦ same-defaultCells q (chartVariables c).count (chartVariables c).first | Absent ↦ [] ]
+  pub same_element_cells : element_cells s ≡ element_cells s'
+  unfolding element_cells
+  same_element_cells = λ q e. elim (same_chart_of h q e) [ Present c ↦ same_default_cells q (chart_variables c).count (chart_variables c).first | Absent ↦ [] ]
 
-  cellsFrom-at : (a : ℕ) → cellsFrom s a ≡ cellsFrom s' a
-  unfolding cellsFrom
-  cellsFrom-at zero = λ q e. []
-  cellsFrom-at (suc n) = λ q e. same-elementCells q e ++ cellsFrom-at n q (suc e)
+  cells_from_at : (a : ℕ) → cells_from s a ≡ cells_from s' a
+  unfolding cells_from
+  cells_from_at zero = λ q e. []
+  cells_from_at (suc n) = λ q e. same_element_cells q e ++ cells_from_at n q (suc e)
 
-  pub same-cellsFrom : cellsFrom s ≡ cellsFrom s'
-  same-cellsFrom = λ q a. cellsFrom-at a q
+  pub same_cells_from : cells_from s ≡ cells_from s'
+  same_cells_from = λ q a. cells_from_at a q
 
-  pub same-defaultState : defaultState s ≡ defaultState s'
-  unfolding defaultState
-  same-defaultState = λ q. replicate 8 (pos 0) ++ same-cellsFrom q (same-elementsOf h q) (same-externalsOf h q) ++ replicate (8 * places) (pos 0)
+  pub same_default_state : default_state s ≡ default_state s'
+  unfolding default_state
+  same_default_state = λ q. replicate 8 (pos 0) ++ same_cells_from q (same_elements_of h q) (same_externals_of h q) ++ replicate (8 * places) (pos 0)
 
-  pub same-elementThere : elementThere s ≡ elementThere s'
-  unfolding elementThere
-  same-elementThere = λ q e. holds (same-chartOf h q e) (λ c. all_below (chartVariables c).count (λ j. same-hasDefault h q ((chartVariables c).first + j)))
+  pub same_element_there : element_there s ≡ element_there s'
+  unfolding element_there
+  same_element_there = λ q e. holds (same_chart_of h q e) (λ c. all_below (chart_variables c).count (λ j. same_has_default h q ((chart_variables c).first + j)))
 
-  pub same-elementsThere : elementsThere s ≡ elementsThere s'
-  unfolding elementsThere
-  same-elementsThere = λ q. same-hasHead q and all_below (same-elementsOf h q) (λ i. same-elementThere q (same-externalsOf h q + i))
+  pub same_elements_there : elements_there s ≡ elements_there s'
+  unfolding elements_there
+  same_elements_there = λ q. same_has_head q and all_below (same_elements_of h q) (λ i. same_element_there q (same_externals_of h q + i))
 
-  startNextWithin-at : (limit k : ℕ) (a : Ran) → startNext s limit k a ≡ startNext s' limit k a
-  unfolding startNext
-  startNextWithin-at limit k (Done l) = λ q st K. K (k + (limit - l)) st
-  startNextWithin-at limit k (Refused n l) = λ q st K. ended (answer n (k + (limit - l)) Nothing) (replicate (same-stateLength h q) (pos 0))
-  startNextWithin-at limit k Stuck = λ q st K. stuck
+  start_next_within_at : (limit k : ℕ) (a : Ran) → start_next s limit k a ≡ start_next s' limit k a
+  unfolding start_next
+  start_next_within_at limit k (Done l) = λ q st K. K (k + (limit - l)) st
+  start_next_within_at limit k (Refused n l) = λ q st K. ended (answer n (k + (limit - l)) Nothing) (replicate (same_state_length h q) (pos 0))
+  start_next_within_at limit k Stuck = λ q st K. stuck
 
-  pub same-startNext : startNext s ≡ startNext s'
-  same-startNext = λ q limit k a. startNextWithin-at limit k a q
+  pub same_start_next : start_next s ≡ start_next s'
+  same_start_next = λ q limit k a. start_next_within_at limit k a q
 
-  startFromWithin-at : (limit a : ℕ) → startFrom s limit a ≡ startFrom s' limit a
-  unfolding startFrom
-  startFromWithin-at limit zero = λ q e k st. ended (answer 0 k Nothing) st
-  startFromWithin-at limit (suc n) = λ q e k st. let w = same-ranBody q limit e (alone (same-elementBody q e isInitial)) [] st in same-startNext q limit k w.ran w.st (λ k st. startFromWithin-at limit n q (suc e) k st)
+  start_from_within_at : (limit a : ℕ) → start_from s limit a ≡ start_from s' limit a
+  unfolding start_from
+  start_from_within_at limit zero = λ q e k st. ended (answer 0 k Nothing) st
+  start_from_within_at limit (suc n) = λ q e k st. let w = same_ran_body q limit e (alone (same_element_body q e is_initial)) [] st in same_start_next q limit k w.ran w.st (λ k st. start_from_within_at limit n q (suc e) k st)
 
-  pub same-startFrom : startFrom s ≡ startFrom s'
-  same-startFrom = λ q limit a. startFromWithin-at limit a q
+  pub same_start_from : start_from s ≡ start_from s'
+  same_start_from = λ q limit a. start_from_within_at limit a q
 
-  pub same-started : started s ≡ started s'
+  pub same_started : started s ≡ started s'
   unfolding started
-  same-started = λ q limit. elim (same-elementsThere q) [ true ↦ same-startFrom q limit (same-elementsOf h q) (same-externalsOf h q) 0 (same-defaultState q) | false ↦ stuck ]
+  same_started = λ q limit. elim (same_elements_there q) [ true ↦ same_start_from q limit (same_elements_of h q) (same_externals_of h q) 0 (same_default_state q) | false ↦ stuck ]
 
-  oldestFrom-at : (st : List ℤ) (p : (Telegram → Bool)) (a : ℕ) → oldestFrom s st p a ≡ oldestFrom s' st p a
-  unfolding oldestFrom
-  oldestFrom-at st p zero = λ q j. j
-  oldestFrom-at st p (suc n) = λ q j. elim (p (same-telegramOf h q st j)) [ true ↦ j | false ↦ oldestFrom-at st p n q (suc j) ]
+  oldest_from_at : (st : List ℤ) (p : (Telegram → Bool)) (a : ℕ) → oldest_from s st p a ≡ oldest_from s' st p a
+  unfolding oldest_from
+  oldest_from_at st p zero = λ q j. j
+  oldest_from_at st p (suc n) = λ q j. elim (p (same_telegram_of h q st j)) [ true ↦ j | false ↦ oldest_from_at st p n q (suc j) ]
 
-  pub same-oldestFrom : oldestFrom s ≡ oldestFrom s'
-  same-oldestFrom = λ q st p a. oldestFrom-at st p a q
+  pub same_oldest_from : oldest_from s ≡ oldest_from s'
+  same_oldest_from = λ q st p a. oldest_from_at st p a q
 
-  pub same-oldest : oldest s ≡ oldest s'
+  pub same_oldest : oldest s ≡ oldest s'
   unfolding oldest
-  same-oldest = λ q st p. same-oldestFrom q st p (waiting st) 0
+  same_oldest = λ q st p. same_oldest_from q st p (waiting st) 0
 
-  pub same-taking : taking s ≡ taking s'
+  pub same_taking : taking s ≡ taking s'
   unfolding taking
-  same-taking = λ q st p K. elim (counted st) [ true ↦ elim (ltb (same-oldest q st p) (waiting st)) [ true ↦ K (same-telegramOf h q st (same-oldest q st p)) (same-withoutTelegram h q st (same-oldest q st p)) | false ↦ ended (answer 5 0 Nothing) st ] | false ↦ stuck ]
+  same_taking = λ q st p K. elim (counted st) [ true ↦ elim (ltb (same_oldest q st p) (waiting st)) [ true ↦ K (same_telegram_of h q st (same_oldest q st p)) (same_without_telegram h q st (same_oldest q st p)) | false ↦ ended (answer 5 0 Nothing) st ] | false ↦ stuck ]
 
-  pub same-sameDeclared : sameDeclared s ≡ sameDeclared s'
-  unfolding sameDeclared
-  same-sameDeclared = λ q d d'. same-declaredSo h q d (λ t. same-declaredSo h q d' (eqb t))
+  pub same_same_declared : same_declared s ≡ same_declared s'
+  unfolding same_declared
+  same_same_declared = λ q d d'. same_declared_so h q d (λ t. same_declared_so h q d' (eqb t))
 
-  pub same-brought : brought s ≡ brought s'
+  pub same_brought : brought s ≡ brought s'
   unfolding brought
-  same-brought = λ q t b.
-      holds (same-namesBy h q t.name) (λ n.
-      eqb (data_of n).count (bodyParameters b).count
+  same_brought = λ q t b.
+      holds (same_names_by h q t.name) (λ n.
+      eqb (data_of n).count (body_parameters b).count
       and leb (data_of n).count 4
-      and all_below (data_of n).count (λ j. same-sameDeclared q ((data_of n).first + j) ((bodyParameters b).first + j))
-      and same-dataFit h q (data_of n) (datumOf t))
+      and all_below (data_of n).count (λ j. same_same_declared q ((data_of n).first + j) ((body_parameters b).first + j))
+      and same_data_fit h q (data_of n) (datum_of t))
 
-  pub same-reacting : reacting s ≡ reacting s'
+  pub same_reacting : reacting s ≡ reacting s'
   unfolding reacting
-  same-reacting = λ q limit old e f t st. elim (holds f (same-brought q t)) [ true ↦ same-bodyEvent q limit old e f (t.d0 ∷ t.d1 ∷ t.d2 ∷ t.d3 ∷ []) st | false ↦ stuck ]
+  same_reacting = λ q limit old e f t st. elim (holds f (same_brought q t)) [ true ↦ same_body_event q limit old e f (t.d0 ∷ t.d1 ∷ t.d2 ∷ t.d3 ∷ []) st | false ↦ stuck ]
 
-  pub same-panicking : panicking s ≡ panicking s'
+  pub same_panicking : panicking s ≡ panicking s'
   unfolding panicking
-  same-panicking = λ q limit old e st. same-bodyEvent q limit old e (alone (same-elementBody q e hasPanic)) [] st
+  same_panicking = λ q limit old e st. same_body_event q limit old e (alone (same_element_body q e has_panic)) [] st
 
-  pub same-outside : outside s ≡ outside s'
+  pub same_outside : outside s ≡ outside s'
   unfolding outside
-  same-outside = λ q st t. changeEnd st (same-appended h q st t)
+  same_outside = λ q st t. change_end st (same_appended h q st t)
 
-  pub same-bodiesThere : bodiesThere s ≡ bodiesThere s'
-  unfolding bodiesThere
-  same-bodiesThere = λ q e. holds (same-chartOf h q e) (λ c. same-inSection h q bodies (chartBodies c))
+  pub same_bodies_there : bodies_there s ≡ bodies_there s'
+  unfolding bodies_there
+  same_bodies_there = λ q e. holds (same_chart_of h q e) (λ c. same_in_section h q bodies (chart_bodies c))
 
   pub same_received : received s ≡ received s'
   unfolding received
   same_received = λ q limit old t st e p n.
-      elim (same-elementBody q e (reactsOn p n)) [
-        | Present b ↦ same-reacting q limit old e (Present b) t st
-        | Absent ↦ elim (same-bodiesThere q e) [ true ↦ same-panicking q limit old e st | false ↦ stuck ]
+      elim (same_element_body q e (reacts_on p n)) [
+        | Present b ↦ same_reacting q limit old e (Present b) t st
+        | Absent ↦ elim (same_bodies_there q e) [ true ↦ same_panicking q limit old e st | false ↦ stuck ]
       ]
 
-  pub same-delivered : delivered s ≡ delivered s'
+  pub same_delivered : delivered s ≡ delivered s'
   unfolding delivered
-  same-delivered = λ q limit old t st.
-      elim (isBelow t.receiver (same-externalsOf h q)) [
+  same_delivered = λ q limit old t st.
+      elim (is_below t.receiver (same_externals_of h q)) [
         | true ↦ ended (answer 0 0 (Outside t)) st
         | false ↦ with_number t.receiver (λ e. with_number t.port (λ p. with_number t.name (λ n. same_received q limit old t st e p n)))
       ]
 
-  pub same-deliver : deliver s ≡ deliver s'
+  pub same_deliver : deliver s ≡ deliver s'
   unfolding deliver
-  same-deliver = λ q limit st a r. same-taking q st (goesFrom a r) (same-delivered q limit st)
+  same_deliver = λ q limit st a r. same_taking q st (goes_from a r) (same_delivered q limit st)
 
-  pub same-corrupt : corrupt s ≡ corrupt s'
+  pub same_corrupt : corrupt s ≡ corrupt s'
   unfolding corrupt
-  same-corrupt = λ q limit st a r. same-taking q st (goesFrom a r) (λ t st'. with_number r (λ e. same-panicking q limit st e st'))
+  same_corrupt = λ q limit st a r. same_taking q st (goes_from a r) (λ t st'. with_number r (λ e. same_panicking q limit st e st'))
 
-  pub same-inner : inner s ≡ inner s'
+  pub same_inner : inner s ≡ inner s'
   unfolding inner
-  same-inner = λ q limit st r. same-taking q st (inner_of r) (λ t st'. with_number r (λ e. with_number t.name (λ n. same-reacting q limit st e (same-elementBody q e (reactsTo n)) t st')))
+  same_inner = λ q limit st r. same_taking q st (inner_of r) (λ t st'. with_number r (λ e. with_number t.name (λ n. same_reacting q limit st e (same_element_body q e (reacts_to n)) t st')))
 
-  pub same-fires : fires s ≡ fires s'
+  pub same_fires : fires s ≡ fires s'
   unfolding fires
-  same-fires = λ q e at ws st. elim (isBelow (word_of st (at + 3)) (same-countOf h q names)) [ true ↦ thenSlice (same-appended h q st (clockTelegram e st at)) (λ st'. on (putWords st' at ws)) | false ↦ lost ]
+  same_fires = λ q e at ws st. elim (is_below (word_of st (at + 3)) (same_count_of h q names)) [ true ↦ then_slice (same_appended h q st (clock_telegram e st at)) (λ st'. on (put_words st' at ws)) | false ↦ lost ]
 
-  pub same-ticks : ticks s ≡ ticks s'
+  pub same_ticks : ticks s ≡ ticks s'
   unfolding ticks
-  same-ticks = λ q e t at st.
-      elim (eqb t Timer-type) [
-        | true ↦ elim (sameWord (word_of st (at + 1)) (pos 2147483647)) [ true ↦ off 6 | false ↦ on (set st (at + 1) (word_of st (at + 1) +ℤ pos 1)) ]
-        | false ↦ elim (eqb t Timeout-type) [
-          | true ↦ elim (sameWord (word_of st (at + 1)) (pos 1)) [ true ↦ same-fires q e at (replicate 8 (pos 0)) st | false ↦ on (set st (at + 1) (word_of st (at + 1) -ℤ pos 1)) ]
-          | false ↦ elim (is_zero (word_of st (at + 1))) [ true ↦ same-fires q e at (pos 1 ∷ (word_of st (at + 2) -ℤ pos 1) ∷ []) st | false ↦ on (set st (at + 1) (word_of st (at + 1) -ℤ pos 1)) ]
+  same_ticks = λ q e t at st.
+      elim (eqb t timer_type) [
+        | true ↦ elim (same_word_lem (word_of st (at + 1)) (pos 2147483647)) [ true ↦ off 6 | false ↦ on (set st (at + 1) (word_of st (at + 1) +ℤ pos 1)) ]
+        | false ↦ elim (eqb t timeout_type) [
+          | true ↦ elim (same_word_lem (word_of st (at + 1)) (pos 1)) [ true ↦ same_fires q e at (replicate 8 (pos 0)) st | false ↦ on (set st (at + 1) (word_of st (at + 1) -ℤ pos 1)) ]
+          | false ↦ elim (is_zero (word_of st (at + 1))) [ true ↦ same_fires q e at (pos 1 ∷ (word_of st (at + 2) -ℤ pos 1) ∷ []) st | false ↦ on (set st (at + 1) (word_of st (at + 1) -ℤ pos 1)) ]
         ]
       ]
 
-  pub same-slicedCell : slicedCell s ≡ slicedCell s'
-  unfolding slicedCell
-  same-slicedCell = λ q e t at st. elim (isClock t and not (is_zero (word_of st at))) [ true ↦ same-ticks q e t at st | false ↦ on st ]
+  pub same_sliced_cell : sliced_cell s ≡ sliced_cell s'
+  unfolding sliced_cell
+  same_sliced_cell = λ q e t at st. elim (is_clock t and not (is_zero (word_of st at))) [ true ↦ same_ticks q e t at st | false ↦ on st ]
 
-  slicedEach-at : (e t a : ℕ) → slicedEach s e t a ≡ slicedEach s' e t a
-  unfolding slicedEach
-  slicedEach-at e t zero = λ q i st. on st
-  slicedEach-at e t (suc n) = λ q i st. thenSlice (same-slicedCell q e t (cell_at i) st) (slicedEach-at e t n q (suc i))
+  sliced_each_at : (e t a : ℕ) → sliced_each s e t a ≡ sliced_each s' e t a
+  unfolding sliced_each
+  sliced_each_at e t zero = λ q i st. on st
+  sliced_each_at e t (suc n) = λ q i st. then_slice (same_sliced_cell q e t (cell_at i) st) (sliced_each_at e t n q (suc i))
 
-  pub same-slicedEach : slicedEach s ≡ slicedEach s'
-  same-slicedEach = λ q e t a. slicedEach-at e t a q
+  pub same_sliced_each : sliced_each s ≡ sliced_each s'
+  same_sliced_each = λ q e t a. sliced_each_at e t a q
 
-  pub same-slicedVariable : slicedVariable s ≡ slicedVariable s'
-  unfolding slicedVariable
-  same-slicedVariable = λ q e d i st. elim (same-declarations h q d) [ Present r ↦ same-slicedEach q e (declaredType r) (same-cellsTaken h q d) i st | Absent ↦ lost ]
+  pub same_sliced_variable : sliced_variable s ≡ sliced_variable s'
+  unfolding sliced_variable
+  same_sliced_variable = λ q e d i st. elim (same_declarations h q d) [ Present r ↦ same_sliced_each q e (declared_type r) (same_cells_taken h q d) i st | Absent ↦ lost ]
 
-  slicedCells-at : (e a : ℕ) → slicedCells s e a ≡ slicedCells s' e a
-  unfolding slicedCells
-  slicedCells-at e zero = λ q d i st. on st
-  slicedCells-at e (suc n) = λ q d i st. thenSlice (same-slicedVariable q e d i st) (slicedCells-at e n q (suc d) (i + same-cellsTaken h q d))
+  sliced_cells_at : (e a : ℕ) → sliced_cells s e a ≡ sliced_cells s' e a
+  unfolding sliced_cells
+  sliced_cells_at e zero = λ q d i st. on st
+  sliced_cells_at e (suc n) = λ q d i st. then_slice (same_sliced_variable q e d i st) (sliced_cells_at e n q (suc d) (i + same_cells_taken h q d))
 
-  pub same-slicedCells : slicedCells s ≡ slicedCells s'
-  same-slicedCells = λ q e a. slicedCells-at e a q
+  pub same_sliced_cells : sliced_cells s ≡ sliced_cells s'
+  same_sliced_cells = λ q e a. sliced_cells_at e a q
 
-  pub same-slicedElement : slicedElement s ≡ slicedElement s'
-  unfolding slicedElement
-  same-slicedElement = λ q e st. elim (same-chartOf h q e) [ Present c ↦ same-slicedCells q e (chartVariables c).count (chartVariables c).first (same-firstCell h q e) st | Absent ↦ lost ]
+  pub same_sliced_element : sliced_element s ≡ sliced_element s'
+  unfolding sliced_element
+  same_sliced_element = λ q e st. elim (same_chart_of h q e) [ Present c ↦ same_sliced_cells q e (chart_variables c).count (chart_variables c).first (same_first_cell h q e) st | Absent ↦ lost ]
 
-  slicedFrom-at : (a : ℕ) → slicedFrom s a ≡ slicedFrom s' a
-  unfolding slicedFrom
-  slicedFrom-at zero = λ q e st. on st
-  slicedFrom-at (suc n) = λ q e st. thenSlice (same-slicedElement q e st) (slicedFrom-at n q (suc e))
+  sliced_from_at : (a : ℕ) → sliced_from s a ≡ sliced_from s' a
+  unfolding sliced_from
+  sliced_from_at zero = λ q e st. on st
+  sliced_from_at (suc n) = λ q e st. then_slice (same_sliced_element q e st) (sliced_from_at n q (suc e))
 
-  pub same-slicedFrom : slicedFrom s ≡ slicedFrom s'
-  same-slicedFrom = λ q a. slicedFrom-at a q
+  pub same_sliced_from : sliced_from s ≡ sliced_from s'
+  same_sliced_from = λ q a. sliced_from_at a q
 
-  pub same-slice : slice s ≡ slice s'
+  pub same_slice : slice s ≡ slice s'
   unfolding slice
-  same-slice = λ q st. changeEnd st (elim (same-hasHead q) [ true ↦ same-slicedFrom q (same-elementsOf h q) (same-externalsOf h q) st | false ↦ lost ])
+  same_slice = λ q st. change_end st (elim (same_has_head q) [ true ↦ same_sliced_from q (same_elements_of h q) (same_externals_of h q) st | false ↦ lost ])
 
-  pub same-boundWord : boundWord s ≡ boundWord s'
-  same-boundWord = λ q z. isBelow z (same-componentsOf h q) and not (isBelow z (same-externalsOf h q))
+  pub same_bound_word : bound_word s ≡ bound_word s'
+  same_bound_word = λ q z. is_below z (same_components_of h q) and not (is_below z (same_externals_of h q))
 
-  wellFormed-at : (ev : List ℤ) (a : Kind) → wellFormed s ev a ≡ wellFormed s' ev a
-  unfolding wellFormed
-  wellFormed-at ev kind.outside = λ q. isBelow (word_of ev 1) (same-externalsOf h q) and same-boundWord q (word_of ev 2) and isBelow (word_of ev 3) (same-portsOf h q) and same-nameFits h q external (word_of ev 4) (λ j. word_of ev (5 + j))
-  wellFormed-at ev kind.deliver = λ q. isBelow (word_of ev 1) (same-componentsOf h q) and isBelow (word_of ev 2) (same-componentsOf h q) and not (isBelow (word_of ev 1) (same-externalsOf h q) and isBelow (word_of ev 2) (same-externalsOf h q)) and restZero ev 3
-  wellFormed-at ev kind.corrupt = λ q. isBelow (word_of ev 1) (same-componentsOf h q) and same-boundWord q (word_of ev 2) and restZero ev 3
-  wellFormed-at ev kind.inner = λ q. is_zero (word_of ev 1) and isBelow (word_of ev 2) (same-componentsOf h q) and restZero ev 3
-  wellFormed-at ev kind.slice = refl
-  wellFormed-at ev kind.noKind = refl
+  well_formed_at : (ev : List ℤ) (a : Kind) → well_formed s ev a ≡ well_formed s' ev a
+  unfolding well_formed
+  well_formed_at ev kind.outside = λ q. is_below (word_of ev 1) (same_externals_of h q) and same_bound_word q (word_of ev 2) and is_below (word_of ev 3) (same_ports_of h q) and same_name_fits h q external (word_of ev 4) (λ j. word_of ev (5 + j))
+  well_formed_at ev kind.deliver = λ q. is_below (word_of ev 1) (same_components_of h q) and is_below (word_of ev 2) (same_components_of h q) and not (is_below (word_of ev 1) (same_externals_of h q) and is_below (word_of ev 2) (same_externals_of h q)) and rest_zero ev 3
+  well_formed_at ev kind.corrupt = λ q. is_below (word_of ev 1) (same_components_of h q) and same_bound_word q (word_of ev 2) and rest_zero ev 3
+  well_formed_at ev kind.inner = λ q. is_zero (word_of ev 1) and is_below (word_of ev 2) (same_components_of h q) and rest_zero ev 3
+  well_formed_at ev kind.slice = refl
+  well_formed_at ev kind.no_kind = refl
 
-  pub same-wellFormed : wellFormed s ≡ wellFormed s'
-  same-wellFormed = λ q ev a. wellFormed-at ev a q
+  pub same_well_formed : well_formed s ≡ well_formed s'
+  same_well_formed = λ q ev a. well_formed_at ev a q
 
-  pub same-isEvent : isEvent s ≡ isEvent s'
-  unfolding isEvent
-  same-isEvent = λ q ev. eqb (length ev) 9 and same-wellFormed q ev (kind_of (word_of ev 0))
+  pub same_is_event : is_event s ≡ is_event s'
+  unfolding is_event
+  same_is_event = λ q ev. eqb (length ev) 9 and same_well_formed q ev (kind_of (word_of ev 0))
 
-  happensAsWithin-at : (limit : ℕ) (st ev : List ℤ) (a : Kind) → happensAs s limit st ev a ≡ happensAs s' limit st ev a
-  unfolding happensAs
-  happensAsWithin-at limit st ev kind.outside = λ q. same-outside q st (telegramOfEvent ev)
-  happensAsWithin-at limit st ev kind.deliver = λ q. same-deliver q limit st (word_of ev 1) (word_of ev 2)
-  happensAsWithin-at limit st ev kind.corrupt = λ q. same-corrupt q limit st (word_of ev 1) (word_of ev 2)
-  happensAsWithin-at limit st ev kind.inner = λ q. same-inner q limit st (word_of ev 2)
-  happensAsWithin-at limit st ev kind.slice = λ q. same-slice q st
-  happensAsWithin-at limit st ev kind.noKind = refl
+  happens_as_within_at : (limit : ℕ) (st ev : List ℤ) (a : Kind) → happens_as s limit st ev a ≡ happens_as s' limit st ev a
+  unfolding happens_as
+  happens_as_within_at limit st ev kind.outside = λ q. same_outside q st (telegram_of_event ev)
+  happens_as_within_at limit st ev kind.deliver = λ q. same_deliver q limit st (word_of ev 1) (word_of ev 2)
+  happens_as_within_at limit st ev kind.corrupt = λ q. same_corrupt q limit st (word_of ev 1) (word_of ev 2)
+  happens_as_within_at limit st ev kind.inner = λ q. same_inner q limit st (word_of ev 2)
+  happens_as_within_at limit st ev kind.slice = λ q. same_slice q st
+  happens_as_within_at limit st ev kind.no_kind = refl
 
-  pub same-happensAs : happensAs s ≡ happensAs s'
-  same-happensAs = λ q limit st ev a. happensAsWithin-at limit st ev a q
+  pub same_happens_as : happens_as s ≡ happens_as s'
+  same_happens_as = λ q limit st ev a. happens_as_within_at limit st ev a q
 
-  pub same-happens : happens s ≡ happens s'
+  pub same_happens : happens s ≡ happens s'
   unfolding happens
-  same-happens = λ q limit st ev. same-happensAs q limit st ev (kind_of (word_of ev 0))
+  same_happens = λ q limit st ev. same_happens_as q limit st ev (kind_of (word_of ev 0))

@@ -6,82 +6,82 @@ use mathlib.Core.Path.{◌≡◌, refl}
 use lib.Dec.{ltb, leb}
 use lib.IntN.{ℤ, pos, negsuc}
 use Rattle.sheet.specs.declared.Found.TheVariants.{Present, Absent}
-use Rattle.sheet.specs.Names.{defaultMember, boundChart, isClock, names}
+use Rattle.sheet.specs.Names.{default_member, bound_chart, is_clock, names}
 use Rattle.sheet.specs.All.{◌and◌}
-use Rattle.sheet_rules.specs.Fields.{numberOr0, sumBelow}
-use Rattle.sheet_rules.specs.DataTypes.{DataType, bool, int, component, port, enumeratedType, noData, dataTypeOf}
-use Rattle.machine.specs.Values.{fits32, isBelow, recordBy, inDataType, inType, defaultIn, defaultOf, hasDefault, isBound, bindingAt, bindingOf, chartOf, firstCell}
+use Rattle.sheet_rules.specs.Fields.{number_or0, sum_below}
+use Rattle.sheet_rules.specs.DataTypes.{DataType, bool, int, component, port, enumerated_type, no_data, data_type_of}
+use Rattle.machine.specs.Values.{fits32, is_below, record_by, in_data_type, in_type, default_in, default_of, has_default, is_bound_lem, binding_at, binding_of, chart_of, first_cell}
 use Rattle.sheet_limits.specs.ButLimit.{ButLimit}
-use Rattle.sheet_limits.proofs.Fields.{same-componentsOf, same-declaredSo, same-externalsOf, same-membersOf, same-portsOf}
-use Rattle.sheet_limits.proofs.Records.{same-bindings, same-charts, same-enumeratedTypes, same-recordOf}
-use Rattle.sheet_limits.proofs.Bindings.{same-firstBinding}
-use Rattle.sheet_limits.proofs.Shape.{same-cellsBound}
+use Rattle.sheet_limits.proofs.Fields.{same_components_of, same_declared_so, same_externals_of, same_members_of, same_ports_of}
+use Rattle.sheet_limits.proofs.Records.{same_bindings, same_charts, same_enumerated_types, same_record_of}
+use Rattle.sheet_limits.proofs.Bindings.{same_first_binding}
+use Rattle.sheet_limits.proofs.Shape.{same_cells_bound}
 
 module _ {s s' : List ℕ} (h : ButLimit s s') where
-  recordBy-at : (k : ℕ) (a : ℤ) → recordBy s (suc k) a ≡ recordBy s' (suc k) a
-  unfolding recordBy
-  recordBy-at k (pos n) = λ q. same-recordOf h k q n
-  recordBy-at k (negsuc n) = refl
+  record_by_at : (k : ℕ) (a : ℤ) → record_by s (suc k) a ≡ record_by s' (suc k) a
+  unfolding record_by
+  record_by_at k (pos n) = λ q. same_record_of h k q n
+  record_by_at k (negsuc n) = refl
 
   -- of any section but the head
-  pub same-recordBy : (k : ℕ) → recordBy s (suc k) ≡ recordBy s' (suc k)
-  same-recordBy k = λ q a. recordBy-at k a q
+  pub same_record_by : (k : ℕ) → record_by s (suc k) ≡ record_by s' (suc k)
+  same_record_by k = λ q a. record_by_at k a q
 
-  pub same-namesBy : recordBy s names ≡ recordBy s' names
-  same-namesBy = same-recordBy 2
+  pub same_names_by : record_by s names ≡ record_by s' names
+  same_names_by = same_record_by 2
 
-  inDataType-at : (a : DataType) → inDataType s a ≡ inDataType s' a
-  unfolding inDataType
-  inDataType-at bool = λ q z. isBelow z 2
-  inDataType-at int = λ q z. fits32 z
-  inDataType-at component = λ q z. isBelow z (same-componentsOf h q)
-  inDataType-at port = λ q z. isBelow z (same-portsOf h q)
-  inDataType-at (enumeratedType k) = λ q z. isBelow z (same-membersOf h q k)
-  inDataType-at noData = λ q z. false
+  in_data_type_at : (a : DataType) → in_data_type s a ≡ in_data_type s' a
+  unfolding in_data_type
+  in_data_type_at bool = λ q z. is_below z 2
+  in_data_type_at int = λ q z. fits32 z
+  in_data_type_at component = λ q z. is_below z (same_components_of h q)
+  in_data_type_at port = λ q z. is_below z (same_ports_of h q)
+  in_data_type_at (enumerated_type k) = λ q z. is_below z (same_members_of h q k)
+  in_data_type_at no_data = λ q z. false
 
-  pub same-inDataType : inDataType s ≡ inDataType s'
-  same-inDataType = λ q a. inDataType-at a q
+  pub same_in_data_type : in_data_type s ≡ in_data_type s'
+  same_in_data_type = λ q a. in_data_type_at a q
 
-  pub same-inType : inType s ≡ inType s'
-  unfolding inType
-  same-inType = λ q t z. same-inDataType q (dataTypeOf t) z
+  pub same_in_type : in_type s ≡ in_type s'
+  unfolding in_type
+  same_in_type = λ q t z. same_in_data_type q (data_type_of t) z
 
-  defaultIn-at : (a : DataType) → defaultIn s a ≡ defaultIn s' a
-  unfolding defaultIn
-  defaultIn-at bool = refl
-  defaultIn-at int = refl
-  defaultIn-at component = refl
-  defaultIn-at port = refl
-  defaultIn-at (enumeratedType k) = λ q. pos (numberOr0 (same-enumeratedTypes h q k) defaultMember)
-  defaultIn-at noData = refl
+  default_in_at : (a : DataType) → default_in s a ≡ default_in s' a
+  unfolding default_in
+  default_in_at bool = refl
+  default_in_at int = refl
+  default_in_at component = refl
+  default_in_at port = refl
+  default_in_at (enumerated_type k) = λ q. pos (number_or0 (same_enumerated_types h q k) default_member)
+  default_in_at no_data = refl
 
-  pub same-defaultIn : defaultIn s ≡ defaultIn s'
-  same-defaultIn = λ q a. defaultIn-at a q
+  pub same_default_in : default_in s ≡ default_in s'
+  same_default_in = λ q a. default_in_at a q
 
-  pub same-defaultOf : defaultOf s ≡ defaultOf s'
-  unfolding defaultOf
-  same-defaultOf = λ q t. same-defaultIn q (dataTypeOf t)
+  pub same_default_of : default_of s ≡ default_of s'
+  unfolding default_of
+  same_default_of = λ q t. same_default_in q (data_type_of t)
 
-  pub same-hasDefault : hasDefault s ≡ hasDefault s'
-  unfolding hasDefault
-  same-hasDefault = λ q d. same-declaredSo h q d (λ t. elim (isClock t) [ true ↦ true | false ↦ same-inType q t (same-defaultOf q t) ])
+  pub same_has_default : has_default s ≡ has_default s'
+  unfolding has_default
+  same_has_default = λ q d. same_declared_so h q d (λ t. elim (is_clock t) [ true ↦ true | false ↦ same_in_type q t (same_default_of q t) ])
 
-  pub same-isBound : isBound s ≡ isBound s'
-  unfolding isBound
-  same-isBound = λ q e. leb (same-externalsOf h q) e and ltb e (same-componentsOf h q)
+  pub same_is_bound : is_bound_lem s ≡ is_bound_lem s'
+  unfolding is_bound_lem
+  same_is_bound = λ q e. leb (same_externals_of h q) e and ltb e (same_components_of h q)
 
-  pub same-bindingAt : bindingAt s ≡ bindingAt s'
-  unfolding bindingAt
-  same-bindingAt = λ q e. same-firstBinding h q (e - same-externalsOf h q)
+  pub same_binding_at : binding_at s ≡ binding_at s'
+  unfolding binding_at
+  same_binding_at = λ q e. same_first_binding h q (e - same_externals_of h q)
 
-  pub same-bindingOf : bindingOf s ≡ bindingOf s'
-  unfolding bindingOf
-  same-bindingOf = λ q e. elim (same-isBound q e) [ true ↦ same-bindings h q (same-bindingAt q e) | false ↦ Absent ]
+  pub same_binding_of : binding_of s ≡ binding_of s'
+  unfolding binding_of
+  same_binding_of = λ q e. elim (same_is_bound q e) [ true ↦ same_bindings h q (same_binding_at q e) | false ↦ Absent ]
 
-  pub same-chartOf : chartOf s ≡ chartOf s'
-  unfolding chartOf
-  same-chartOf = λ q e. elim (same-bindingOf q e) [ Present b ↦ same-charts h q (boundChart b) | Absent ↦ Absent ]
+  pub same_chart_of : chart_of s ≡ chart_of s'
+  unfolding chart_of
+  same_chart_of = λ q e. elim (same_binding_of q e) [ Present b ↦ same_charts h q (bound_chart b) | Absent ↦ Absent ]
 
-  pub same-firstCell : firstCell s ≡ firstCell s'
-  unfolding firstCell
-  same-firstCell = λ q e. sumBelow (e - same-externalsOf h q) (same-cellsBound h q)
+  pub same_first_cell : first_cell s ≡ first_cell s'
+  unfolding first_cell
+  same_first_cell = λ q e. sum_below (e - same_externals_of h q) (same_cells_bound h q)

@@ -15,48 +15,48 @@ use Rattle.sheet.proofs.All.{and-true}
 use Rattle.machine.specs.declared.Ran.{Ran}
 use Rattle.machine.specs.declared.Ran.TheVariants.{Done, Refused, Stuck}
 use Rattle.sheet_rules.specs.declared.Checked.TheVariants.{Passed}
-use Rattle.sheet_rules.specs.Fields.{componentsOf, externalsOf, elementsOf}
-use Rattle.machine.specs.Values.{isBound}
-use Rattle.machine.specs.State.{stateLength}
+use Rattle.sheet_rules.specs.Fields.{components_of, externals_of, elements_of}
+use Rattle.machine.specs.Values.{is_bound_lem}
+use Rattle.machine.specs.State.{state_length}
 use Rattle.machine.specs.Valid.{OfSheet}
 use Rattle.machine.specs.Eval.{Context}
-use Rattle.machine.specs.Play.{Outcome, stuck, isInitial, ranBody, alone, defaultState, startNext, startFrom, started, turnedDown, ifPassed, startCall, limitOf}
-use Rattle.sheet_rules.specs.Check.{checkOf}
+use Rattle.machine.specs.Play.{Outcome, stuck, is_initial, ran_body, alone, default_state, start_next, start_from, started, turned_down, if_passed, start_call, limit_of}
+use Rattle.sheet_rules.specs.Check.{check_of}
 use Rattle.machine_passed.proofs.Records.{elements-rest}
 use Rattle.machine_passed.proofs.Charts.{bound-element, where_found, initial-there}
 use Rattle.machine_passed.proofs.Declared.{elements-there}
-use Rattle.machine_states.proofs.Default.{default-of-sheet}
+use Rattle.machine_states.proofs.Default.{default_of_sheet}
 use Rattle.machine_sound.specs.Gives.{Ends}
 use Rattle.machine_promise.specs.Promise.{StartKept}
-use Rattle.machine_promise.proofs.Bodies.{body_of, ran_ends, no-parameters, runs-alone}
+use Rattle.machine_promise.proofs.Bodies.{body_of, ran_ends, no_parameters, runs-alone}
 
-module _ (s : List ℕ) (ok : checkOf s ≡ Passed) where
-  next-kept : (x : Context) (k : ℕ) (r : Ran) (st lo : List ℤ) (K : ℕ → List ℤ → Outcome) → Ends s x r st lo → ((k : ℕ) → OfSheet s st → StartKept s (K k st)) → StartKept s (startNext s (limitOf s) k r st K)
-  unfolding startNext
-  next-kept x k (Done l) st lo K h p = p _ h.0
-  next-kept x k (Refused n l) st lo K h p = (inr h, λ z. absurd (let m = h.0 in omega arith))
-  next-kept x k Stuck st lo K h p = h
+module _ (s : List ℕ) (ok : check_of s ≡ Passed) where
+  next_kept : (x : Context) (k : ℕ) (r : Ran) (st lo : List ℤ) (K : ℕ → List ℤ → Outcome) → Ends s x r st lo → ((k : ℕ) → OfSheet s st → StartKept s (K k st)) → StartKept s (start_next s (limit_of s) k r st K)
+  unfolding start_next
+  next_kept x k (Done l) st lo K h p = p _ h.0
+  next_kept x k (Refused n l) st lo K h p = (inr h, λ z. absurd (let m = h.0 in omega arith))
+  next_kept x k Stuck st lo K h p = h
 
   -- the initial bodies of n elements from e on
-  from-kept : (n e k : ℕ) (st : List ℤ) → externalsOf s ≤ e → e + n ≤ componentsOf s → OfSheet s st → StartKept s (startFrom s (limitOf s) n e k st)
-  unfolding startFrom isBound
-  from-kept zero e k st l m o = (inl refl, λ z. o)
-  from-kept (suc n) e k st l m o =
-      let x = bound-element s ok e (and-true _ _ (le-leb (externalsOf s) e l) (lt-ltb e (componentsOf s) (omega arith))) in
+  from_kept : (n e k : ℕ) (st : List ℤ) → externals_of s ≤ e → e + n ≤ components_of s → OfSheet s st → StartKept s (start_from s (limit_of s) n e k st)
+  unfolding start_from is_bound_lem
+  from_kept zero e k st l m o = (inl refl, λ z. o)
+  from_kept (suc n) e k st l m o =
+      let x = bound-element s ok e (and-true _ _ (le-leb (externals_of s) e l) (lt-ltb e (components_of s) (omega arith))) in
       let i = initial-there s ok _ x.1 x.2.chart in
-      let f = where_found s isInitial x.1 i.0 i.1 in
+      let f = where_found s is_initial x.1 i.0 i.1 in
       let none : role i.0 ≡ initial = eqb-true _ _ f.1 in
-      subst (λ g. StartKept s (startNext s (limitOf s) k (ranBody s (limitOf s) e g [] st).ran (ranBody s (limitOf s) e g [] st).st (λ k st. startFrom s (limitOf s) n (suc e) k st))) (sym (ap alone (body_of s ok e x.0 x.1 x.2 isInitial ∙ i.1) ∙ runs-alone s ok e x.0 x.1 x.2 i.0 f.0 (omega arith)))
-      (next-kept _ k _ _ _ _ (ran_ends s ok e x.0 x.1 x.2 i.0 f.0 [] st o (no-parameters s ok e x.0 x.1 x.2 i.0 f.0 (omega arith) [])) (λ k o'. from-kept n (suc e) k _ (omega arith) (omega arith) o'))
+      subst (λ g. StartKept s (start_next s (limit_of s) k (ran_body s (limit_of s) e g [] st).ran (ran_body s (limit_of s) e g [] st).st (λ k st. start_from s (limit_of s) n (suc e) k st))) (sym (ap alone (body_of s ok e x.0 x.1 x.2 is_initial ∙ i.1) ∙ runs-alone s ok e x.0 x.1 x.2 i.0 f.0 (omega arith)))
+      (next_kept _ k _ _ _ _ (ran_ends s ok e x.0 x.1 x.2 i.0 f.0 [] st o (no_parameters s ok e x.0 x.1 x.2 i.0 f.0 (omega arith) [])) (λ k o'. from_kept n (suc e) k _ (omega arith) (omega arith) o'))
 
-  called : (lent : List ℤ) → length lent ≡ stateLength s → startCall s (limitOf s) lent ≡ started s (limitOf s)
-  unfolding startCall ifPassed
+  called : (lent : List ℤ) → length lent ≡ state_length s → start_call s (limit_of s) lent ≡ started s (limit_of s)
+  unfolding start_call if_passed
   called lent h =
-      ap (λ c. ifPassed c lent (λ result. elim (eqb (length result) (stateLength s)) [ true ↦ started s (limitOf s) | false ↦ turnedDown 3 result ])) ok
-      ∙ ap (λ b. elim b as (λ b. Outcome) [ true ↦ started s (limitOf s) | false ↦ turnedDown 3 lent ]) (eq-eqb (length lent) (stateLength s) h)
+      ap (λ c. if_passed c lent (λ result. elim (eqb (length result) (state_length s)) [ true ↦ started s (limit_of s) | false ↦ turned_down 3 result ])) ok
+      ∙ ap (λ b. elim b as (λ b. Outcome) [ true ↦ started s (limit_of s) | false ↦ turned_down 3 lent ]) (eq-eqb (length lent) (state_length s) h)
 
-  pub start-kept : (lent : List ℤ) → length lent ≡ stateLength s → StartKept s (startCall s (limitOf s) lent)
+  pub start-kept : (lent : List ℤ) → length lent ≡ state_length s → StartKept s (start_call s (limit_of s) lent)
   unfolding started
   start-kept lent h =
-      subst (StartKept s) (sym (called lent h ∙ ap (λ b. elim b as (λ b. Outcome) [ true ↦ startFrom s (limitOf s) (elementsOf s) (externalsOf s) 0 (defaultState s) | false ↦ stuck ]) (elements-there s ok)))
-      (from-kept (elementsOf s) (externalsOf s) 0 (defaultState s) (omega arith) (omega (arith, elements-rest s ok)) (default-of-sheet s ok))
+      subst (StartKept s) (sym (called lent h ∙ ap (λ b. elim b as (λ b. Outcome) [ true ↦ start_from s (limit_of s) (elements_of s) (externals_of s) 0 (default_state s) | false ↦ stuck ]) (elements-there s ok)))
+      (from_kept (elements_of s) (externals_of s) 0 (default_state s) (omega arith) (omega (arith, elements-rest s ok)) (default_of_sheet s ok))

@@ -34,49 +34,49 @@ first-element : begun (assigning 0 0) ≡ answered 0 7 (holding 7 0 0 0)
 unfolding begun answered assigning yard holding
 first-element = refl
 
-second-element : begun (assigning 1 0) ≡ answered 0 7 (holding 0 7 0 7)
+second_element : begun (assigning 1 0) ≡ answered 0 7 (holding 0 7 0 7)
 unfolding begun answered assigning yard holding
-second-element = refl
+second_element = refl
 
 last-element : begun (assigning 2 0) ≡ answered 0 7 (holding 0 0 7 0)
 unfolding begun answered assigning yard holding
 last-element = refl
 
 -- "11, index outside its number": met when index and value are worked out, and start then leaves zeros
-one-too-far : begun (assigning 3 0) ≡ answered 11 4 (replicate 1064 (pos 0))
+one_too_far : begun (assigning 3 0) ≡ answered 11 4 (replicate 1064 (pos 0))
 unfolding begun answered assigning yard
-one-too-far = refl
+one_too_far = refl
 
 before-first : begun (assigning 65535 65535) ≡ answered 11 4 (replicate 1064 (pos 0))
 unfolding begun answered assigning yard
 before-first = refl
 
 -- a read: the Int becomes element 3
-read-too-far : begun (yard (rec3 2 3 0 ++ rec3 19 0 1 ++ rec6 33 1 1 2 0 0) 3) ≡ answered 11 3 (replicate 1064 (pos 0))
+read_too_far : begun (yard (rec3 2 3 0 ++ rec3 19 0 1 ++ rec6 33 1 1 2 0 0) 3) ≡ answered 11 3 (replicate 1064 (pos 0))
 unfolding begun answered yard
-read-too-far = refl
+read_too_far = refl
 
 -- "operands go in field order": of an index 1 div 0 and a value, the value is not visited; a value 1 div 0 goes before an index outside
 index-first : begun (yard (rec3 2 1 0 ++ rec3 2 0 0 ++ rec3 15 1 2 ++ rec3 2 7 0 ++ rec6 44 0 3 4 0 0) 5) ≡ answered 6 4 (replicate 1064 (pos 0))
 unfolding begun answered yard
 index-first = refl
 
-value-before-act : begun (yard (rec3 2 3 0 ++ rec3 2 1 0 ++ rec3 2 0 0 ++ rec3 15 2 3 ++ rec6 44 0 1 4 0 0) 5) ≡ answered 6 5 (replicate 1064 (pos 0))
+value-before_act : begun (yard (rec3 2 3 0 ++ rec3 2 1 0 ++ rec3 2 0 0 ++ rec3 15 2 3 ++ rec6 44 0 1 4 0 0) 5) ≡ answered 6 5 (replicate 1064 (pos 0))
 unfolding begun answered yard
-value-before-act = refl
+value-before_act = refl
 
 -- on sheets that aren't passed: an index of another type; 7 and 33 with an array; 44 with a plain variable
-bool-index : begun (yard (rec3 1 1 0 ++ rec3 2 7 0 ++ rec6 44 0 1 2 0 0) 3) ≡ stuck
+bool_index : begun (yard (rec3 1 1 0 ++ rec3 2 7 0 ++ rec6 44 0 1 2 0 0) 3) ≡ stuck
 unfolding begun yard
-bool-index = refl
+bool_index = refl
 
-array-read : begun (yard (rec3 7 1 0 ++ rec6 33 1 1 1 0 0) 2) ≡ stuck
+array_read : begun (yard (rec3 7 1 0 ++ rec6 33 1 1 1 0 0) 2) ≡ stuck
 unfolding begun yard
-array-read = refl
+array_read = refl
 
-array-assigned : begun (yard (rec3 2 7 0 ++ rec6 33 1 0 1 0 0) 2) ≡ stuck
+array_assigned : begun (yard (rec3 2 7 0 ++ rec6 33 1 0 1 0 0) 2) ≡ stuck
 unfolding begun yard
-array-assigned = refl
+array_assigned = refl
 
 plain-element : begun (yard (rec3 2 0 0 ++ rec3 2 7 0 ++ rec6 44 1 1 2 0 0) 3) ≡ stuck
 unfolding begun yard

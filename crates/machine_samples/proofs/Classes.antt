@@ -6,35 +6,35 @@ use lib.ListN.{replicate}
 use lib.IntN.{ℤ, pos, negsuc}
 use Rattle.sheet_rules.proofs.Samples.{rec3, rec6, body}
 use Rattle.machine.proofs.Samples.{event, words, sent, fired}
-use Rattle.machine_samples.proofs.Plays.{answered, arming, timeout, copies, waits, reacts, sends, once, twice, sixteens, atEight, full}
+use Rattle.machine_samples.proofs.Plays.{answered, arming, timeout, copies, waits, reacts, sends, once, twice, sixteens, at_eight, full}
 
 -- so many wait from Log at element 2
-atTwo : ℕ → List ℤ
-atTwo n = waits n [] (copies n (sent 0 2))
+at_two : ℕ → List ℤ
+at_two n = waits n [] (copies n (sent 0 2))
 
 -- 16 of a class and one more: 12; 15: 0
-class-of-15 : event (once 2) (atTwo 15) (words 1 0 2) ≡ answered 0 0 (atTwo 16)
-unfolding event answered words once reacts sends copies waits sent atTwo
-class-of-15 = refl
+class_of_15 : event (once 2) (at_two 15) (words 1 0 2) ≡ answered 0 0 (at_two 16)
+unfolding event answered words once reacts sends copies waits sent at_two
+class_of_15 = refl
 
-class-of-16 : event (once 2) (atTwo 16) (words 1 0 2) ≡ answered 12 0 (atTwo 16)
-unfolding event answered words once reacts sends copies waits sent atTwo
-class-of-16 = refl
+class_of_16 : event (once 2) (at_two 16) (words 1 0 2) ≡ answered 12 0 (at_two 16)
+unfolding event answered words once reacts sends copies waits sent at_two
+class_of_16 = refl
 
 -- 15 of a class, and a Deliver to a reaction that sends two of it: nothing of the refused body's work is kept
-class-twice : event (twice 2) (waits 16 [] (copies 15 (sent 2 0) ++ sent 0 2)) (words 2 0 2) ≡ answered 12 7 (waits 16 [] (copies 15 (sent 2 0) ++ sent 0 2))
+class_twice : event (twice 2) (waits 16 [] (copies 15 (sent 2 0) ++ sent 0 2)) (words 2 0 2) ≡ answered 12 7 (waits 16 [] (copies 15 (sent 2 0) ++ sent 0 2))
 unfolding event answered words twice reacts sends copies waits sent
-class-twice = refl
+class_twice = refl
 
 -- another sender has a class of its own
-other-sender : event (once 2) (atTwo 16) (words 1 1 2) ≡ answered 0 0 (waits 17 [] (copies 16 (sent 0 2) ++ sent 1 2))
-unfolding event answered words once reacts sends copies waits sent atTwo
-other-sender = refl
+other_sender : event (once 2) (at_two 16) (words 1 1 2) ≡ answered 0 0 (waits 17 [] (copies 16 (sent 0 2) ++ sent 1 2))
+unfolding event answered words once reacts sends copies waits sent at_two
+other_sender = refl
 
 -- and another receiver: 16 from element 2 to Inf, and the reaction sends to Log
-other-receiver : event (once 2) (waits 17 [] (copies 16 (sent 2 1) ++ sent 0 2)) (words 2 0 2) ≡ answered 0 3 (waits 17 [] (copies 16 (sent 2 1) ++ sent 2 0))
+other_receiver : event (once 2) (waits 17 [] (copies 16 (sent 2 1) ++ sent 0 2)) (words 2 0 2) ≡ answered 0 3 (waits 17 [] (copies 16 (sent 2 1) ++ sent 2 0))
 unfolding event answered words once reacts sends copies waits sent
-other-receiver = refl
+other_receiver = refl
 
 -- one bound element that reacts to external name 0 on port 0 by sending it to itself on that port, and to internal name 1 by sending that
 echoes : List (List ℕ)
@@ -59,23 +59,23 @@ unfolding event answered words echoes inside copies waits sent
 class-delivered = refl
 
 -- the same of a clock that fires
-aboutToFire : List ℤ
-aboutToFire = pos 1 ∷ pos 1 ∷ pos 1 ∷ replicate 5 (pos 0)
+about_to_fire : List ℤ
+about_to_fire = pos 1 ∷ pos 1 ∷ pos 1 ∷ replicate 5 (pos 0)
 
-slice-15 : event (timeout 1) (waits 15 aboutToFire (copies 15 (fired 2))) (words 5 0 0) ≡ answered 0 0 (waits 16 (replicate 8 (pos 0)) (copies 16 (fired 2)))
-unfolding event answered words timeout arming copies waits fired aboutToFire
-slice-15 = refl
+slice_15 : event (timeout 1) (waits 15 about_to_fire (copies 15 (fired 2))) (words 5 0 0) ≡ answered 0 0 (waits 16 (replicate 8 (pos 0)) (copies 16 (fired 2)))
+unfolding event answered words timeout arming copies waits fired about_to_fire
+slice_15 = refl
 
-slice-16 : event (timeout 1) (waits 16 aboutToFire (copies 16 (fired 2))) (words 5 0 0) ≡ answered 12 0 (waits 16 aboutToFire (copies 16 (fired 2)))
-unfolding event answered words timeout arming copies waits fired aboutToFire
-slice-16 = refl
+slice_16 : event (timeout 1) (waits 16 about_to_fire (copies 16 (fired 2))) (words 5 0 0) ≡ answered 12 0 (waits 16 about_to_fire (copies 16 (fired 2)))
+unfolding event answered words timeout arming copies waits fired about_to_fire
+slice_16 = refl
 
 -- ---- 127 and 128
 
 -- 128 wait and the class is full: 8
-class-and-list-full : event (once 8) full (words 1 1 8) ≡ answered 8 0 full
-unfolding event answered words once reacts sends copies waits sent sixteens atEight full
-class-and-list-full = refl
+class_and_list_full : event (once 8) full (words 1 1 8) ≡ answered 8 0 full
+unfolding event answered words once reacts sends copies waits sent sixteens at_eight full
+class_and_list_full = refl
 
 -- nine elements, 2 to 10, of one chart with a Timeout, which react to internal name 0
 nine : List (List ℕ)
@@ -105,10 +105,10 @@ ahead : ℕ → List ℤ
 unfolding copies fired
 ahead n = copies n (fired 2) ++ own 7 3
 
-slice-127 : event nine (waits 127 (clocks aboutToFire) (ahead 15)) (words 5 0 0) ≡ answered 0 0 (waits 128 (clocks (replicate 8 (pos 0))) (ahead 15 ++ fired 10))
-unfolding event answered words nine own clocks ahead copies waits fired aboutToFire
-slice-127 = refl
+slice_127 : event nine (waits 127 (clocks about_to_fire) (ahead 15)) (words 5 0 0) ≡ answered 0 0 (waits 128 (clocks (replicate 8 (pos 0))) (ahead 15 ++ fired 10))
+unfolding event answered words nine own clocks ahead copies waits fired about_to_fire
+slice_127 = refl
 
-slice-128 : event nine (waits 128 (clocks aboutToFire) (ahead 16)) (words 5 0 0) ≡ answered 8 0 (waits 128 (clocks aboutToFire) (ahead 16))
-unfolding event answered words nine own clocks ahead copies waits fired aboutToFire
-slice-128 = refl
+slice_128 : event nine (waits 128 (clocks about_to_fire) (ahead 16)) (words 5 0 0) ≡ answered 8 0 (waits 128 (clocks about_to_fire) (ahead 16))
+unfolding event answered words nine own clocks ahead copies waits fired about_to_fire
+slice_128 = refl

@@ -41,13 +41,13 @@ unfolding cell answered waits
 stands pointer = answered 0 8 (waits 0 (cell pointer) [])
 
 -- round a list of four
-from-three : stepping 3 3 ≡ stands 2
+from_three : stepping 3 3 ≡ stands 2
 unfolding stepping stands
-from-three = refl
+from_three = refl
 
-from-two : stepping 3 2 ≡ stands 1
+from_two : stepping 3 2 ≡ stands 1
 unfolding stepping stands
-from-two = refl
+from_two = refl
 
 from_one : stepping 3 1 ≡ stands 0
 unfolding stepping stands
@@ -58,9 +58,9 @@ unfolding stepping stands
 from_zero = refl
 
 -- "at Pointer 0" it is Length: of a list of one, and of the longest
-list-of-one : stepping 0 0 ≡ stands 0
+list_of_one_lem : stepping 0 0 ≡ stands 0
 unfolding stepping stands
-list-of-one = refl
+list_of_one_lem = refl
 
 longest-list : stepping 2147483646 0 ≡ stands 2147483646
 unfolding stepping stands

@@ -4,8 +4,8 @@ use mathlib.Core.List.{List, [], ◌∷◌, ◌++◌}
 use mathlib.Core.Path.{◌≡◌, refl}
 use lib.ListN.{replicate}
 use lib.IntN.{pos}
-use Rattle.sheet_rules.proofs.Samples.{sheetOf, rec3, rec6}
-use Rattle.machine.specs.Play.{Outcome, eventCall, limitOf}
+use Rattle.sheet_rules.proofs.Samples.{sheet_of, rec3, rec6}
+use Rattle.machine.specs.Play.{Outcome, event_call, limit_of}
 use Rattle.machine.proofs.Samples.{words, sent}
 use Rattle.machine_samples.proofs.Plays.{start, answered, waits}
 
@@ -34,23 +34,23 @@ exactly = rec3 32 0 0 ++ rec3 32 0 0 ++ rec3 43 8 9 ++ rec3 43 7 10 ++ rec3 32 0
 more : List ℕ
 more = rec3 7 2 0 ++ rec3 2 1 0 ++ rec3 12 8 9 ++ rec6 33 2 0 10 0 0 ++ rec3 43 7 11 ++ rec3 32 0 0
 
-start-2000 : start (unlimited exactly 11 12) ≡ answered 0 2000 (replicate 1032 (pos 0))
+start_2000 : start (unlimited exactly 11 12) ≡ answered 0 2000 (replicate 1032 (pos 0))
 unfolding start answered unlimited counting exactly
-start-2000 = refl
+start_2000 = refl
 
-start-2001 : start (unlimited more 12 13) ≡ answered 10 2000 (replicate 1032 (pos 0))
+start_2001 : start (unlimited more 12 13) ≡ answered 10 2000 (replicate 1032 (pos 0))
 unfolding start answered unlimited counting more
-start-2001 = refl
+start_2001 = refl
 
 -- a Corrupt of what waits for element 2, as a whole call
 corrupted : List (List ℕ) → Outcome
 unfolding start words waits sent
-corrupted ss = eventCall (sheetOf ss) (limitOf (sheetOf ss)) (waits 1 [] (sent 0 2)) (replicate 1032 (pos 0)) (words 3 0 2)
+corrupted ss = event_call (sheet_of ss) (limit_of (sheet_of ss)) (waits 1 [] (sent 0 2)) (replicate 1032 (pos 0)) (words 3 0 2)
 
-event-2000 : corrupted (unlimited exactly 12 11) ≡ answered 0 2000 (replicate 1032 (pos 0))
+event_2000 : corrupted (unlimited exactly 12 11) ≡ answered 0 2000 (replicate 1032 (pos 0))
 unfolding corrupted answered unlimited counting exactly
-event-2000 = refl
+event_2000 = refl
 
-event-2001 : corrupted (unlimited more 13 12) ≡ answered 10 2000 (waits 1 [] (sent 0 2))
+event_2001 : corrupted (unlimited more 13 12) ≡ answered 10 2000 (waits 1 [] (sent 0 2))
 unfolding corrupted answered unlimited counting more
-event-2001 = refl
+event_2001 = refl

@@ -4,10 +4,10 @@ use mathlib.Core.List.{List, [], ◌∷◌, ◌++◌}
 use mathlib.Core.Path.{◌≡◌, refl}
 use lib.ListN.{length, replicate}
 use lib.IntN.{ℤ, pos, negsuc}
-use Rattle.machine.specs.Play.{Outcome, stuck, isInitial, ranBody, elementBody, limitOf}
+use Rattle.machine.specs.Play.{Outcome, stuck, is_initial, ran_body, element_body, limit_of}
 use Rattle.machine.specs.declared.Ran.{Ran}
 use Rattle.machine.specs.declared.Ran.TheVariants.{Done, Stuck}
-use Rattle.sheet_rules.proofs.Samples.{sheetOf, rec3, rec6, body}
+use Rattle.sheet_rules.proofs.Samples.{sheet_of, rec3, rec6, body}
 use Rattle.machine.proofs.Samples.{begun, event, row, sent, told}
 use Rattle.machine_samples.proofs.Plays.{answered, waits}
 
@@ -78,110 +78,110 @@ variable : begun (declaring [] (rec3 1 0 0) 1 0 []) ≡ answered 0 1 (waits 0 (c
 unfolding begun answered waits
 variable = refl
 
-variable-absent : begun (declaring [] [] 1 0 []) ≡ stuck
+variable_absent : begun (declaring [] [] 1 0 []) ≡ stuck
 unfolding begun
-variable-absent = refl
+variable_absent = refl
 
 -- "the declared member": 1 of an enumerated type of two; the type is absent; it has no member 2
 member : begun (declaring (rec3 2 1 0) (rec3 8 0 0) 1 0 []) ≡ answered 0 1 (waits 0 (cell 1) [])
 unfolding begun answered waits
 member = refl
 
-member-type-absent : begun (declaring [] (rec3 8 0 0) 1 0 []) ≡ stuck
+member_type_absent : begun (declaring [] (rec3 8 0 0) 1 0 []) ≡ stuck
 unfolding begun
-member-type-absent = refl
+member_type_absent = refl
 
-member-past : begun (declaring (rec3 2 2 0) (rec3 8 0 0) 1 0 []) ≡ stuck
+member_past : begun (declaring (rec3 2 2 0) (rec3 8 0 0) 1 0 []) ≡ stuck
 unfolding begun
-member-past = refl
+member_past = refl
 
 -- there is no type 7
-type-seven : begun (declaring [] (rec3 7 0 0) 1 0 []) ≡ stuck
+type_seven : begun (declaring [] (rec3 7 0 0) 1 0 []) ≡ stuck
 unfolding begun
-type-seven = refl
+type_seven = refl
 
 -- "Each run of a body has fresh default locals": the same of a local
 local : told (begun (declaring [] (rec3 1 0 0) 0 1 [])) ≡ row 0 1 0
 unfolding told begun
 local = refl
 
-local-member : told (begun (declaring (rec3 2 1 0) (rec3 8 0 0) 0 1 [])) ≡ row 0 1 0
+local_member : told (begun (declaring (rec3 2 1 0) (rec3 8 0 0) 0 1 [])) ≡ row 0 1 0
 unfolding told begun
-local-member = refl
+local_member = refl
 
-local-member-type-absent : begun (declaring [] (rec3 8 0 0) 0 1 []) ≡ stuck
+local_member_type_absent : begun (declaring [] (rec3 8 0 0) 0 1 []) ≡ stuck
 unfolding begun
-local-member-type-absent = refl
+local_member_type_absent = refl
 
-local-member-past : begun (declaring (rec3 2 2 0) (rec3 8 0 0) 0 1 []) ≡ stuck
+local_member_past : begun (declaring (rec3 2 2 0) (rec3 8 0 0) 0 1 []) ≡ stuck
 unfolding begun
-local-member-past = refl
+local_member_past = refl
 
-local-type-seven : begun (declaring [] (rec3 7 0 0) 0 1 []) ≡ stuck
+local_type_seven : begun (declaring [] (rec3 7 0 0) 0 1 []) ≡ stuck
 unfolding begun
-local-type-seven = refl
+local_type_seven = refl
 
-local-absent : begun (declaring [] [] 0 1 []) ≡ stuck
+local_absent : begun (declaring [] [] 0 1 []) ≡ stuck
 unfolding begun
-local-absent = refl
+local_absent = refl
 
 -- and of a local of a called body
-called-local : told (meets 3 (declaring [] (rec3 1 0 0) 0 1 (rec3 40 2 0)) []) ≡ row 0 2 0
+called_local : told (meets 3 (declaring [] (rec3 1 0 0) 0 1 (rec3 40 2 0)) []) ≡ row 0 2 0
 unfolding told happened
-called-local = refl
+called_local = refl
 
-called-local-absent : meets 3 (declaring [] [] 0 1 (rec3 40 2 0)) [] ≡ stuck
+called_local_absent : meets 3 (declaring [] [] 0 1 (rec3 40 2 0)) [] ≡ stuck
 unfolding happened
-called-local-absent = refl
+called_local_absent = refl
 
 -- the variable is read
 read : told (meets 3 (declaring [] (rec3 1 0 0) 1 0 (reading 1 0)) (cell 0)) ≡ row 0 5 0
 unfolding told happened
 read = refl
 
-read-absent : meets 3 (declaring [] [] 1 0 (reading 1 0)) (cell 0) ≡ stuck
+read_absent : meets 3 (declaring [] [] 1 0 (reading 1 0)) (cell 0) ≡ stuck
 unfolding happened
-read-absent = refl
+read_absent = refl
 
 -- it is assigned
 assigned : told (meets 3 (declaring [] (rec3 1 0 0) 1 0 (rec6 33 1 0 0 0 0)) (cell 0)) ≡ row 0 2 0
 unfolding told happened
 assigned = refl
 
-assigned-absent : meets 3 (declaring [] [] 1 0 (rec6 33 1 0 0 0 0)) (cell 0) ≡ stuck
+assigned_absent : meets 3 (declaring [] [] 1 0 (rec6 33 1 0 0 0 0)) (cell 0) ≡ stuck
 unfolding happened
-assigned-absent = refl
+assigned_absent = refl
 
 -- a clock: 17 active; 39 stop
 active : told (meets 3 (declaring [] (rec3 4 0 0) 1 0 (testing (rec3 17 0 0))) (cell 1)) ≡ row 0 3 0
 unfolding told happened
 active = refl
 
-active-absent : meets 3 (declaring [] [] 1 0 (testing (rec3 17 0 0))) (cell 1) ≡ stuck
+active_absent : meets 3 (declaring [] [] 1 0 (testing (rec3 17 0 0))) (cell 1) ≡ stuck
 unfolding happened
-active-absent = refl
+active_absent = refl
 
 stopped : told (meets 3 (declaring [] (rec3 4 0 0) 1 0 (rec3 39 0 0)) (cell 1)) ≡ row 0 1 0
 unfolding told happened
 stopped = refl
 
-stopped-absent : meets 3 (declaring [] [] 1 0 (rec3 39 0 0)) (cell 1) ≡ stuck
+stopped_absent : meets 3 (declaring [] [] 1 0 (rec3 39 0 0)) (cell 1) ≡ stuck
 unfolding happened
-stopped-absent = refl
+stopped_absent = refl
 
 -- 18 "its value, 0 when stopped", whatever the word there is: 1 div it is 6
-value-stopped : told (meets 3 (declaring [] (rec3 4 0 0) 1 0 (testing (rec3 18 0 0 ++ rec3 15 0 7 ++ rec3 10 8 8))) (pos 0 ∷ pos 5 ∷ replicate 6 (pos 0))) ≡ row 6 5 1
+value_stopped : told (meets 3 (declaring [] (rec3 4 0 0) 1 0 (testing (rec3 18 0 0 ++ rec3 15 0 7 ++ rec3 10 8 8))) (pos 0 ∷ pos 5 ∷ replicate 6 (pos 0))) ≡ row 6 5 1
 unfolding told happened
-value-stopped = refl
+value_stopped = refl
 
 -- "Slice: clocks in state order": without its declaration it is unknown whether it is one
 slice-variable : told (sliced (declaring [] (rec3 1 0 0) 1 0 []) (cell 0)) ≡ row 0 0 0
 unfolding told happened
 slice-variable = refl
 
-slice-variable-absent : sliced (declaring [] [] 1 0 []) (cell 0) ≡ stuck
+slice-variable_absent : sliced (declaring [] [] 1 0 []) (cell 0) ≡ stuck
 unfolding happened
-slice-variable-absent = refl
+slice-variable_absent = refl
 
 -- ---- "one initial and one panic body, both without parameters"
 
@@ -194,22 +194,22 @@ initial : told (begun (bodied (rec3 0 0 0) 2 (ranged 0 0 0 0 6 ++ ranged 1 0 0 0
 unfolding told begun
 initial = refl
 
-initial-parameter : begun (bodied (rec3 0 0 0) 2 (ranged 0 0 1 0 6 ++ ranged 1 0 0 0 7)) ≡ stuck
+initial_parameter : begun (bodied (rec3 0 0 0) 2 (ranged 0 0 1 0 6 ++ ranged 1 0 0 0 7)) ≡ stuck
 unfolding begun
-initial-parameter = refl
+initial_parameter = refl
 
 -- a panic body that would: Corrupt is stuck, and Deliver without a reaction
 panic : told (meets 3 (bodied (rec3 0 0 0) 2 (ranged 0 0 0 0 6 ++ ranged 1 0 0 0 7)) []) ≡ row 0 3 0
 unfolding told happened
 panic = refl
 
-panic-parameter : meets 3 (bodied (rec3 0 0 0) 2 (ranged 0 0 0 0 6 ++ ranged 1 0 1 0 7)) [] ≡ stuck
+panic_parameter : meets 3 (bodied (rec3 0 0 0) 2 (ranged 0 0 0 0 6 ++ ranged 1 0 1 0 7)) [] ≡ stuck
 unfolding happened
-panic-parameter = refl
+panic_parameter = refl
 
-panic-parameter-deliver : meets 2 (bodied (rec3 0 0 0) 2 (ranged 0 0 0 0 6 ++ ranged 1 0 1 0 7)) [] ≡ stuck
+panic_parameter_deliver : meets 2 (bodied (rec3 0 0 0) 2 (ranged 0 0 0 0 6 ++ ranged 1 0 1 0 7)) [] ≡ stuck
 unfolding happened
-panic-parameter-deliver = refl
+panic_parameter_deliver = refl
 
 -- ---- "reaction parameters have the name's types"
 
@@ -230,53 +230,53 @@ parameter : told (meets 2 (reacting (rec3 0 1 0) 2 0 1) []) ≡ row 0 1 0
 unfolding told happened
 parameter = refl
 
-parameter-other : meets 2 (reacting (rec3 0 1 0) 2 17 1) [] ≡ stuck
+parameter_other : meets 2 (reacting (rec3 0 1 0) 2 17 1) [] ≡ stuck
 unfolding happened
-parameter-other = refl
+parameter_other = refl
 
-parameter-absent : meets 2 (reacting (rec3 0 1 0) 2 19 1) [] ≡ stuck
+parameter_absent : meets 2 (reacting (rec3 0 1 0) 2 19 1) [] ≡ stuck
 unfolding happened
-parameter-absent = refl
+parameter_absent = refl
 
 -- "data differ in number": a datum and no parameter; and two
-parameters-more : meets 2 (reacting (rec3 0 1 0) 2 0 2) [] ≡ stuck
+parameters_more : meets 2 (reacting (rec3 0 1 0) 2 0 2) [] ≡ stuck
 unfolding happened
-parameters-more = refl
+parameters_more = refl
 
 parameters-fewer : meets 2 (reacting (rec3 0 1 0) 2 0 0) [] ≡ stuck
 unfolding happened
 parameters-fewer = refl
 
 -- four data, and five, which no telegram has
-parameters-four : told (meets 2 (reacting (rec3 0 4 0) 2 0 4) []) ≡ row 0 1 0
+parameters_four : told (meets 2 (reacting (rec3 0 4 0) 2 0 4) []) ≡ row 0 1 0
 unfolding told happened
-parameters-four = refl
+parameters_four = refl
 
-parameters-five : meets 2 (reacting (rec3 0 5 0) 2 0 5) [] ≡ stuck
+parameters_five : meets 2 (reacting (rec3 0 5 0) 2 0 5) [] ≡ stuck
 unfolding happened
-parameters-five = refl
+parameters_five = refl
 
 -- Inner: the same of an internal reaction; and without one it is never the panic body
-inner-parameter : told (happened 4 (pos 2) (reacting (rec3 0 1 1) 3 0 1) (pos 1) [] internal) ≡ row 0 1 0
+inner_parameter : told (happened 4 (pos 2) (reacting (rec3 0 1 1) 3 0 1) (pos 1) [] internal) ≡ row 0 1 0
 unfolding told happened
-inner-parameter = refl
+inner_parameter = refl
 
-inner-parameter-other : happened 4 (pos 2) (reacting (rec3 0 1 1) 3 17 1) (pos 1) [] internal ≡ stuck
+inner_parameter_other : happened 4 (pos 2) (reacting (rec3 0 1 1) 3 17 1) (pos 1) [] internal ≡ stuck
 unfolding happened
-inner-parameter-other = refl
+inner_parameter_other = refl
 
-inner-unmet : happened 4 (pos 2) (reacting (rec3 0 1 1) 2 0 1) (pos 1) [] internal ≡ stuck
+inner_unmet : happened 4 (pos 2) (reacting (rec3 0 1 1) 2 0 1) (pos 1) [] internal ≡ stuck
 unfolding happened
-inner-unmet = refl
+inner_unmet = refl
 
 -- "lies outside its type": a Bool datum of 1, and of 2
 datum-one : told (happened 2 (pos 2) (reacting (rec3 17 1 0) 2 17 1) (pos 1) [] (telegram (pos 0) (pos 2) (pos 0) (pos 0) (pos 1))) ≡ row 0 1 0
 unfolding told happened
 datum-one = refl
 
-datum-two : happened 2 (pos 2) (reacting (rec3 17 1 0) 2 17 1) (pos 1) [] (telegram (pos 0) (pos 2) (pos 0) (pos 0) (pos 2)) ≡ stuck
+datum_two : happened 2 (pos 2) (reacting (rec3 17 1 0) 2 17 1) (pos 1) [] (telegram (pos 0) (pos 2) (pos 0) (pos 0) (pos 2)) ≡ stuck
 unfolding happened
-datum-two = refl
+datum_two = refl
 
 -- ---- data, parameters and variables past those that a record or a body has room for
 
@@ -285,112 +285,112 @@ abbrev doing : ℕ → ℕ → List ℕ → List (List ℕ)
 doing variable d nodes = one 0 [] declared (rec3 0 d 0 ++ rec3 0 d 1) (rec6 0 0 variable 1 0 3) (body 0 0 (last nodes) ++ body 1 0 (last nodes) ++ ranged 4 0 d 0 6) nodes
 
 -- 34 external send with four data, f4 to f7; with five; with five of which the first is 1 div 0, which is met before
-send-four : told (begun (doing 18 4 (rec6 34 3 4 0 0 0))) ≡ row 0 7 1
+send_four : told (begun (doing 18 4 (rec6 34 3 4 0 0 0))) ≡ row 0 7 1
 unfolding told begun
-send-four = refl
+send_four = refl
 
-send-five : begun (doing 18 5 (rec6 34 3 4 0 0 0)) ≡ stuck
+send_five : begun (doing 18 5 (rec6 34 3 4 0 0 0)) ≡ stuck
 unfolding begun
-send-five = refl
+send_five = refl
 
-send-five-refused : told (begun (doing 18 5 (rec6 34 3 4 0 2 0))) ≡ row 6 6 0
+send_five_refused : told (begun (doing 18 5 (rec6 34 3 4 0 2 0))) ≡ row 6 6 0
 unfolding told begun
-send-five-refused = refl
+send_five_refused = refl
 
 -- 35 internal send
-inner-four : told (begun (doing 18 4 (rec6 35 0 0 0 0 0))) ≡ row 0 5 1
+inner_four : told (begun (doing 18 4 (rec6 35 0 0 0 0 0))) ≡ row 0 5 1
 unfolding told begun
-inner-four = refl
+inner_four = refl
 
-inner-five : begun (doing 18 5 (rec6 35 0 0 0 0 0)) ≡ stuck
+inner_five : begun (doing 18 5 (rec6 35 0 0 0 0 0)) ≡ stuck
 unfolding begun
-inner-five = refl
+inner_five = refl
 
-inner-five-refused : told (begun (doing 18 5 (rec6 35 0 0 0 2 0))) ≡ row 6 4 0
+inner_five_refused : told (begun (doing 18 5 (rec6 35 0 0 0 2 0))) ≡ row 6 4 0
 unfolding told begun
-inner-five-refused = refl
+inner_five_refused = refl
 
 -- 36 arm Timeout
-arm-four : told (begun (doing 18 4 (rec6 36 0 0 0 0 0))) ≡ row 0 6 0
+arm_four : told (begun (doing 18 4 (rec6 36 0 0 0 0 0))) ≡ row 0 6 0
 unfolding told begun
-arm-four = refl
+arm_four = refl
 
-arm-five : begun (doing 18 5 (rec6 36 0 0 0 0 0)) ≡ stuck
+arm_five : begun (doing 18 5 (rec6 36 0 0 0 0 0)) ≡ stuck
 unfolding begun
-arm-five = refl
+arm_five = refl
 
-arm-five-refused : told (begun (doing 18 5 (rec6 36 0 0 0 2 0))) ≡ row 6 5 0
+arm_five_refused : told (begun (doing 18 5 (rec6 36 0 0 0 2 0))) ≡ row 6 5 0
 unfolding told begun
-arm-five-refused = refl
+arm_five_refused = refl
 
 -- 40 call
-call-four : told (begun (doing 18 4 (rec6 40 2 0 0 0 0))) ≡ row 0 6 0
+call_four : told (begun (doing 18 4 (rec6 40 2 0 0 0 0))) ≡ row 0 6 0
 unfolding told begun
-call-four = refl
+call_four = refl
 
-call-five : begun (doing 18 5 (rec6 40 2 0 0 0 0)) ≡ stuck
+call_five : begun (doing 18 5 (rec6 40 2 0 0 0 0)) ≡ stuck
 unfolding begun
-call-five = refl
+call_five = refl
 
-call-five-refused : told (begun (doing 18 5 (rec6 40 2 0 0 2 0))) ≡ row 6 4 0
+call_five_refused : told (begun (doing 18 5 (rec6 40 2 0 0 2 0))) ≡ row 6 4 0
 unfolding told begun
-call-five-refused = refl
+call_five_refused = refl
 
 -- a chart with so many parameters, Ints, and an initial body with so many locals; what it does
 abbrev holding : ℕ → ℕ → List ℕ → List (List ℕ)
 holding parameters locals nodes = one 0 [] declared [] (rec6 0 parameters 0 0 0 1) (ranged 0 0 0 locals (last nodes)) nodes
 
 -- 7 read of a chart's seventh parameter, where the eighth's binding record is absent; and of that
-parameter-seventh : told (begun (holding 8 0 (reading 0 6))) ≡ row 0 5 0
+parameter_seventh : told (begun (holding 8 0 (reading 0 6))) ≡ row 0 5 0
 unfolding told begun
-parameter-seventh = refl
+parameter_seventh = refl
 
-parameter-eighth : begun (holding 8 0 (reading 0 7)) ≡ stuck
+parameter_eighth : begun (holding 8 0 (reading 0 7)) ≡ stuck
 unfolding begun
-parameter-eighth = refl
+parameter_eighth = refl
 
 -- the same with two binding records: the constants of the first are node 0, Int 1, and the first one of the second is node 1, Int 0
-abbrev boundTwice : ℕ → List ℕ → List (List ℕ)
-boundTwice parameters nodes = rec3 3 2 2 ∷ [] ∷ declared ∷ [] ∷ rec6 0 parameters 0 0 0 1 ∷ ranged 0 0 0 0 (last nodes) ∷ (tools ++ nodes) ∷ (rec3 0 0 0 ++ rec3 65535 1 0) ∷ []
+abbrev bound_twice : ℕ → List ℕ → List (List ℕ)
+bound_twice parameters nodes = rec3 3 2 2 ∷ [] ∷ declared ∷ [] ∷ rec6 0 parameters 0 0 0 1 ∷ ranged 0 0 0 0 (last nodes) ∷ (tools ++ nodes) ∷ (rec3 0 0 0 ++ rec3 65535 1 0) ∷ []
 
 -- 1 div a parameter
 abbrev dividing : ℕ → List ℕ
 dividing n = testing (rec3 7 0 n ++ rec3 15 0 7 ++ rec3 10 8 8)
 
 -- the seventh, and the eighth, which is 0
-seventh-first : told (begun (boundTwice 8 (dividing 6))) ≡ row 0 9 0
+seventh_first : told (begun (bound_twice 8 (dividing 6))) ≡ row 0 9 0
 unfolding told begun
-seventh-first = refl
+seventh_first = refl
 
-eighth-second : told (begun (boundTwice 8 (dividing 7))) ≡ row 6 5 0
+eighth_second : told (begun (bound_twice 8 (dividing 7))) ≡ row 6 5 0
 unfolding told begun
-eighth-second = refl
+eighth_second = refl
 
 -- the fourteenth, and the fifteenth, for which the second record has no field
-parameter-fourteenth : told (begun (boundTwice 14 (reading 0 13))) ≡ row 0 5 0
+parameter_fourteenth : told (begun (bound_twice 14 (reading 0 13))) ≡ row 0 5 0
 unfolding told begun
-parameter-fourteenth = refl
+parameter_fourteenth = refl
 
-parameter-fifteenth : begun (boundTwice 15 (reading 0 14)) ≡ stuck
+parameter_fifteenth : begun (bound_twice 15 (reading 0 14)) ≡ stuck
 unfolding begun
-parameter-fifteenth = refl
+parameter_fifteenth = refl
 
 -- "Parameters and locals together at most 16": 7 read, and 33 assign, of the sixteenth and the seventeenth
-read-sixteenth : told (begun (holding 0 17 (reading 2 15))) ≡ row 0 5 0
+read_sixteenth : told (begun (holding 0 17 (reading 2 15))) ≡ row 0 5 0
 unfolding told begun
-read-sixteenth = refl
+read_sixteenth = refl
 
-assign-sixteenth : told (begun (holding 0 17 (rec6 33 2 15 0 0 0))) ≡ row 0 2 0
+assign_sixteenth : told (begun (holding 0 17 (rec6 33 2 15 0 0 0))) ≡ row 0 2 0
 unfolding told begun
-assign-sixteenth = refl
+assign_sixteenth = refl
 
-read-seventeenth : begun (holding 0 17 (reading 2 16)) ≡ stuck
+read_seventeenth : begun (holding 0 17 (reading 2 16)) ≡ stuck
 unfolding begun
-read-seventeenth = refl
+read_seventeenth = refl
 
-assign-seventeenth : begun (holding 0 17 (rec6 33 2 16 0 0 0)) ≡ stuck
+assign_seventeenth : begun (holding 0 17 (rec6 33 2 16 0 0 0)) ≡ stuck
 unfolding begun
-assign-seventeenth = refl
+assign_seventeenth = refl
 
 -- ---- nodes, variables and bodies that are absent, values of another type or outside it
 
@@ -403,26 +403,26 @@ branch : told (begun (limited 0 (rec6 41 5 30 6 0 0))) ≡ row 0 3 0
 unfolding told begun
 branch = refl
 
-branch-absent : begun (limited 0 (rec6 41 5 6 30 0 0)) ≡ stuck
+branch_absent : begun (limited 0 (rec6 41 5 6 30 0 0)) ≡ stuck
 unfolding begun
-branch-absent = refl
+branch_absent = refl
 
-condition-absent : begun (limited 0 (rec6 41 30 6 6 0 0)) ≡ stuck
+condition_absent : begun (limited 0 (rec6 41 30 6 6 0 0)) ≡ stuck
 unfolding begun
-condition-absent = refl
+condition_absent = refl
 
 -- conditions Bool: true; 1; a Bool of 2
 condition : told (begun (limited 0 (testing (rec3 1 1 0)))) ≡ row 0 3 0
 unfolding told begun
 condition = refl
 
-condition-int : begun (limited 0 (testing (rec3 2 1 0))) ≡ stuck
+condition_int : begun (limited 0 (testing (rec3 2 1 0))) ≡ stuck
 unfolding begun
-condition-int = refl
+condition_int = refl
 
-condition-two : begun (limited 0 (testing (rec3 1 2 0))) ≡ stuck
+condition_two : begun (limited 0 (testing (rec3 1 2 0))) ≡ stuck
 unfolding begun
-condition-two = refl
+condition_two = refl
 
 -- 8 not of 1; 9 and of false and 1; 10 equal of 1 and false; 11 less of false and false; 12 plus of 1 and false
 not_int : begun (limited 0 (testing (rec3 8 0 0))) ≡ stuck
@@ -433,13 +433,13 @@ and_int : begun (limited 0 (testing (rec3 9 5 0))) ≡ stuck
 unfolding begun
 and_int = refl
 
-equal-other : begun (limited 0 (testing (rec3 10 0 5))) ≡ stuck
+equal_other : begun (limited 0 (testing (rec3 10 0 5))) ≡ stuck
 unfolding begun
-equal-other = refl
+equal_other = refl
 
-less-bools : begun (limited 0 (testing (rec3 11 5 5))) ≡ stuck
+less_bools : begun (limited 0 (testing (rec3 11 5 5))) ≡ stuck
 unfolding begun
-less-bools = refl
+less_bools = refl
 
 plus-bool : begun (limited 0 (testing (rec3 12 0 5 ++ rec3 10 7 7))) ≡ stuck
 unfolding begun
@@ -463,18 +463,18 @@ read_one : told (meets 3 (declaring [] (rec3 0 0 0) 1 0 (reading 1 0)) (cell 1))
 unfolding told happened
 read_one = refl
 
-read-two : meets 3 (declaring [] (rec3 0 0 0) 1 0 (reading 1 0)) (cell 2) ≡ stuck
+read_two : meets 3 (declaring [] (rec3 0 0 0) 1 0 (reading 1 0)) (cell 2) ≡ stuck
 unfolding happened
-read-two = refl
+read_two = refl
 
 -- 40 call of the chart's third body, and of a fourth
 call : told (begun (doing 18 0 (rec3 40 2 0))) ≡ row 0 2 0
 unfolding told begun
 call = refl
 
-call-absent : begun (doing 18 0 (rec3 40 3 0)) ≡ stuck
+call_absent : begun (doing 18 0 (rec3 40 3 0)) ≡ stuck
 unfolding begun
-call-absent = refl
+call_absent = refl
 
 -- ---- "One record per bound element"
 
@@ -503,95 +503,95 @@ start-both : told (begun (both 0)) ≡ row 0 2 0
 unfolding told begun
 start-both = refl
 
-start-half : begun half ≡ stuck
+start_half : begun half ≡ stuck
 unfolding begun
-start-half = refl
+start_half = refl
 
-start-chart-absent : begun (both 1) ≡ stuck
+start-chart_absent : begun (both 1) ≡ stuck
 unfolding begun
-start-chart-absent = refl
+start-chart_absent = refl
 
-start-headless : begun headless ≡ stuck
+start_headless : begun headless ≡ stuck
 unfolding begun
-start-headless = refl
+start_headless = refl
 
 -- a body of the second element; one of the first needs no binding but its own
-second-both : told (corrupted 3 (both 0)) ≡ row 0 1 0
+second_both : told (corrupted 3 (both 0)) ≡ row 0 1 0
 unfolding told happened
-second-both = refl
+second_both = refl
 
-second-half : corrupted 3 half ≡ stuck
+second_half : corrupted 3 half ≡ stuck
 unfolding happened
-second-half = refl
+second_half = refl
 
-second-chart-absent : corrupted 3 (both 1) ≡ stuck
+second_chart_absent : corrupted 3 (both 1) ≡ stuck
 unfolding happened
-second-chart-absent = refl
+second_chart_absent = refl
 
-first-half : told (corrupted 2 half) ≡ row 0 1 0
+first_half_lem : told (corrupted 2 half) ≡ row 0 1 0
 unfolding told happened
-first-half = refl
+first_half_lem = refl
 
-first-headless : corrupted 2 headless ≡ stuck
+first_headless : corrupted 2 headless ≡ stuck
 unfolding happened
-first-headless = refl
+first_headless = refl
 
 -- a Slice
 slice-both : told (sliced (both 0) []) ≡ row 0 0 0
 unfolding told happened
 slice-both = refl
 
-slice-half : sliced half [] ≡ stuck
+slice_half : sliced half [] ≡ stuck
 unfolding happened
-slice-half = refl
+slice_half = refl
 
-slice-chart-absent : sliced (both 1) [] ≡ stuck
+slice-chart_absent : sliced (both 1) [] ≡ stuck
 unfolding happened
-slice-chart-absent = refl
+slice-chart_absent = refl
 
-slice-headless : sliced headless [] ≡ stuck
+slice_headless : sliced headless [] ≡ stuck
 unfolding happened
-slice-headless = refl
+slice_headless = refl
 
 -- ---- a chart has more bodies than are there
 
 -- Deliver "without [a reaction] the panic body": an absent body might be the reaction
-deliver-unmet : told (meets 2 (bodied (rec3 0 0 0) 2 (body 0 0 6 ++ body 1 0 7)) []) ≡ row 0 3 0
+deliver_unmet : told (meets 2 (bodied (rec3 0 0 0) 2 (body 0 0 6 ++ body 1 0 7)) []) ≡ row 0 3 0
 unfolding told happened
-deliver-unmet = refl
+deliver_unmet = refl
 
-deliver-unmet-past : meets 2 (bodied (rec3 0 0 0) 3 (body 0 0 6 ++ body 1 0 7)) [] ≡ stuck
+deliver_unmet_past : meets 2 (bodied (rec3 0 0 0) 3 (body 0 0 6 ++ body 1 0 7)) [] ≡ stuck
 unfolding happened
-deliver-unmet-past = refl
+deliver_unmet_past = refl
 
 -- a body that is there is found: the reaction; in Corrupt, the panic body; in start, the initial one
-deliver-past : told (meets 2 (bodied (rec3 0 0 0) 4 (body 0 0 6 ++ body 1 0 7 ++ body 2 0 6)) []) ≡ row 0 1 0
+deliver_past : told (meets 2 (bodied (rec3 0 0 0) 4 (body 0 0 6 ++ body 1 0 7 ++ body 2 0 6)) []) ≡ row 0 1 0
 unfolding told happened
-deliver-past = refl
+deliver_past = refl
 
-corrupt-past : told (meets 3 (bodied (rec3 0 0 0) 3 (body 0 0 6 ++ body 1 0 7)) []) ≡ row 0 3 0
+corrupt_past : told (meets 3 (bodied (rec3 0 0 0) 3 (body 0 0 6 ++ body 1 0 7)) []) ≡ row 0 3 0
 unfolding told happened
-corrupt-past = refl
+corrupt_past = refl
 
 start-past : told (begun (bodied (rec3 0 0 0) 3 (body 0 0 6 ++ body 1 0 7))) ≡ row 0 1 0
 unfolding told begun
 start-past = refl
 
 -- and one that is needed is not: "the panic body"; "the initial bodies"
-corrupt-absent : meets 3 (bodied (rec3 0 0 0) 3 (body 0 0 6)) [] ≡ stuck
+corrupt_absent : meets 3 (bodied (rec3 0 0 0) 3 (body 0 0 6)) [] ≡ stuck
 unfolding happened
-corrupt-absent = refl
+corrupt_absent = refl
 
-start-absent : begun (bodied (rec3 0 0 0) 3 (body 1 0 7)) ≡ stuck
+start_absent : begun (bodied (rec3 0 0 0) 3 (body 1 0 7)) ≡ stuck
 unfolding begun
-start-absent = refl
+start_absent = refl
 
 -- ---- stuck only where "then its own act" comes to it: operands before, whatever they refuse
 
 -- not of an operand with a higher number, false; not of itself, until the step limit; the same of 43 sequence
-not-higher : told (begun (limited 20 (rec3 8 8 0 ++ rec3 1 0 0 ++ rec6 41 7 6 6 0 0))) ≡ row 0 4 0
+not_higher : told (begun (limited 20 (rec3 8 8 0 ++ rec3 1 0 0 ++ rec6 41 7 6 6 0 0))) ≡ row 0 4 0
 unfolding told begun
-not-higher = refl
+not_higher = refl
 
 not_itself : told (begun (limited 20 (testing (rec3 8 7 0)))) ≡ row 10 20 0
 unfolding told begun
@@ -614,21 +614,21 @@ arm-bool-refused : told (begun (doing 17 0 (rec6 36 0 2 0 0 0))) ≡ row 6 4 0
 unfolding told begun
 arm-bool-refused = refl
 
-arm-past : begun (doing 18 0 (rec6 36 1 0 0 0 0)) ≡ stuck
+arm_past : begun (doing 18 0 (rec6 36 1 0 0 0 0)) ≡ stuck
 unfolding begun
-arm-past = refl
+arm_past = refl
 
-arm-past-refused : told (begun (doing 18 0 (rec6 36 1 2 0 0 0))) ≡ row 6 4 0
+arm_past_refused : told (begun (doing 18 0 (rec6 36 1 2 0 0 0))) ≡ row 6 4 0
 unfolding told begun
-arm-past-refused = refl
+arm_past_refused = refl
 
-arm-name-absent : begun (doing 18 0 (rec6 36 0 0 2 0 0)) ≡ stuck
+arm-name_absent : begun (doing 18 0 (rec6 36 0 0 2 0 0)) ≡ stuck
 unfolding begun
-arm-name-absent = refl
+arm-name_absent = refl
 
-arm-name-absent-refused : told (begun (doing 18 0 (rec6 36 0 2 2 0 0))) ≡ row 6 4 0
+arm-name_absent_refused : told (begun (doing 18 0 (rec6 36 0 2 2 0 0))) ≡ row 6 4 0
 unfolding told begun
-arm-name-absent-refused = refl
+arm-name_absent_refused = refl
 
 -- 33 assign false to a Bool; 1; 1 to a variable past the chart's. With 1 div 0: 6
 bool : told (begun (doing 17 0 (rec6 33 1 0 5 0 0))) ≡ row 0 2 0
@@ -643,52 +643,52 @@ assign-int-refused : told (begun (doing 17 0 (rec6 33 1 0 2 0 0))) ≡ row 6 4 0
 unfolding told begun
 assign-int-refused = refl
 
-assign-past : begun (doing 17 0 (rec6 33 1 1 0 0 0)) ≡ stuck
+assign_past : begun (doing 17 0 (rec6 33 1 1 0 0 0)) ≡ stuck
 unfolding begun
-assign-past = refl
+assign_past = refl
 
-assign-past-refused : told (begun (doing 17 0 (rec6 33 1 1 2 0 0))) ≡ row 6 4 0
+assign_past_refused : told (begun (doing 17 0 (rec6 33 1 1 2 0 0))) ≡ row 6 4 0
 unfolding told begun
-assign-past-refused = refl
+assign_past_refused = refl
 
 -- but "all defaults, nothing waiting, then the initial bodies": a declaration that is absent is met before
-defaults-before : begun (doing 19 0 (rec6 33 1 0 2 0 0)) ≡ stuck
+defaults_before : begun (doing 19 0 (rec6 33 1 0 2 0 0)) ≡ stuck
 unfolding begun
-defaults-before = refl
+defaults_before = refl
 
 -- 34 external send to Log on log; of name 2, which is absent; to 1, which is no Component. With 1 div 0 for the receiver, or for the port: 6
 send : told (begun (doing 18 0 (rec6 34 3 4 0 0 0))) ≡ row 0 3 1
 unfolding told begun
 send = refl
 
-send-name-absent : begun (doing 18 0 (rec6 34 3 4 2 0 0)) ≡ stuck
+send_name_absent : begun (doing 18 0 (rec6 34 3 4 2 0 0)) ≡ stuck
 unfolding begun
-send-name-absent = refl
+send_name_absent = refl
 
-send-name-absent-refused : told (begun (doing 18 0 (rec6 34 2 4 2 0 0))) ≡ row 6 4 0
+send_name_absent_refused : told (begun (doing 18 0 (rec6 34 2 4 2 0 0))) ≡ row 6 4 0
 unfolding told begun
-send-name-absent-refused = refl
+send_name_absent_refused = refl
 
-send-to-int : begun (doing 18 0 (rec6 34 0 4 0 0 0)) ≡ stuck
+send_to_int : begun (doing 18 0 (rec6 34 0 4 0 0 0)) ≡ stuck
 unfolding begun
-send-to-int = refl
+send_to_int = refl
 
-send-to-int-refused : told (begun (doing 18 0 (rec6 34 0 2 0 0 0))) ≡ row 6 5 0
+send_to_int-refused : told (begun (doing 18 0 (rec6 34 0 2 0 0 0))) ≡ row 6 5 0
 unfolding told begun
-send-to-int-refused = refl
+send_to_int-refused = refl
 
 -- with two data, Ints; the first is false; the second besides 1 div 0: 6
-data-ints : told (begun (doing 18 2 (rec6 34 3 4 0 0 0))) ≡ row 0 5 1
+data_ints : told (begun (doing 18 2 (rec6 34 3 4 0 0 0))) ≡ row 0 5 1
 unfolding told begun
-data-ints = refl
+data_ints = refl
 
-data-bool : begun (doing 18 2 (rec6 34 3 4 0 5 0)) ≡ stuck
+data_bool : begun (doing 18 2 (rec6 34 3 4 0 5 0)) ≡ stuck
 unfolding begun
-data-bool = refl
+data_bool = refl
 
-data-bool-refused : told (begun (doing 18 2 (rec6 34 3 4 0 5 2))) ≡ row 6 7 0
+data_bool-refused : told (begun (doing 18 2 (rec6 34 3 4 0 5 2))) ≡ row 6 7 0
 unfolding told begun
-data-bool-refused = refl
+data_bool-refused = refl
 
 -- ---- words of a state that can't be
 
@@ -699,62 +699,62 @@ firing name = pos 1 ∷ pos 1 ∷ pos 1 ∷ name ∷ replicate 4 (pos 0)
 -- the initial body of element 2 sends: how it ends
 sends : ℤ → Ran
 unfolding begun sent
-sends count = let ss = sheetOf (doing 18 0 (rec6 34 3 4 0 0 0)) in (ranBody ss (limitOf ss) 2 (elementBody ss 2 isInitial) [] (state count (cell 0) (sent 0 2))).ran
+sends count = let ss = sheet_of (doing 18 0 (rec6 34 3 4 0 0 0)) in (ran_body ss (limit_of ss) 2 (element_body ss 2 is_initial) [] (state count (cell 0) (sent 0 2))).ran
 
 -- "the number of waiting telegrams" is 1; −1; 129, for which there are no places: Outside
 outside-counted : told (happened 1 (pos 2) (both 0) (pos 1) [] (sent 0 2)) ≡ row 0 0 2
 unfolding told happened
 outside-counted = refl
 
-outside-uncounted : happened 1 (pos 2) (both 0) (negsuc 0) [] (sent 0 2) ≡ stuck
+outside_uncounted : happened 1 (pos 2) (both 0) (negsuc 0) [] (sent 0 2) ≡ stuck
 unfolding happened
-outside-uncounted = refl
+outside_uncounted = refl
 
-outside-overcounted : happened 1 (pos 2) (both 0) (pos 129) [] (sent 0 2) ≡ stuck
+outside_overcounted : happened 1 (pos 2) (both 0) (pos 129) [] (sent 0 2) ≡ stuck
 unfolding happened
-outside-overcounted = refl
+outside_overcounted = refl
 
 -- it is 1; −1: Deliver, Corrupt, Inner
 deliver-counted : told (happened 2 (pos 2) (both 0) (pos 1) [] (sent 0 2)) ≡ row 0 1 0
 unfolding told happened
 deliver-counted = refl
 
-deliver-uncounted : happened 2 (pos 2) (both 0) (negsuc 0) [] (sent 0 2) ≡ stuck
+deliver_uncounted : happened 2 (pos 2) (both 0) (negsuc 0) [] (sent 0 2) ≡ stuck
 unfolding happened
-deliver-uncounted = refl
+deliver_uncounted = refl
 
 corrupt-counted : told (happened 3 (pos 2) (both 0) (pos 1) [] (sent 0 2)) ≡ row 0 1 0
 unfolding told happened
 corrupt-counted = refl
 
-corrupt-uncounted : happened 3 (pos 2) (both 0) (negsuc 0) [] (sent 0 2) ≡ stuck
+corrupt_uncounted : happened 3 (pos 2) (both 0) (negsuc 0) [] (sent 0 2) ≡ stuck
 unfolding happened
-corrupt-uncounted = refl
+corrupt_uncounted = refl
 
 inner-counted : told (happened 4 (pos 2) (both 0) (pos 1) [] internal) ≡ row 0 1 0
 unfolding told happened
 inner-counted = refl
 
-inner-uncounted : happened 4 (pos 2) (both 0) (negsuc 0) [] internal ≡ stuck
+inner_uncounted : happened 4 (pos 2) (both 0) (negsuc 0) [] internal ≡ stuck
 unfolding happened
-inner-uncounted = refl
+inner_uncounted = refl
 
 -- a clock that fires; a send
 fires-counted : told (happened 5 (pos 0) (doing 18 0 []) (pos 1) (firing (pos 0)) (sent 0 2)) ≡ row 0 0 2
 unfolding told happened
 fires-counted = refl
 
-fires-uncounted : happened 5 (pos 0) (doing 18 0 []) (negsuc 0) (firing (pos 0)) (sent 0 2) ≡ stuck
+fires_uncounted : happened 5 (pos 0) (doing 18 0 []) (negsuc 0) (firing (pos 0)) (sent 0 2) ≡ stuck
 unfolding happened
-fires-uncounted = refl
+fires_uncounted = refl
 
-sends-counted : sends (pos 1) ≡ Done 1997
+sends_counted : sends (pos 1) ≡ Done 1997
 unfolding sends
-sends-counted = refl
+sends_counted = refl
 
-sends-uncounted : sends (negsuc 0) ≡ Stuck
+sends_uncounted : sends (negsuc 0) ≡ Stuck
 unfolding sends
-sends-uncounted = refl
+sends_uncounted = refl
 
 -- a Deliver finds a telegram whose port is −2, name −1, receiver −3
 deliver-port : happened 2 (pos 2) (both 0) (pos 1) [] (telegram (pos 0) (pos 2) (negsuc 1) (pos 0) (pos 0)) ≡ stuck
@@ -791,6 +791,6 @@ fires-name-below : happened 5 (pos 0) (doing 18 0 []) (pos 1) (firing (negsuc 0)
 unfolding happened
 fires-name-below = refl
 
-fires-name-absent : happened 5 (pos 0) (doing 18 0 []) (pos 1) (firing (pos 2)) (sent 0 2) ≡ stuck
+fires-name_absent : happened 5 (pos 0) (doing 18 0 []) (pos 1) (firing (pos 2)) (sent 0 2) ≡ stuck
 unfolding happened
-fires-name-absent = refl
+fires-name_absent = refl

@@ -3,18 +3,18 @@ use Prim.Native.Nat.{ℕ, zero, suc, ◌+◌, ◌*◌, ◌-◌}
 use mathlib.Core.List.{List, [], ◌∷◌, ◌++◌}
 use lib.ListN.{replicate}
 use lib.IntN.{ℤ, pos}
-use Rattle.sheet_rules.proofs.Samples.{sheetOf, rec3, rec6, body}
+use Rattle.sheet_rules.proofs.Samples.{sheet_of, rec3, rec6, body}
 use Rattle.machine.specs.declared.Handed.TheVariants.{Nothing}
-use Rattle.machine.specs.State.{stateLength, waiting}
-use Rattle.machine.specs.Valid.{nameFits, reactionAwaits, zeroWords, runningClock, clockCell, cellFits, variableFits, elementFits, internalFits, externalFits, telegramFits, headFits, cellsFit, waitingFit, unusedZero, classesFit, contentFits}
-use Rattle.machine.specs.Play.{Outcome, ended, stuck, answer, restZero, wellFormed, isEvent, ifPassed, startCall, eventCall, limitOf}
+use Rattle.machine.specs.State.{state_length, waiting}
+use Rattle.machine.specs.Valid.{name_fits, reaction_awaits, zero_words, running_clock, clock_cell, cell_fits, variable_fits, element_fits, internal_fits, external_fits, telegram_fits, head_fits, cells_fit_lem, waiting_fit, unused_zero, classes_fit, content_fits}
+use Rattle.machine.specs.Play.{Outcome, ended, stuck, answer, rest_zero, well_formed, is_event, if_passed, start_call, event_call, limit_of}
 use Rattle.machine.proofs.Samples.{event, words, sent, row}
 
 -- a whole call, with every definition open
 unfoldable pub start : List (List ℕ) → Outcome
-unfolding event nameFits reactionAwaits zeroWords runningClock clockCell cellFits variableFits elementFits internalFits externalFits telegramFits headFits
-    cellsFit waitingFit unusedZero classesFit contentFits restZero wellFormed isEvent ifPassed startCall eventCall
-start ss = startCall (sheetOf ss) (limitOf (sheetOf ss)) (replicate (stateLength (sheetOf ss)) (pos 0))
+unfolding event name_fits reaction_awaits zero_words running_clock clock_cell cell_fits variable_fits element_fits internal_fits external_fits telegram_fits head_fits
+    cells_fit_lem waiting_fit unused_zero classes_fit content_fits rest_zero well_formed is_event if_passed start_call event_call
+start ss = start_call (sheet_of ss) (limit_of (sheet_of ss)) (replicate (state_length (sheet_of ss)) (pos 0))
 
 -- what is answered, without a telegram handed outside
 unfoldable pub answered : ℕ → ℕ → List ℤ → Outcome
@@ -25,13 +25,13 @@ heard : Outcome → (List ℤ → List (List ℕ)) → List (List ℕ)
 heard (ended a st) K = row a.number a.steps (waiting st) ∷ K st
 heard stuck K = []
 
-playFrom : List (List ℕ) → List (List ℤ) → List ℤ → List (List ℕ)
-playFrom ss [] st = []
-playFrom ss (ev ∷ evs) st = heard (event ss st ev) (playFrom ss evs)
+play_from : List (List ℕ) → List (List ℤ) → List ℤ → List (List ℕ)
+play_from ss [] st = []
+play_from ss (ev ∷ evs) st = heard (event ss st ev) (play_from ss evs)
 
 unfoldable pub play : List (List ℕ) → List (List ℤ) → List (List ℕ)
-unfolding start event row heard playFrom words
-play ss evs = heard (start ss) (playFrom ss evs)
+unfolding start event row heard play_from words
+play ss evs = heard (start ss) (play_from ss evs)
 
 -- ---- clocks
 
@@ -96,9 +96,9 @@ sixteens zero a r = []
 sixteens (suc n) a r = copies 16 (sent a r) ++ sixteens n (suc a) r
 
 -- with eight external components 128 wait in classes of at most 16: 16 from each of 1 to 7 to element 8, n from Log, and more
-unfoldable pub atEight : ℕ → List ℤ → List ℤ
-atEight n more = sixteens 7 1 8 ++ copies n (sent 0 8) ++ more
+unfoldable pub at_eight : ℕ → List ℤ → List ℤ
+at_eight n more = sixteens 7 1 8 ++ copies n (sent 0 8) ++ more
 
 -- one of them goes from element 8 to Log
 unfoldable pub full : List ℤ
-full = waits 128 [] (atEight 15 (sent 8 0))
+full = waits 128 [] (at_eight 15 (sent 8 0))

@@ -7,9 +7,9 @@ use Rattle.machine.proofs.Samples.{words, row}
 use Rattle.machine_samples.proofs.Plays.{play, arming, timeout, slices}
 
 -- "Firing a Timeout one slice early"
-timeout-two : play (timeout 2) (slices 3) ≡ row 0 2 0 ∷ row 0 0 0 ∷ row 0 0 1 ∷ row 0 0 1 ∷ []
+timeout_two : play (timeout 2) (slices 3) ≡ row 0 2 0 ∷ row 0 0 0 ∷ row 0 0 1 ∷ row 0 0 1 ∷ []
 unfolding play timeout arming slices
-timeout-two = refl
+timeout_two = refl
 
 -- "running the panic body for an internal telegram"; "letting a send to self count as internal"
 
@@ -27,6 +27,6 @@ selfish =
     ∷ []
 
 -- Inner twice, then a Deliver, for which there is no reaction
-to-oneself : play selfish (words 4 0 2 ∷ words 4 0 2 ∷ words 2 2 2 ∷ []) ≡ row 0 5 2 ∷ row 0 3 1 ∷ row 5 0 1 ∷ row 0 1 0 ∷ []
+to_oneself : play selfish (words 4 0 2 ∷ words 4 0 2 ∷ words 2 2 2 ∷ []) ≡ row 0 5 2 ∷ row 0 3 1 ∷ row 5 0 1 ∷ row 0 1 0 ∷ []
 unfolding play selfish
-to-oneself = refl
+to_oneself = refl

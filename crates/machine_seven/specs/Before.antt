@@ -7,39 +7,39 @@ use Rattle.sheet.specs.declared.Found.{Found}
 use Rattle.sheet.specs.declared.Found.TheVariants.{Present, Absent}
 use Rattle.sheet.specs.All.{◌and◌}
 use Rattle.sheet.specs.Names
-use Rattle.sheet.specs.Names.{charts, nodes, bindings, boundChart, operator, isLiteral}
-use Rattle.sheet.specs.Sheet.{recordOf}
-use Rattle.sheet_rules.specs.Fields.{isField, sumBelow, externalsOf}
+use Rattle.sheet.specs.Names.{charts, nodes, bindings, bound_chart, operator, is_literal}
+use Rattle.sheet.specs.Sheet.{record_of}
+use Rattle.sheet_rules.specs.Fields.{is_field, sum_below, externals_of}
 use Rattle.sheet_rules.specs.Indices.{index_at, is_plain}
-use Rattle.sheet_rules.specs.Shape.{variablesAt}
-use Rattle.sheet_rules.specs.Types.{variableAt}
-use Rattle.sheet_seven.specs.Before.{constant_of, cellsBound}
+use Rattle.sheet_rules.specs.Shape.{variables_at}
+use Rattle.sheet_rules.specs.Types.{variable_at}
+use Rattle.sheet_seven.specs.Before.{constant_of, cells_bound}
 use Rattle.machine.specs.declared.Out.{Out}
-use Rattle.machine.specs.Values.{isBound}
+use Rattle.machine.specs.Values.{is_bound_lem}
 use Rattle.machine.specs.State.{word_of}
-use Rattle.machine.specs.Eval.{Context, needs, onRecord, val, literalValue, within, ofType, onType, bodyWords, variableAtCell}
+use Rattle.machine.specs.Eval.{Context, needs, on_record, val, literal_value, within, of_type, on_type, body_words, variable_at_cell}
 
-unfoldable pub bindingOf : List ℕ → ℕ → Found
-bindingOf s e = elim (isBound s e) [ true ↦ recordOf s bindings (e - externalsOf s) | false ↦ Absent ]
+unfoldable pub binding_of : List ℕ → ℕ → Found
+binding_of s e = elim (is_bound_lem s e) [ true ↦ record_of s bindings (e - externals_of s) | false ↦ Absent ]
 
-unfoldable pub chartOf : List ℕ → ℕ → Found
-chartOf s e = elim (bindingOf s e) [ Present b ↦ recordOf s charts (boundChart b) | Absent ↦ Absent ]
+unfoldable pub chart_of : List ℕ → ℕ → Found
+chart_of s e = elim (binding_of s e) [ Present b ↦ record_of s charts (bound_chart b) | Absent ↦ Absent ]
 
-unfoldable pub firstCell : List ℕ → ℕ → ℕ
-firstCell s e = sumBelow (e - externalsOf s) (cellsBound s)
+unfoldable pub first_cell : List ℕ → ℕ → ℕ
+first_cell s e = sum_below (e - externals_of s) (cells_bound s)
 
 -- what reading gives, where b is the binding record that the run held
 module _ (s : List ℕ) (x : Context) (b : Record) where
-  unfoldable pub parameterVal : ℕ → ℕ → ℕ → Out
-  parameterVal n t l = needs (isField (1 + n)) (onRecord (recordOf s nodes (constant_of b n)) (λ r. needs (isLiteral (operator r)) (ofType t (literalValue x.element r) (within s (literalValue x.element r) l))))
+  unfoldable pub parameter_val : ℕ → ℕ → ℕ → Out
+  parameter_val n t l = needs (is_field (1 + n)) (on_record (record_of s nodes (constant_of b n)) (λ r. needs (is_literal (operator r)) (of_type t (literal_value x.element r) (within s (literal_value x.element r) l))))
 
   module _ (st lo : List ℤ) where
-    unfoldable pub readAs : ℕ → ℕ → ℕ → ℕ → Out
-    readAs place n t l =
-        elim (eqb place Names.chartParameter) [
-          | true ↦ parameterVal n t l
-          | false ↦ elim (eqb place Names.chartVariable) [ true ↦ within s (val t (word_of st (variableAtCell s x n 0))) l | false ↦ needs (ltb n bodyWords) (within s (val t (word_of lo n)) l) ]
+    unfoldable pub read_as_lem : ℕ → ℕ → ℕ → ℕ → Out
+    read_as_lem place n t l =
+        elim (eqb place Names.chart_parameter) [
+          | true ↦ parameter_val n t l
+          | false ↦ elim (eqb place Names.chart_variable) [ true ↦ within s (val t (word_of st (variable_at_cell s x n 0))) l | false ↦ needs (ltb n body_words) (within s (val t (word_of lo n)) l) ]
         ]
 
-    unfoldable pub readVal : ℕ → ℕ → ℕ → Out
-    readVal place n l = needs (ltb n (variablesAt x.chart x.body place) and is_plain (index_at s (variableAt x.chart x.body place n))) (onType s (variableAt x.chart x.body place n) (λ t. readAs place n t l))
+    unfoldable pub read_val : ℕ → ℕ → ℕ → Out
+    read_val place n l = needs (ltb n (variables_at x.chart x.body place) and is_plain (index_at s (variable_at x.chart x.body place n))) (on_type s (variable_at x.chart x.body place n) (λ t. read_as_lem place n t l))

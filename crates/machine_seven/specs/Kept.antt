@@ -4,24 +4,24 @@ use Rattle.std.specs.Prelude.{ℕ, ◌≡◌, List, true, ℤ}
 use Rattle.sheet.specs.declared.Record.{Record}
 use Rattle.sheet.specs.declared.Found.TheVariants.{Present}
 use Rattle.sheet.specs.Names.{charts, bindings}
-use Rattle.sheet.specs.Sheet.{recordOf}
-use Rattle.sheet_seven.specs.Kept.{upToSeven, SheetKept}
-use Rattle.machine.specs.Values.{bindingAt, bindingOf, chartOf, firstCell}
-use Rattle.machine.specs.Eval.{Context, readVal}
+use Rattle.sheet.specs.Sheet.{record_of}
+use Rattle.sheet_seven.specs.Kept.{up_to_seven, SheetKept}
+use Rattle.machine.specs.Values.{binding_at, binding_of, chart_of, first_cell}
+use Rattle.machine.specs.Eval.{Context, read_val}
 use Rattle.machine_seven.specs.Before as before
 
 pub record StoredKept (s : List ℕ) : Type 0 where
   -- shape, uses, static rules, check
   pub sheet : SheetKept s
   -- an element's binding, chart and first cell
-  pub binding : (e : ℕ) → bindingOf s e ≡ before.bindingOf s e
-  pub chart : (e : ℕ) → chartOf s e ≡ before.chartOf s e
-  pub first : (e : ℕ) → firstCell s e ≡ before.firstCell s e
+  pub binding : (e : ℕ) → binding_of s e ≡ before.binding_of s e
+  pub chart : (e : ℕ) → chart_of s e ≡ before.chart_of s e
+  pub first : (e : ℕ) → first_cell s e ≡ before.first_cell s e
   -- the record by whose number a run finds its constants is the one that it held
-  pub held : (e : ℕ) (b : Record) → before.bindingOf s e ≡ Present b → recordOf s bindings (bindingAt s e) ≡ Present b
+  pub held : (e : ℕ) (b : Record) → before.binding_of s e ≡ Present b → record_of s bindings (binding_at s e) ≡ Present b
   -- 7 read in a chart of the sheet, of any place and number
-  pub reading : (x : Context) (b : Record) (k : ℕ) → recordOf s charts k ≡ Present x.chart → recordOf s bindings x.binding ≡ Present b → (st lo : List ℤ) (place n l : ℕ) → readVal s x st lo place n l ≡ before.readVal s x b st lo place n l
+  pub reading : (x : Context) (b : Record) (k : ℕ) → record_of s charts k ≡ Present x.chart → record_of s bindings x.binding ≡ Present b → (st lo : List ℤ) (place n l : ℕ) → read_val s x st lo place n l ≡ before.read_val s x b st lo place n l
 
 -- for every sheet none of whose charts has more than seven parameters, passed or not
 abbrev pub EveryStored : Type 0
-EveryStored = (s : List ℕ) → upToSeven s ≡ true → StoredKept s
+EveryStored = (s : List ℕ) → up_to_seven s ≡ true → StoredKept s

@@ -11,72 +11,72 @@ use borrow.Author.Tests.{leb-true}
 use Rattle.sheet.specs.declared.Record.{Record}
 use Rattle.sheet.specs.declared.Found.{Found}
 use Rattle.sheet.specs.declared.Found.TheVariants.{Present, Absent}
-use Rattle.sheet.specs.Names.{chartVariables, isClock}
-use Rattle.sheet.proofs.All.{true-false, and_first, and_second, and-true}
+use Rattle.sheet.specs.Names.{chart_variables, is_clock}
+use Rattle.sheet.proofs.All.{true_false, and_first, and_second, and-true}
 use Rattle.sheet_rules.specs.declared.Checked.TheVariants.{Passed}
-use Rattle.sheet_rules.specs.Fields.{type_at, sumBelow, externalsOf, elementsOf}
-use Rattle.sheet_rules.specs.Indices.{cellsTaken, cellsBefore}
-use Rattle.sheet_rules.specs.Shape.{typeExists, cellsBound, cells_of}
-use Rattle.sheet_rules.specs.Check.{checkOf}
-use Rattle.machine.specs.Values.{isBelow, is_zero, defaultIn, defaultOf, chartOf, firstCell}
-use Rattle.machine.specs.State.{places, cell_at, cell_of, placeAt, stateLength, word_of, waiting}
-use Rattle.machine.specs.Valid.{zeroWords, clockCell, cellFits, headFits, OfSheet}
-use Rattle.machine.specs.Play.{defaultCell, alike, defaultCells, elementCells, cellsFrom, defaultState}
-use Rattle.sheet_rules.proofs.Sums.{sum-rises}
-use Rattle.sheet_rules.proofs.DataTypes.{type-no-data}
-use Rattle.sheet_rules.proofs.Fields.{holds-present, holds-absent, sum_more}
+use Rattle.sheet_rules.specs.Fields.{type_at, sum_below, externals_of, elements_of}
+use Rattle.sheet_rules.specs.Indices.{cells_taken, cells_before}
+use Rattle.sheet_rules.specs.Shape.{type_exists, cells_bound, cells_of}
+use Rattle.sheet_rules.specs.Check.{check_of}
+use Rattle.machine.specs.Values.{is_below, is_zero, default_in, default_of, chart_of, first_cell}
+use Rattle.machine.specs.State.{places, cell_at, cell_of, place_at, state_length, word_of, waiting}
+use Rattle.machine.specs.Valid.{zero_words, clock_cell, cell_fits, head_fits, OfSheet}
+use Rattle.machine.specs.Play.{default_cell, alike, default_cells, element_cells, cells_from, default_state}
+use Rattle.sheet_rules.proofs.Sums.{sum_rises}
+use Rattle.sheet_rules.proofs.DataTypes.{type_no_data}
+use Rattle.sheet_rules.proofs.Fields.{holds-present, holds_absent, sum_more}
 use Rattle.machine_passed.proofs.Records.{declared-exists}
 use Rattle.machine_passed.proofs.Charts.{element-chart, number_bound, bound-element}
-use Rattle.machine_passed.proofs.Declared.{default-in, element-declared}
+use Rattle.machine_passed.proofs.Declared.{default_in_lem, element-declared}
 use Rattle.machine_states.proofs.Frame.{Same, cell_same}
-use Rattle.machine_states.proofs.Words.{word-front, word-rest}
-use Rattle.machine_states.proofs.Classes.{classes-fit, none-like}
-use Rattle.machine_states.proofs.Elements.{element-number, element-count, element-from, cell_below, variable-cells}
-use Rattle.machine_states.proofs.Parts.{zeros, cells_fit, telegrams-fit, rest-unused}
+use Rattle.machine_states.proofs.Words.{word_front_lem, word_rest}
+use Rattle.machine_states.proofs.Classes.{classes_fit_lem, none_like}
+use Rattle.machine_states.proofs.Elements.{element-number, element-count, element_from, cell_below, variable-cells}
+use Rattle.machine_states.proofs.Parts.{zeros, cells_fit_lem, telegrams_fit, rest-unused}
 
 -- ---- a cell
 
-cell-length : (s : List ℕ) (t : ℕ) → length (defaultCell s t) ≡ 8
-unfolding defaultCell
-cell-length s t = refl
+cell_length : (s : List ℕ) (t : ℕ) → length (default_cell s t) ≡ 8
+unfolding default_cell
+cell_length s t = refl
 
-cell-rest : (s : List ℕ) (t k : ℕ) → 1 ≤ k → k < 8 → word_of (defaultCell s t) (0 + k) ≡ pos 0
-unfolding defaultCell word_of
-cell-rest s t zero l m = absurd (omega arith)
-cell-rest s t (suc k) l m = let e : 0 + suc k ≡ suc k = omega arith in rw e (get_or-replicate 7 k (pos 0) (pos 0) (omega arith))
+cell_rest : (s : List ℕ) (t k : ℕ) → 1 ≤ k → k < 8 → word_of (default_cell s t) (0 + k) ≡ pos 0
+unfolding default_cell word_of
+cell_rest s t zero l m = absurd (omega arith)
+cell_rest s t (suc k) l m = let e : 0 + suc k ≡ suc k = omega arith in rw e (get_or-replicate 7 k (pos 0) (pos 0) (omega arith))
 
-clock-zero : (s : List ℕ) (t : ℕ) → isClock t ≡ true → defaultOf s t ≡ pos 0
-unfolding isClock defaultOf defaultIn
-clock-zero s t h =
+clock_zero : (s : List ℕ) (t : ℕ) → is_clock t ≡ true → default_of s t ≡ pos 0
+unfolding is_clock default_of default_in
+clock_zero s t h =
     let l : 4 ≤ t = leb-true _ _ (and_first _ _ h) in
     let m : t ≤ 6 = leb-true _ _ (and_second _ _ h) in
-    ap (defaultIn s) (type-no-data t l (omega arith))
+    ap (default_in s) (type_no_data t l (omega arith))
 
-cell-fits : (s : List ℕ) (e t : ℕ) → checkOf s ≡ Passed → typeExists s t ≡ true → cellFits s e t (defaultCell s t) 0 ≡ true
-unfolding cellFits clockCell word_of defaultCell is_zero
-cell-fits s e t ok h = go (isClock t) refl
+cell_fits_lem : (s : List ℕ) (e t : ℕ) → check_of s ≡ Passed → type_exists s t ≡ true → cell_fits s e t (default_cell s t) 0 ≡ true
+unfolding cell_fits clock_cell word_of default_cell is_zero
+cell_fits_lem s e t ok h = go (is_clock t) refl
   where
-    rest : zeroWords (defaultCell s t) 0 1 ≡ true
-    rest = zeros (defaultCell s t) 0 1 (cell-rest s t)
+    rest : zero_words (default_cell s t) 0 1 ≡ true
+    rest = zeros (default_cell s t) 0 1 (cell_rest s t)
 
-    go : (b : Bool) → isClock t ≡ b → cellFits s e t (defaultCell s t) 0 ≡ true
-    go true q = rw (cellFits, q, clockCell, clock-zero s t q) rest
-    go false q = rw (cellFits, q) (and-true _ _ (default-in s ok t q h) rest)
+    go : (b : Bool) → is_clock t ≡ b → cell_fits s e t (default_cell s t) 0 ≡ true
+    go true q = rw (cell_fits, q, clock_cell, clock_zero s t q) rest
+    go false q = rw (cell_fits, q) (and-true _ _ (default_in_lem s ok t q h) rest)
 
 -- ---- cells alike
 
-alike-length : (n : ℕ) (ws : List ℤ) → length ws ≡ 8 → length (alike n ws) ≡ 8 * n
+alike_length : (n : ℕ) (ws : List ℤ) → length ws ≡ 8 → length (alike n ws) ≡ 8 * n
 unfolding alike
-alike-length zero ws e = refl
-alike-length (suc n) ws e = omega (arith, length-append ws (alike n ws), alike-length n ws e)
+alike_length zero ws e = refl
+alike_length (suc n) ws e = omega (arith, length-append ws (alike n ws), alike_length n ws e)
 
-alike-word : (n : ℕ) (ws : List ℤ) → length ws ≡ 8 → (v k : ℕ) → v < n → k < 8 → word_of (alike n ws) (8 * v + k) ≡ word_of ws k
+alike_word : (n : ℕ) (ws : List ℤ) → length ws ≡ 8 → (v k : ℕ) → v < n → k < 8 → word_of (alike n ws) (8 * v + k) ≡ word_of ws k
 unfolding alike
-alike-word zero ws e v k l m = absurd (omega arith)
-alike-word (suc n) ws e zero k l m = let f : 8 * 0 + k ≡ k = omega arith in rw f (word-front ws (alike n ws) k (omega arith))
-alike-word (suc n) ws e (suc v) k l m =
+alike_word zero ws e v k l m = absurd (omega arith)
+alike_word (suc n) ws e zero k l m = let f : 8 * 0 + k ≡ k = omega arith in rw f (word_front_lem ws (alike n ws) k (omega arith))
+alike_word (suc n) ws e (suc v) k l m =
     let f : 8 * suc v + k ≡ 8 + (8 * v + k) = omega arith in
-    rw f (word-rest ws (alike n ws) 8 (8 * v + k) e ∙ alike-word n ws e v k (omega arith) m)
+    rw f (word_rest ws (alike n ws) 8 (8 * v + k) e ∙ alike_word n ws e v k (omega arith) m)
 
 -- ---- blocks one behind the other, block m of f m cells: n of them from number i on
 
@@ -84,175 +84,175 @@ module _ (block : ℕ → List ℤ) (f : ℕ → ℕ) (from : ℕ → ℕ → Li
   abbrev Whole : ℕ → ℕ → Type 0
   Whole n i = (m : ℕ) → i ≤ m → m < i + n → length (block m) ≡ 8 * f m
 
-  blocks-length : (n i : ℕ) → Whole n i → length (from n i) + 8 * sumBelow i f ≡ 8 * sumBelow (i + n) f
-  blocks-length zero i w = let e : i + 0 ≡ i = omega arith in rw (e, none i) (omega arith)
-  blocks-length (suc n) i w =
+  blocks_length : (n i : ℕ) → Whole n i → length (from n i) + 8 * sum_below i f ≡ 8 * sum_below (i + n) f
+  blocks_length zero i w = let e : i + 0 ≡ i = omega arith in rw (e, none i) (omega arith)
+  blocks_length (suc n) i w =
       let e : i + suc n ≡ i + 1 + n = omega arith in
-      rw (e, more n i) (omega (arith, length-append (block i) (from n (i + 1)), w i (omega arith) (omega arith), blocks-length n (i + 1) (λ m a b. w m (omega arith) (omega arith)), sum_more i f))
+      rw (e, more n i) (omega (arith, length-append (block i) (from n (i + 1)), w i (omega arith) (omega arith), blocks_length n (i + 1) (λ m a b. w m (omega arith) (omega arith)), sum_more i f))
 
   -- word x of block m
-  blocks-word : (n i m x y : ℕ) → Whole n i → i ≤ m → m < i + n → x < 8 * f m → y + 8 * sumBelow i f ≡ 8 * sumBelow m f + x → word_of (from n i) y ≡ word_of (block m) x
-  blocks-word zero i m x y w a b q h = absurd (omega arith)
-  blocks-word (suc n) i m x y w a b q h = elim (dec_lt i m) [
+  blocks_word : (n i m x y : ℕ) → Whole n i → i ≤ m → m < i + n → x < 8 * f m → y + 8 * sum_below i f ≡ 8 * sum_below m f + x → word_of (from n i) y ≡ word_of (block m) x
+  blocks_word zero i m x y w a b q h = absurd (omega arith)
+  blocks_word (suc n) i m x y w a b q h = elim (dec_lt i m) [
     | no here ↦
         (let e : m ≡ i = omega arith in
         let q' : x < 8 * f i = (rw e at q) in
-        let h' : y + 8 * sumBelow i f ≡ 8 * sumBelow i f + x = (rw e at h) in
+        let h' : y + 8 * sum_below i f ≡ 8 * sum_below i f + x = (rw e at h) in
         let g : y ≡ x = omega arith in
-        rw (e, g, more n i) (word-front (block i) (from n (i + 1)) x (omega (arith, w i (omega arith) (omega arith)))))
+        rw (e, g, more n i) (word_front_lem (block i) (from n (i + 1)) x (omega (arith, w i (omega arith) (omega arith)))))
     | yes later ↦
-        (let rise = sum-rises f i m later in
+        (let rise = sum_rises f i m later in
         let g : y ≡ 8 * f i + (y - 8 * f i) = omega arith in
-        rw (g, more n i) (word-rest (block i) (from n (i + 1)) (8 * f i) (y - 8 * f i) (w i (omega arith) (omega arith))
-        ∙ blocks-word n (i + 1) m x (y - 8 * f i) (λ m a b. w m (omega arith) (omega arith)) (omega arith) (omega arith) q (omega (arith, sum_more i f))))
+        rw (g, more n i) (word_rest (block i) (from n (i + 1)) (8 * f i) (y - 8 * f i) (w i (omega arith) (omega arith))
+        ∙ blocks_word n (i + 1) m x (y - 8 * f i) (λ m a b. w m (omega arith) (omega arith)) (omega arith) (omega arith) q (omega (arith, sum_more i f))))
   ]
 
 -- ---- the cells of an element
 
 module _ (s : List ℕ) (c : Record) where
-  abbrev variableCells : ℕ → List ℤ
-  variableCells j = alike (cellsTaken s ((chartVariables c).first + j)) (defaultCell s (type_at s ((chartVariables c).first + j)))
+  abbrev variable_cells : ℕ → List ℤ
+  variable_cells j = alike (cells_taken s ((chart_variables c).first + j)) (default_cell s (type_at s ((chart_variables c).first + j)))
 
-  abbrev variablesFrom : ℕ → ℕ → List ℤ
-  variablesFrom n j = defaultCells s n ((chartVariables c).first + j)
+  abbrev variables_from : ℕ → ℕ → List ℤ
+  variables_from n j = default_cells s n ((chart_variables c).first + j)
 
-  cells-more : (n j : ℕ) → variablesFrom (suc n) j ≡ variableCells j ++ variablesFrom n (j + 1)
-  unfolding defaultCells
-  cells-more n j = let e : suc ((chartVariables c).first + j) ≡ (chartVariables c).first + (j + 1) = omega arith in rw e refl
+  cells_more : (n j : ℕ) → variables_from (suc n) j ≡ variable_cells j ++ variables_from n (j + 1)
+  unfolding default_cells
+  cells_more n j = let e : suc ((chart_variables c).first + j) ≡ (chart_variables c).first + (j + 1) = omega arith in rw e refl
 
-  cells-none-left : (j : ℕ) → variablesFrom 0 j ≡ []
-  unfolding defaultCells
+  cells-none-left : (j : ℕ) → variables_from 0 j ≡ []
+  unfolding default_cells
   cells-none-left j = refl
 
-  variable-whole : (j : ℕ) → length (variableCells j) ≡ 8 * cellsTaken s ((chartVariables c).first + j)
-  variable-whole j = alike-length _ _ (cell-length s (type_at s ((chartVariables c).first + j)))
+  variable-whole : (j : ℕ) → length (variable_cells j) ≡ 8 * cells_taken s ((chart_variables c).first + j)
+  variable-whole j = alike_length _ _ (cell_length s (type_at s ((chart_variables c).first + j)))
 
-  from_zero : (chartVariables c).first + 0 ≡ (chartVariables c).first
+  from_zero : (chart_variables c).first + 0 ≡ (chart_variables c).first
   from_zero = omega arith
 
-  cells-length : length (defaultCells s (chartVariables c).count (chartVariables c).first) ≡ 8 * cellsBefore s c (chartVariables c).count
-  unfolding cellsBefore sumBelow
-  cells-length =
-      let e : 0 + (chartVariables c).count ≡ (chartVariables c).count = omega arith in
-      let h = (rw (from_zero, e) at (blocks-length variableCells (λ j. cellsTaken s ((chartVariables c).first + j)) variablesFrom cells-none-left cells-more (chartVariables c).count 0 (λ j a b. variable-whole j))) in
+  cells_length : length (default_cells s (chart_variables c).count (chart_variables c).first) ≡ 8 * cells_before s c (chart_variables c).count
+  unfolding cells_before sum_below
+  cells_length =
+      let e : 0 + (chart_variables c).count ≡ (chart_variables c).count = omega arith in
+      let h = (rw (from_zero, e) at (blocks_length variable_cells (λ j. cells_taken s ((chart_variables c).first + j)) variables_from cells-none-left cells_more (chart_variables c).count 0 (λ j a b. variable-whole j))) in
       omega arith
 
-  cells-word : (j v k : ℕ) → j < (chartVariables c).count → v < cellsTaken s ((chartVariables c).first + j) → k < 8 → word_of (defaultCells s (chartVariables c).count (chartVariables c).first) (8 * (cellsBefore s c j + v) + k) ≡ word_of (defaultCell s (type_at s ((chartVariables c).first + j))) k
-  unfolding cellsBefore sumBelow
-  cells-word j v k l h m =
-      (rw from_zero at (blocks-word variableCells (λ j. cellsTaken s ((chartVariables c).first + j)) variablesFrom cells-none-left cells-more (chartVariables c).count 0 j (8 * v + k) (8 * (cellsBefore s c j + v) + k) (λ j a b. variable-whole j) (omega arith) (omega arith) (omega arith) (omega arith)))
-      ∙ alike-word _ _ (cell-length s (type_at s ((chartVariables c).first + j))) v k h m
+  cells_word : (j v k : ℕ) → j < (chart_variables c).count → v < cells_taken s ((chart_variables c).first + j) → k < 8 → word_of (default_cells s (chart_variables c).count (chart_variables c).first) (8 * (cells_before s c j + v) + k) ≡ word_of (default_cell s (type_at s ((chart_variables c).first + j))) k
+  unfolding cells_before sum_below
+  cells_word j v k l h m =
+      (rw from_zero at (blocks_word variable_cells (λ j. cells_taken s ((chart_variables c).first + j)) variables_from cells-none-left cells_more (chart_variables c).count 0 j (8 * v + k) (8 * (cells_before s c j + v) + k) (λ j a b. variable-whole j) (omega arith) (omega arith) (omega arith) (omega arith)))
+      ∙ alike_word _ _ (cell_length s (type_at s ((chart_variables c).first + j))) v k h m
 
-module _ (s : List ℕ) (e : ℕ) (c : Record) (p : chartOf s e ≡ Present c) where
-  element-cells-are : elementCells s e ≡ defaultCells s (chartVariables c).count (chartVariables c).first
-  unfolding elementCells
-  element-cells-are = rw (elementCells, p) refl
+module _ (s : List ℕ) (e : ℕ) (c : Record) (p : chart_of s e ≡ Present c) where
+  element-cells_are : element_cells s e ≡ default_cells s (chart_variables c).count (chart_variables c).first
+  unfolding element_cells
+  element-cells_are = rw (element_cells, p) refl
 
 -- ---- all cells
 
-module _ (s : List ℕ) (ok : checkOf s ≡ Passed) where
-  bound-chart : (i : ℕ) → i < elementsOf s → chartOf s (externalsOf s + i) ≡ Absent → ⊥
+module _ (s : List ℕ) (ok : check_of s ≡ Passed) where
+  bound-chart : (i : ℕ) → i < elements_of s → chart_of s (externals_of s + i) ≡ Absent → ⊥
   bound-chart i l q =
-      let x = bound-element s ok (externalsOf s + i) (number_bound s i l) in
-      true-false (holds-present (chartOf s (externalsOf s + i)) x.1 (λ c. true) (element-chart s (externalsOf s + i) x.0 x.1 x.2)) (holds-absent (chartOf s (externalsOf s + i)) (λ c. true) q)
+      let x = bound-element s ok (externals_of s + i) (number_bound s i l) in
+      true_false (holds-present (chart_of s (externals_of s + i)) x.1 (λ c. true) (element-chart s (externals_of s + i) x.0 x.1 x.2)) (holds_absent (chart_of s (externals_of s + i)) (λ c. true) q)
 
-  element-length : (i : ℕ) → i < elementsOf s → length (elementCells s (externalsOf s + i)) ≡ 8 * cellsBound s i
-  element-length i l = go (chartOf s (externalsOf s + i)) refl
+  element_length : (i : ℕ) → i < elements_of s → length (element_cells s (externals_of s + i)) ≡ 8 * cells_bound s i
+  element_length i l = go (chart_of s (externals_of s + i)) refl
     where
-      go : (f : Found) → chartOf s (externalsOf s + i) ≡ f → length (elementCells s (externalsOf s + i)) ≡ 8 * cellsBound s i
+      go : (f : Found) → chart_of s (externals_of s + i) ≡ f → length (element_cells s (externals_of s + i)) ≡ 8 * cells_bound s i
       go (Present c) p =
-          let e : externalsOf s + i - externalsOf s ≡ i = omega arith in
-          let count : cellsBound s i ≡ cellsBefore s c (chartVariables c).count = (rw e at (element-count s (externalsOf s + i) c p)) in
-          omega (arith, ap length (element-cells-are s (externalsOf s + i) c p), cells-length s c)
+          let e : externals_of s + i - externals_of s ≡ i = omega arith in
+          let count : cells_bound s i ≡ cells_before s c (chart_variables c).count = (rw e at (element-count s (externals_of s + i) c p)) in
+          omega (arith, ap length (element-cells_are s (externals_of s + i) c p), cells_length s c)
       go Absent p = absurd (bound-chart i l p)
 
-  abbrev elementOf : ℕ → List ℤ
-  elementOf i = elementCells s (externalsOf s + i)
+  abbrev element_of : ℕ → List ℤ
+  element_of i = element_cells s (externals_of s + i)
 
-  abbrev elementsFrom : ℕ → ℕ → List ℤ
-  elementsFrom n i = cellsFrom s n (externalsOf s + i)
+  abbrev elements_from : ℕ → ℕ → List ℤ
+  elements_from n i = cells_from s n (externals_of s + i)
 
-  elements-more : (n i : ℕ) → elementsFrom (suc n) i ≡ elementOf i ++ elementsFrom n (i + 1)
-  unfolding cellsFrom
-  elements-more n i = let e : suc (externalsOf s + i) ≡ externalsOf s + (i + 1) = omega arith in rw e refl
+  elements_more : (n i : ℕ) → elements_from (suc n) i ≡ element_of i ++ elements_from n (i + 1)
+  unfolding cells_from
+  elements_more n i = let e : suc (externals_of s + i) ≡ externals_of s + (i + 1) = omega arith in rw e refl
 
-  elements-none : (i : ℕ) → elementsFrom 0 i ≡ []
-  unfolding cellsFrom
+  elements-none : (i : ℕ) → elements_from 0 i ≡ []
+  unfolding cells_from
   elements-none i = refl
 
   -- ---- the state
 
-  abbrev allCells : List ℤ
-  allCells = cellsFrom s (elementsOf s) (externalsOf s)
+  abbrev all_cells : List ℤ
+  all_cells = cells_from s (elements_of s) (externals_of s)
 
-  from_first : externalsOf s + 0 ≡ externalsOf s
+  from_first : externals_of s + 0 ≡ externals_of s
   from_first = omega arith
 
-  cells_whole : length allCells ≡ 8 * cells_of s
-  unfolding cells_of sumBelow
-  cells_whole = let e : 0 + elementsOf s ≡ elementsOf s = omega arith in let h = (rw (from_first, e) at (blocks-length elementOf (cellsBound s) elementsFrom elements-none elements-more (elementsOf s) 0 (λ i a b. element-length i (omega arith)))) in omega arith
+  cells_whole : length all_cells ≡ 8 * cells_of s
+  unfolding cells_of sum_below
+  cells_whole = let e : 0 + elements_of s ≡ elements_of s = omega arith in let h = (rw (from_first, e) at (blocks_length element_of (cells_bound s) elements_from elements-none elements_more (elements_of s) 0 (λ i a b. element_length i (omega arith)))) in omega arith
 
-  front-whole : length (replicate 8 (pos 0) ++ allCells) ≡ placeAt s 0
-  unfolding placeAt
-  front-whole = omega (arith, length-append (replicate 8 (pos 0)) allCells, cells_whole)
+  front_whole : length (replicate 8 (pos 0) ++ all_cells) ≡ place_at s 0
+  unfolding place_at
+  front_whole = omega (arith, length-append (replicate 8 (pos 0)) all_cells, cells_whole)
 
-  default-length : length (defaultState s) ≡ stateLength s
-  unfolding defaultState stateLength placeAt
-  default-length = omega (arith, length-append (replicate 8 (pos 0) ++ allCells) (replicate (8 * places) (pos 0)), front-whole, length-replicate (8 * places) (pos 0))
+  default_length : length (default_state s) ≡ state_length s
+  unfolding default_state state_length place_at
+  default_length = omega (arith, length-append (replicate 8 (pos 0) ++ all_cells) (replicate (8 * places) (pos 0)), front_whole, length-replicate (8 * places) (pos 0))
 
-  head-word : (i : ℕ) → i < 8 → word_of (defaultState s) i ≡ pos 0
-  unfolding defaultState word_of placeAt
-  head-word i l = word-front (replicate 8 (pos 0) ++ allCells) (replicate (8 * places) (pos 0)) i (omega (arith, front-whole)) ∙ word-front (replicate 8 (pos 0)) allCells i l ∙ get_or-replicate 8 i (pos 0) (pos 0) l
+  head_word : (i : ℕ) → i < 8 → word_of (default_state s) i ≡ pos 0
+  unfolding default_state word_of place_at
+  head_word i l = word_front_lem (replicate 8 (pos 0) ++ all_cells) (replicate (8 * places) (pos 0)) i (omega (arith, front_whole)) ∙ word_front_lem (replicate 8 (pos 0)) all_cells i l ∙ get_or-replicate 8 i (pos 0) (pos 0) l
 
-  place-word : (k : ℕ) → k < 8 * places → word_of (defaultState s) (placeAt s 0 + k) ≡ pos 0
-  unfolding defaultState word_of
-  place-word k l = word-rest (replicate 8 (pos 0) ++ allCells) (replicate (8 * places) (pos 0)) (placeAt s 0) k front-whole ∙ get_or-replicate (8 * places) k (pos 0) (pos 0) l
+  place_word : (k : ℕ) → k < 8 * places → word_of (default_state s) (place_at s 0 + k) ≡ pos 0
+  unfolding default_state word_of
+  place_word k l = word_rest (replicate 8 (pos 0) ++ all_cells) (replicate (8 * places) (pos 0)) (place_at s 0) k front_whole ∙ get_or-replicate (8 * places) k (pos 0) (pos 0) l
 
-  module _ (e : ℕ) (c : Record) (p : chartOf s e ≡ Present c) (j : ℕ) (l : j < (chartVariables c).count) (v : ℕ) (here : v < cellsTaken s ((chartVariables c).first + j)) where
+  module _ (e : ℕ) (c : Record) (p : chart_of s e ≡ Present c) (j : ℕ) (l : j < (chart_variables c).count) (v : ℕ) (here : v < cells_taken s ((chart_variables c).first + j)) where
     abbrev kind : ℕ
-    kind = type_at s ((chartVariables c).first + j)
+    kind = type_at s ((chart_variables c).first + j)
 
     abbrev number : ℕ
-    number = firstCell s e + cellsBefore s c j + v
+    number = first_cell s e + cells_before s c j + v
 
-    element-word : (k : ℕ) → k < 8 → word_of allCells (8 * number + k) ≡ word_of (defaultCell s kind) k
-    unfolding firstCell sumBelow
-    element-word k m =
-        let same : externalsOf s + (e - externalsOf s) ≡ e = omega (arith, element-from s e c p) in
-        let inside : 8 * (cellsBefore s c j + v) + k < 8 * cellsBound s (e - externalsOf s) = omega (arith, element-count s e c p, variable-cells s c j (chartVariables c).count l) in
-        (rw (from_first, same) at (blocks-word elementOf (cellsBound s) elementsFrom elements-none elements-more (elementsOf s) 0 (e - externalsOf s) (8 * (cellsBefore s c j + v) + k) (8 * number + k) (λ i a b. element-length i (omega arith)) (omega arith) (omega (arith, element-number s e c p)) inside (omega arith)))
-        ∙ ap (λ (ws : List ℤ). word_of ws (8 * (cellsBefore s c j + v) + k)) (element-cells-are s e c p)
-        ∙ cells-word s c j v k l here m
+    element_word_lem : (k : ℕ) → k < 8 → word_of all_cells (8 * number + k) ≡ word_of (default_cell s kind) k
+    unfolding first_cell sum_below
+    element_word_lem k m =
+        let same : externals_of s + (e - externals_of s) ≡ e = omega (arith, element_from s e c p) in
+        let inside : 8 * (cells_before s c j + v) + k < 8 * cells_bound s (e - externals_of s) = omega (arith, element-count s e c p, variable-cells s c j (chart_variables c).count l) in
+        (rw (from_first, same) at (blocks_word element_of (cells_bound s) elements_from elements-none elements_more (elements_of s) 0 (e - externals_of s) (8 * (cells_before s c j + v) + k) (8 * number + k) (λ i a b. element_length i (omega arith)) (omega arith) (omega (arith, element-number s e c p)) inside (omega arith)))
+        ∙ ap (λ (ws : List ℤ). word_of ws (8 * (cells_before s c j + v) + k)) (element-cells_are s e c p)
+        ∙ cells_word s c j v k l here m
 
-    default-cell : Same (defaultState s) (cell_of s e c j v) (defaultCell s kind) 0
-    unfolding defaultState cell_of cell_at placeAt
-    default-cell k m =
+    default_cell_lem : Same (default_state s) (cell_of s e c j v) (default_cell s kind) 0
+    unfolding default_state cell_of cell_at place_at
+    default_cell_lem k m =
         let inside : 8 * number + k < 8 * cells_of s = omega (arith, cell_below s e c p j v l here) in
         let f : 8 + 8 * number + k ≡ 8 + (8 * number + k) = omega arith in
         let z : 0 + k ≡ k = omega arith in
-        rw (f, z) (word-front (replicate 8 (pos 0) ++ allCells) (replicate (8 * places) (pos 0)) (8 + (8 * number + k)) (omega (arith, front-whole)) ∙ word-rest (replicate 8 (pos 0)) allCells 8 (8 * number + k) refl ∙ element-word k m)
+        rw (f, z) (word_front_lem (replicate 8 (pos 0) ++ all_cells) (replicate (8 * places) (pos 0)) (8 + (8 * number + k)) (omega (arith, front_whole)) ∙ word_rest (replicate 8 (pos 0)) all_cells 8 (8 * number + k) refl ∙ element_word_lem k m)
 
-    default-fits : cellFits s e kind (defaultState s) (cell_of s e c j v) ≡ true
-    default-fits = cell_same (defaultState s) (cell_of s e c j v) (defaultCell s kind) 0 default-cell s e kind ∙ cell-fits s e kind ok (declared-exists s ok ((chartVariables c).first + j))
+    default_fits : cell_fits s e kind (default_state s) (cell_of s e c j v) ≡ true
+    default_fits = cell_same (default_state s) (cell_of s e c j v) (default_cell s kind) 0 default_cell_lem s e kind ∙ cell_fits_lem s e kind ok (declared-exists s ok ((chart_variables c).first + j))
 
-  nothing-waits : waiting (defaultState s) ≡ 0
+  nothing_waits_lem : waiting (default_state s) ≡ 0
   unfolding waiting
-  nothing-waits = ap nat_abs (head-word 0 (omega arith))
+  nothing_waits_lem = ap nat_abs (head_word 0 (omega arith))
 
-  default-head : headFits (defaultState s) ≡ true
-  unfolding headFits isBelow
-  default-head = and-true _ _ (ap (λ (z : ℤ). isBelow z (places + 1)) (head-word 0 (omega arith))) (zeros (defaultState s) 0 1 (λ k a b. head-word (0 + k) (omega arith)))
+  default_head : head_fits (default_state s) ≡ true
+  unfolding head_fits is_below
+  default_head = and-true _ _ (ap (λ (z : ℤ). is_below z (places + 1)) (head_word 0 (omega arith))) (zeros (default_state s) 0 1 (λ k a b. head_word (0 + k) (omega arith)))
 
-  place-zero : (n : ℕ) → n < places → zeroWords (defaultState s) (placeAt s n) 0 ≡ true
-  unfolding placeAt
-  place-zero n l = zeros (defaultState s) (placeAt s n) 0 (λ k a b. let e : placeAt s n + k ≡ placeAt s 0 + (8 * n + k) = omega arith in rw e (place-word (8 * n + k) (omega arith)))
+  place_zero : (n : ℕ) → n < places → zero_words (default_state s) (place_at s n) 0 ≡ true
+  unfolding place_at
+  place_zero n l = zeros (default_state s) (place_at s n) 0 (λ k a b. let e : place_at s n + k ≡ place_at s 0 + (8 * n + k) = omega arith in rw e (place_word (8 * n + k) (omega arith)))
 
-  pub default-of-sheet : OfSheet s (defaultState s)
-  default-of-sheet = record {
-    whole = default-length;
-    head = default-head;
-    cells = cells_fit s (defaultState s) bound-chart (element-declared s ok) default-fits;
-    telegrams = telegrams-fit s (defaultState s) 0 nothing-waits (λ j l. absurd (omega arith));
-    unused = rest-unused s (defaultState s) 0 nothing-waits (λ n a l. place-zero n l);
-    classes = classes-fit s (defaultState s) (none-like s (defaultState s) nothing-waits);
+  pub default_of_sheet : OfSheet s (default_state s)
+  default_of_sheet = record {
+    whole = default_length;
+    head = default_head;
+    cells = cells_fit_lem s (default_state s) bound-chart (element-declared s ok) default_fits;
+    telegrams = telegrams_fit s (default_state s) 0 nothing_waits_lem (λ j l. absurd (omega arith));
+    unused = rest-unused s (default_state s) 0 nothing_waits_lem (λ n a l. place_zero n l);
+    classes = classes_fit_lem s (default_state s) (none_like s (default_state s) nothing_waits_lem);
   }

@@ -6,12 +6,12 @@ use native.Mathlib.Omega.{arith}
 use lib.ListN.{length, take}
 use lib.Seq.{length-take-le}
 use lib.IntN.{ℤ}
-use Rattle.machine.specs.Play.{wordsOfEvent}
-use Rattle.machine_lists.specs.Words.{wordsOfAnswer}
-use Rattle.program_input.specs.Input.{roomEvents, bytesOfEvent}
+use Rattle.machine.specs.Play.{words_of_event}
+use Rattle.machine_lists.specs.Words.{words_of_answer}
+use Rattle.program_input.specs.Input.{room_events, bytes_of_event}
 
-pub words-room : (ws : List ℤ) (count bytes : ℕ) → length ws ≡ roomEvents * wordsOfEvent → count ≤ roomEvents → bytesOfEvent * count ≤ bytes → 0 + 4 * length (take (wordsOfEvent * count) ws) ≤ bytes
-words-room ws count bytes h l m = omega (arith, length-take-le (wordsOfEvent * count) ws (omega arith))
+pub words_room : (ws : List ℤ) (count bytes : ℕ) → length ws ≡ room_events * words_of_event → count ≤ room_events → bytes_of_event * count ≤ bytes → 0 + 4 * length (take (words_of_event * count) ws) ≤ bytes
+words_room ws count bytes h l m = omega (arith, length-take-le (words_of_event * count) ws (omega arith))
 
-pub answers-room : (ws rest : List ℤ) (count : ℕ) → wordsOfEvent * count ≤ length ws → wordsOfAnswer * count ≤ length rest → length (take (wordsOfAnswer * count) rest) ≡ wordsOfAnswer * (length (take (wordsOfEvent * count) ws) / wordsOfEvent)
-answers-room ws rest count h k = omega (arith, length-take-le (wordsOfEvent * count) ws h, length-take-le (wordsOfAnswer * count) rest k)
+pub answers_room : (ws rest : List ℤ) (count : ℕ) → words_of_event * count ≤ length ws → words_of_answer * count ≤ length rest → length (take (words_of_answer * count) rest) ≡ words_of_answer * (length (take (words_of_event * count) ws) / words_of_event)
+answers_room ws rest count h k = omega (arith, length-take-le (words_of_event * count) ws h, length-take-le (words_of_answer * count) rest k)

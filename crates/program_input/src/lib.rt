@@ -4,7 +4,7 @@
 ghost use Rattle.std.specs.Prelude.{ℕ, ◌+◌, ◌*◌, ◌-◌, ◌%◌, ◌<◌, ◌≤◌, ◌≡◌, true, pos, length, get_or};
 ghost use Rattle.std.specs.Int.Signed.{lt_z};
 ghost use Rattle.io.specs.Counts.{clamp_len};
-ghost use Rattle.program_input.specs.Input.{sheetSize, bytesOfEvent, roomBytes};
+ghost use Rattle.program_input.specs.Input.{sheet_size, bytes_of_event, room_bytes};
 
 // How many bytes came, and whether a read failed. Where none failed, fewer than there was room for are
 // the input's end.
@@ -60,7 +60,7 @@ pub fn read_all(fd: i32, room: &mut [u8]) -> Came
 // A sheet's length as far as it counts, where `came` of its four bytes came: every sheet of more than
 // 65,535 bytes is refused alike. An incomplete length is 0.
 fn sheet_size(head: &[u8; 4], came: usize) -> usize
-    ensures { (result ≡ sheetSize head.now came) × (result ≤ 65536) }
+    ensures { (result ≡ sheet_size head.now came) × (result ≤ 65536) }
 {
     if came < 4 {
         return 0;
@@ -98,7 +98,7 @@ pub const EVENT_ROOM: usize = 36000;
 
 // How many bytes there is room for, or `left` events where these take fewer.
 fn room(left: u64) -> usize
-    ensures { (result ≤ roomBytes) × (result ≤ bytesOfEvent * left) × (0 < left → bytesOfEvent ≤ result) }
+    ensures { (result ≤ room_bytes) × (result ≤ bytes_of_event * left) × (0 < left → bytes_of_event ≤ result) }
 {
     if left < EVENTS as u64 {
         return EVENT_BYTES * left as usize;
@@ -110,8 +110,8 @@ fn room(left: u64) -> usize
 // events, and waits only where nothing is there. Gives how many bytes there are then: `have` again
 // where the input has ended or the read failed.
 pub fn read_more(fd: i32, events: &mut [u8], have: usize, left: u64) -> Came
-    requires { (length events.old ≡ roomBytes) × (have < bytesOfEvent) × (0 < left) }
-    ensures { (have ≤ result.count) × (result.count ≤ roomBytes) × (result.count ≤ bytesOfEvent * left) × (result.failed ≡ true → result.count ≡ have) }
+    requires { (length events.old ≡ room_bytes) × (have < bytes_of_event) × (0 < left) }
+    ensures { (have ≤ result.count) × (result.count ≤ room_bytes) × (result.count ≤ bytes_of_event * left) × (result.failed ≡ true → result.count ≡ have) }
 {
     let end = room(left);
     let more = read_some(fd, &mut events[have..end]);
@@ -125,7 +125,7 @@ pub fn read_more(fd: i32, events: &mut [u8], have: usize, left: u64) -> Came
 // many they are.
 pub fn keep_rest(events: &mut [u8], came: usize) -> usize
     requires { came ≤ length events.old }
-    ensures { (result ≡ came % bytesOfEvent) × ((k : ℕ) → k < result → get_or events.new k 0 ≡ get_or events.old (came - result + k) 0) }
+    ensures { (result ≡ came % bytes_of_event) × ((k : ℕ) → k < result → get_or events.new k 0 ≡ get_or events.old (came - result + k) 0) }
 {
     let rest = came % EVENT_BYTES;
     let from = came - rest;

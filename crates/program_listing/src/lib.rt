@@ -1,7 +1,7 @@
 // Answers as text in a buffer, for the programs that print them.
 ghost use Rattle.std.specs.Prelude.{◌+◌, ◌≤◌, length};
 ghost use Rattle.program_text.specs.Decimal.{Put};
-ghost use Rattle.program_listing.specs.Listing.{countsText, afterText, telegramText, handedText, startLine, eventLine, longestLine};
+ghost use Rattle.program_listing.specs.Listing.{counts_text, after_text, telegram_text, handed_text, start_line, event_line, longest_line};
 
 use machine::{Answer, Handed, Telegram};
 
@@ -10,7 +10,7 @@ pub const LONGEST_LINE: usize = 220;
 
 pub fn put_counts(out: &mut [u8], at: usize, number: u8, steps: u32) -> usize
     requires { at + 41 ≤ length out.old }
-    ensures { Put out.old at (countsText number steps) out.new result × (result ≤ at + 41) }
+    ensures { Put out.old at (counts_text number steps) out.new result × (result ≤ at + 41) }
 {
     let a = program_text::put_decimal(out, at, number as u64);
     let b = program_text::put(out, a, b' ');
@@ -19,7 +19,7 @@ pub fn put_counts(out: &mut [u8], at: usize, number: u8, steps: u32) -> usize
 
 fn put_after(out: &mut [u8], at: usize, sep: u8, z: i32) -> usize
     requires { at + 22 ≤ length out.old }
-    ensures { Put out.old at (afterText sep z) out.new result × (result ≤ at + 22) }
+    ensures { Put out.old at (after_text sep z) out.new result × (result ≤ at + 22) }
 {
     let a = program_text::put(out, at, sep);
     program_text::put_signed(out, a, z)
@@ -28,7 +28,7 @@ fn put_after(out: &mut [u8], at: usize, sep: u8, z: i32) -> usize
 // What is handed outside, with a separator between the numbers.
 pub fn put_telegram(out: &mut [u8], at: usize, sep: u8, t: Telegram) -> usize
     requires { at + 153 ≤ length out.old }
-    ensures { Put out.old at (telegramText sep t) out.new result × (result ≤ at + 153) }
+    ensures { Put out.old at (telegram_text sep t) out.new result × (result ≤ at + 153) }
 {
     let a = program_text::put_signed(out, at, t.receiver);
     let b = put_after(out, a, sep, t.port);
@@ -41,7 +41,7 @@ pub fn put_telegram(out: &mut [u8], at: usize, sep: u8, t: Telegram) -> usize
 
 fn put_handed(out: &mut [u8], at: usize, h: Handed) -> usize
     requires { at + 157 ≤ length out.old }
-    ensures { Put out.old at (handedText h) out.new result × (result ≤ at + 157) }
+    ensures { Put out.old at (handed_text h) out.new result × (result ≤ at + 157) }
 {
     match h {
         Handed::Nothing => at,
@@ -54,7 +54,7 @@ fn put_handed(out: &mut [u8], at: usize, h: Handed) -> usize
 
 pub fn put_start(out: &mut [u8], at: usize, number: u8, steps: u32) -> usize
     requires { at + 48 ≤ length out.old }
-    ensures { Put out.old at (startLine number steps) out.new result × (result ≤ at + 48) }
+    ensures { Put out.old at (start_line number steps) out.new result × (result ≤ at + 48) }
 {
     let a = program_text::put_bytes(out, at, b"start ");
     let b = put_counts(out, a, number, steps);
@@ -63,8 +63,8 @@ pub fn put_start(out: &mut [u8], at: usize, number: u8, steps: u32) -> usize
 
 // An event's line, from its kind and its answer; no kind has a form of its own.
 pub fn put_event(out: &mut [u8], at: usize, k: u64, kind: i32, a: Answer) -> usize
-    requires { at + longestLine ≤ length out.old }
-    ensures { Put out.old at (eventLine k kind a) out.new result × (result ≤ at + longestLine) }
+    requires { at + longest_line ≤ length out.old }
+    ensures { Put out.old at (event_line k kind a) out.new result × (result ≤ at + longest_line) }
 {
     let b = program_text::put_decimal(out, at, k);
     let c = program_text::put(out, b, b' ');

@@ -1,8 +1,8 @@
 // Plays a sheet with events from a descriptor and writes the listing to standard output.
 ghost use Rattle.std.specs.Prelude.{◌≡◌, length};
-ghost use Rattle.sheet.specs.Sheet.{directoryOf};
+ghost use Rattle.sheet.specs.Sheet.{directory_of};
 ghost use Rattle.sheet_rules.specs.declared.Checked.TheVariants.{Passed};
-ghost use Rattle.sheet_rules.specs.Check.{checkOf};
+ghost use Rattle.sheet_rules.specs.Check.{check_of};
 ghost use Rattle.engine_cells.specs.Lent.{Lent};
 ghost use Rattle.program_runs.specs.Start.{StartAnswers};
 
@@ -63,7 +63,7 @@ fn play_states(
 
 // There is room for the longest state.
 fn play_passed(fd: i32, sheet: &[u8], directory: &Directory, most: u64) -> RunEnd
-    requires { (directory.now ≡ directoryOf sheet.now) × (checkOf sheet.now ≡ Passed) }
+    requires { (directory.now ≡ directory_of sheet.now) × (check_of sheet.now ≡ Passed) }
     ensures { StartAnswers sheet.now result.number }
 {
     let mut st = [0i32; LONGEST];

@@ -16,7 +16,7 @@ use lib.Dec.{T}
 use mir.Syntax.{w32, w64}
 use mir.Val.{Fits, SFits, of_z, to_z}
 use mir.ValLaws.{to_z-of_z}
-use Rattle.program_text.specs.Decimal.{digits, decimal, signed, placed, Put, placeWithRoom}
+use Rattle.program_text.specs.Decimal.{digits, decimal, signed, placed, Put, place_with_room}
 
 -- ---- placed
 
@@ -32,9 +32,9 @@ module _ (xs : List ℕ) (at : ℕ) (t u : List ℕ) (fit : at + length t ≤ le
   front : length (take at xs ++ t) ≡ at + length t
   front = length-append (take at xs) t ∙ ap (λ k. k + length t) (length-take-le at xs (omega arith))
 
-  placed-more : placed (placed xs at t) (at + length t) u ≡ placed xs at (t ++ u)
+  placed_more_lem : placed (placed xs at t) (at + length t) u ≡ placed xs at (t ++ u)
   unfolding placed
-  placed-more =
+  placed_more_lem =
       let p = take at xs ++ t in
       let k = at + length t in
       ap (λ q. q ++ u ++ drop (k + length u) (p ++ drop k xs)) (take_at p (drop k xs) k front)
@@ -42,20 +42,20 @@ module _ (xs : List ℕ) (at : ℕ) (t u : List ℕ) (fit : at + length t ≤ le
       ∙ ap (λ q. q ++ drop (k + length u) xs) (append_assoc (take at xs) t u)
       ∙ ap (λ m. take at xs ++ (t ++ u) ++ drop m xs) (let e : at + length t + length u ≡ at + length (t ++ u) = omega (arith, length-append t u) in e)
 
-  put-more : {ys zs : List ℕ} {m r : ℕ} → Put xs at t ys m → Put ys m u zs r → Put xs at (t ++ u) zs r
-  put-more {ys} {zs} {m} {r} p q = record {
-    text = q.text ∙ ap (λ k. placed ys k u) p.end ∙ ap (λ y. placed y (at + length t) u) p.text ∙ placed-more;
+  put_more : {ys zs : List ℕ} {m r : ℕ} → Put xs at t ys m → Put ys m u zs r → Put xs at (t ++ u) zs r
+  put_more {ys} {zs} {m} {r} p q = record {
+    text = q.text ∙ ap (λ k. placed ys k u) p.end ∙ ap (λ y. placed y (at + length t) u) p.text ∙ placed_more_lem;
     end = omega (arith, p.end, q.end, length-append t u);
   }
 
 -- a text behind a text
 pub put_then : {xs ys zs t u : List ℕ} {at m r : ℕ} → Put xs at t ys m → m ≤ length xs → Put ys m u zs r → Put xs at (t ++ u) zs r
-put_then {xs} {ys} {zs} {t} {u} {at} {m} {r} p l q = put-more xs at t u (omega (arith, p.end)) p q
+put_then {xs} {ys} {zs} {t} {u} {at} {m} {r} p l q = put_more xs at t u (omega (arith, p.end)) p q
 
 -- no text
-pub put-none : (xs : List ℕ) (at : ℕ) → Put xs at [] xs at
+pub put_none : (xs : List ℕ) (at : ℕ) → Put xs at [] xs at
 unfolding placed
-put-none xs at = record { text = paste-zero xs at xs; end = omega arith }
+put_none xs at = record { text = paste-zero xs at xs; end = omega arith }
 
 -- ---- digits
 
@@ -67,14 +67,14 @@ digits_more : (k n : ℕ) → 10 ≤ n → digits (suc k) n ≡ digits k (n / 10
 unfolding digits
 digits_more k n h = rw (digits, le-ltb n 10 h) refl
 
-length-step : (k n : ℕ) → length (digits k (n / 10)) ≤ k → (b : Bool) → ltb n 10 ≡ b → length (digits (suc k) n) ≤ suc k
-length-step k n h true e = rw (digits-one k n (ltb-true _ _ e)) (omega arith)
-length-step k n h false e = rw (digits_more k n (ltb-false _ _ e)) (simp length-append (omega arith))
+length_step : (k n : ℕ) → length (digits k (n / 10)) ≤ k → (b : Bool) → ltb n 10 ≡ b → length (digits (suc k) n) ≤ suc k
+length_step k n h true e = rw (digits-one k n (ltb-true _ _ e)) (omega arith)
+length_step k n h false e = rw (digits_more k n (ltb-false _ _ e)) (simp length-append (omega arith))
 
-pub digits-length : (k n : ℕ) → length (digits k n) ≤ k
+pub digits_length : (k n : ℕ) → length (digits k n) ≤ k
 unfolding digits
-digits-length zero n = omega arith
-digits-length (suc k) n = length-step k n (digits-length k (n / 10)) (ltb n 10) refl
+digits_length zero n = omega arith
+digits_length (suc k) n = length_step k n (digits_length k (n / 10)) (ltb n 10) refl
 
 -- 10 to the power k
 abbrev below : ℕ → ℕ
@@ -82,13 +82,13 @@ below zero = 1
 below (suc k) = 10 * below k
 
 -- more digits than are enough change nothing
-enough-step : (k n : ℕ) → (10 ≤ n → digits (suc k) (n / 10) ≡ digits k (n / 10)) → (b : Bool) → ltb n 10 ≡ b → digits (suc (suc k)) n ≡ digits (suc k) n
-enough-step k n h true e = digits-one (suc k) n (ltb-true _ _ e) ∙ sym (digits-one k n (ltb-true _ _ e))
-enough-step k n h false e = digits_more (suc k) n (ltb-false _ _ e) ∙ ap (λ t. t ++ ((48 + n % 10) ∷ [])) (h (ltb-false _ _ e)) ∙ sym (digits_more k n (ltb-false _ _ e))
+enough_step : (k n : ℕ) → (10 ≤ n → digits (suc k) (n / 10) ≡ digits k (n / 10)) → (b : Bool) → ltb n 10 ≡ b → digits (suc (suc k)) n ≡ digits (suc k) n
+enough_step k n h true e = digits-one (suc k) n (ltb-true _ _ e) ∙ sym (digits-one k n (ltb-true _ _ e))
+enough_step k n h false e = digits_more (suc k) n (ltb-false _ _ e) ∙ ap (λ t. t ++ ((48 + n % 10) ∷ [])) (h (ltb-false _ _ e)) ∙ sym (digits_more k n (ltb-false _ _ e))
 
-digits-enough : (k n : ℕ) → n < below (suc k) → digits (suc (suc k)) n ≡ digits (suc k) n
-digits-enough zero n l = enough-step zero n (λ h. absurd (omega arith)) (ltb n 10) refl
-digits-enough (suc k) n l = enough-step (suc k) n (λ h. digits-enough k (n / 10) (omega arith)) (ltb n 10) refl
+digits_enough : (k n : ℕ) → n < below (suc k) → digits (suc (suc k)) n ≡ digits (suc k) n
+digits_enough zero n l = enough_step zero n (λ h. absurd (omega arith)) (ltb n 10) refl
+digits_enough (suc k) n l = enough_step (suc k) n (λ h. digits_enough k (n / 10) (omega arith)) (ltb n 10) refl
 
 pub decimal-one : (n : ℕ) → n < 10 → decimal n ≡ (48 + n) ∷ []
 unfolding decimal
@@ -96,15 +96,15 @@ decimal-one n h = digits-one 19 n h
 
 module _ (n : ℕ) (long : 10 ≤ n) (fits : n < 18446744073709551616) where
   nineteen : digits 20 (n / 10) ≡ digits 19 (n / 10)
-  nineteen = digits-enough 18 (n / 10) (omega arith)
+  nineteen = digits_enough 18 (n / 10) (omega arith)
 
-  pub decimal-more : decimal n ≡ decimal (n / 10) ++ ((48 + n % 10) ∷ [])
+  pub decimal_more : decimal n ≡ decimal (n / 10) ++ ((48 + n % 10) ∷ [])
   unfolding decimal
-  decimal-more = digits_more 19 n long ∙ ap (λ t. t ++ ((48 + n % 10) ∷ [])) (sym nineteen)
+  decimal_more = digits_more 19 n long ∙ ap (λ t. t ++ ((48 + n % 10) ∷ [])) (sym nineteen)
 
-  pub decimal-room : length (decimal (n / 10)) ≤ 19
+  pub decimal_room : length (decimal (n / 10)) ≤ 19
   unfolding decimal
-  decimal-room = rw nineteen (digits-length 19 (n / 10))
+  decimal_room = rw nineteen (digits_length 19 (n / 10))
 
 -- ---- signed numbers
 
@@ -121,9 +121,9 @@ module _ (z : ℤ) (h : SFits w32 z) where
   pub read_wide : to_z w64 (of_z w64 (to_z w32 (of_z w32 z))) ≡ z
   read_wide = rw back (to_z-of_z w64 z wide)
 
-abs-limit : (z : ℤ) → nat_abs z ≤ mag z + 1
-abs-limit (pos n) = omega arith
-abs-limit (negsuc n) = omega arith
+abs_limit : (z : ℤ) → nat_abs z ≤ mag z + 1
+abs_limit (pos n) = omega arith
+abs_limit (negsuc n) = omega arith
 
 negated : (z : ℤ) → lt_z z (pos 0) ≡ true → pos 0 -ℤ z ≡ pos (nat_abs z)
 negated (pos n) e = absurd (omega (arith, ltb-true n 0 e))
@@ -134,21 +134,21 @@ module _ (z : ℤ) (h : SFits w32 z) (b : lt_z z (pos 0) ≡ true) where
   turned = rw (read_wide z h) (negated z b)
 
   small : SFits w64 (pos (nat_abs z))
-  small = record { sfits = omega (arith, h.sfits, abs-limit z) }
+  small = record { sfits = omega (arith, h.sfits, abs_limit z) }
 
-  pub turned-fits : SFits w64 (pos 0 -ℤ to_z w64 (of_z w64 (to_z w32 (of_z w32 z))))
-  turned-fits = rw turned small
+  pub turned_fits : SFits w64 (pos 0 -ℤ to_z w64 (of_z w64 (to_z w32 (of_z w32 z))))
+  turned_fits = rw turned small
 
-  pub turned-back : to_z w64 (of_z w64 (pos 0 -ℤ to_z w64 (of_z w64 (to_z w32 (of_z w32 z))))) ≡ pos (nat_abs z)
-  turned-back = rw turned (to_z-of_z w64 (pos (nat_abs z)) small)
+  pub turned_back_lem : to_z w64 (of_z w64 (pos 0 -ℤ to_z w64 (of_z w64 (to_z w32 (of_z w32 z))))) ≡ pos (nat_abs z)
+  turned_back_lem = rw turned (to_z-of_z w64 (pos (nat_abs z)) small)
 
-  pub turned-counts : T (non_neg (to_z w64 (of_z w64 (pos 0 -ℤ to_z w64 (of_z w64 (to_z w32 (of_z w32 z))))))) × Fits w64 (nat_abs (to_z w64 (of_z w64 (pos 0 -ℤ to_z w64 (of_z w64 (to_z w32 (of_z w32 z)))))))
-  turned-counts = rw turned-back (tt, record { fits = omega (arith, h.sfits, abs-limit z) })
+  pub turned_counts : T (non_neg (to_z w64 (of_z w64 (pos 0 -ℤ to_z w64 (of_z w64 (to_z w32 (of_z w32 z))))))) × Fits w64 (nat_abs (to_z w64 (of_z w64 (pos 0 -ℤ to_z w64 (of_z w64 (to_z w32 (of_z w32 z)))))))
+  turned_counts = rw turned_back_lem (tt, record { fits = omega (arith, h.sfits, abs_limit z) })
 
 -- a number that isn't below 0
 module _ (z : ℤ) (h : SFits w32 z) (b : lt_z z (pos 0) ≡ false) where
   pub counts : T (non_neg (to_z w32 (of_z w32 z))) × Fits w64 (nat_abs (to_z w32 (of_z w32 z)))
-  counts = rw (back z h) (plain z b, record { fits = omega (arith, h.sfits, abs-limit z) })
+  counts = rw (back z h) (plain z b, record { fits = omega (arith, h.sfits, abs_limit z) })
     where
       plain : (z : ℤ) → lt_z z (pos 0) ≡ false → T (non_neg z)
       plain (pos n) e = tt
@@ -159,18 +159,18 @@ unfolding signed
 signed_below (pos n) e = absurd (omega (arith, ltb-true n 0 e))
 signed_below (negsuc n) e = refl
 
-pub signed-other : (z : ℤ) → lt_z z (pos 0) ≡ false → signed z ≡ decimal (nat_abs z)
+pub signed_other : (z : ℤ) → lt_z z (pos 0) ≡ false → signed z ≡ decimal (nat_abs z)
 unfolding signed
-signed-other (pos n) e = refl
-signed-other (negsuc n) e = absurd (omega (arith, ltb-false 0 1 e))
+signed_other (pos n) e = refl
+signed_other (negsuc n) e = absurd (omega (arith, ltb-false 0 1 e))
 
 -- ---- room
 
 module _ (size at room : ℕ) where
-  pub room-there : at + room ≤ size → at ≡ placeWithRoom size at room
-  unfolding placeWithRoom
-  room-there h = rw (placeWithRoom, le-leb (at + room) size h) refl
+  pub room_there : at + room ≤ size → at ≡ place_with_room size at room
+  unfolding place_with_room
+  room_there h = rw (place_with_room, le-leb (at + room) size h) refl
 
-  pub room-made : size < at + room → 0 ≡ placeWithRoom size at room
-  unfolding placeWithRoom
-  room-made h = rw (placeWithRoom, lt-leb (at + room) size h) refl
+  pub room_made : size < at + room → 0 ≡ place_with_room size at room
+  unfolding place_with_room
+  room_made h = rw (place_with_room, lt-leb (at + room) size h) refl

@@ -25,5 +25,5 @@ pub record Put (before : List ℕ) (at : ℕ) (t after : List ℕ) (behind : ℕ
   pub end : behind ≡ at + length t
 
 -- a text that ends at a place goes on there, or at the buffer's start once less than `room` is left
-unfoldable pub placeWithRoom : ℕ → ℕ → ℕ → ℕ
-placeWithRoom size at room = elim (leb (at + room) size) [ true ↦ at | false ↦ 0 ]
+unfoldable pub place_with_room : ℕ → ℕ → ℕ → ℕ
+place_with_room size at room = elim (leb (at + room) size) [ true ↦ at | false ↦ 0 ]

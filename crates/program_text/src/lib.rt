@@ -1,7 +1,7 @@
 // Text and numbers in a buffer that a program writes out in large pieces. Each function puts its
 // text at `at` and gives the place behind it.
 ghost use Rattle.std.specs.Prelude.{◌+◌, ◌<◌, ◌≤◌, ◌≡◌, true, [], ◌∷◌, nat_abs, length};
-ghost use Rattle.program_text.specs.Decimal.{decimal, signed, Put, placeWithRoom};
+ghost use Rattle.program_text.specs.Decimal.{decimal, signed, Put, place_with_room};
 
 // One byte.
 pub fn put(out: &mut [u8], at: usize, b: u8) -> usize
@@ -78,7 +78,7 @@ pub struct TextEnd {
 // the text goes on.
 pub fn with_room(fd: i32, out: &[u8], at: usize, room: usize) -> TextEnd
     requires { (at ≤ length out.now) × (room ≤ length out.now) }
-    ensures { (result.at ≡ placeWithRoom (length out.now) at room) × (result.at + room ≤ length out.now) × (at + room ≤ length out.now → result.written ≡ true) }
+    ensures { (result.at ≡ place_with_room (length out.now) at room) × (result.at + room ≤ length out.now) × (at + room ≤ length out.now → result.written ≡ true) }
 {
     if room <= out.len() - at {
         return TextEnd {

@@ -7,8 +7,8 @@ use native.Mathlib.Numerals.{add-one}
 use native.Mathlib.Decide.{dec_lt}
 use Rattle.sheet.specs.All.{◌and◌, all_below}
 
-pub true-false : {b : Bool} → b ≡ true → b ≡ false → ⊥
-true-false p q = true≢false (sym p ∙ q)
+pub true_false : {b : Bool} → b ≡ true → b ≡ false → ⊥
+true_false p q = true≢false (sym p ∙ q)
 
 -- what is not true is false
 pub not_so : (b : Bool) → (b ≡ true → ⊥) → b ≡ false
@@ -65,32 +65,32 @@ unfolding all_below
 all_same zero p q h = refl
 all_same (suc n) p q h = rw (all_same n p q (λ i l. h i (omega arith)), h n (omega arith)) refl
 
-pub all-fails : (n : ℕ) (p : ℕ → Bool) (i : ℕ) → i < n → p i ≡ false → all_below n p ≡ false
-all-fails n p i l e = not_so _ (λ h. true-false (all-at n p h i l) e)
+pub all_fails_lem : (n : ℕ) (p : ℕ → Bool) (i : ℕ) → i < n → p i ≡ false → all_below n p ≡ false
+all_fails_lem n p i l e = not_so _ (λ h. true_false (all-at n p h i l) e)
 
 -- ---- the same, as a test in code comes to its answer
 
-pub first-fails : (a b : Bool) → a ≡ false → false ≡ a and b
-first-fails a b e = sym (false-and a b e)
+pub first_fails_lem : (a b : Bool) → a ≡ false → false ≡ a and b
+first_fails_lem a b e = sym (false-and a b e)
 
-pub rest-fails : (a b : Bool) → false ≡ b → false ≡ a and b
-rest-fails a b e = sym (and-false a b (sym e))
+pub rest_fails : (a b : Bool) → false ≡ b → false ≡ a and b
+rest_fails a b e = sym (and-false a b (sym e))
 
 pub first_holds : (a b x : Bool) → a ≡ true → x ≡ b → x ≡ a and b
 first_holds a b x e f = f ∙ sym (true-and a b e)
 
 -- a loop that tests every i below n, where n is the count m, leaves at an i that fails
-pub loop-fails : (n m i : ℕ) (p : ℕ → Bool) → n ≡ m → i < n → p i ≡ false → false ≡ all_below m p
-loop-fails n m i p e l f = sym (all-fails m p i (rw e at l) f)
+pub loop_fails : (n m i : ℕ) (p : ℕ → Bool) → n ≡ m → i < n → p i ≡ false → false ≡ all_below m p
+loop_fails n m i p e l f = sym (all_fails_lem m p i (rw e at l) f)
 
 -- .. or ends with every i tested
-pub loop-ends : (n m i : ℕ) (p : ℕ → Bool) → n ≡ m → i ≤ n → n ≤ i → all_below i p ≡ true → true ≡ all_below m p
-loop-ends n m i p e a b h = let same : m ≡ i = omega arith in sym (rw same h)
+pub loop_ends : (n m i : ℕ) (p : ℕ → Bool) → n ≡ m → i ≤ n → n ≤ i → all_below i p ≡ true → true ≡ all_below m p
+loop_ends n m i p e a b h = let same : m ≡ i = omega arith in sym (rw same h)
 
 -- a number from k on that is not k
 pub from_next : (k i : ℕ) → k ≤ i → (i ≡ k → ⊥) → suc k ≤ i
 from_next k i h n = omega arith
 
 -- a number below the one after k
-pub below-is : (n k : ℕ) → n < suc k → n ≤ k
-below-is n k h = omega arith
+pub below_is_lem : (n k : ℕ) → n < suc k → n ≤ k
+below_is_lem n k h = omega arith

@@ -9,8 +9,8 @@ use Rattle.sheet.specs.declared.Range.{Range}
 abbrev pub head : ℕ
 head = 0
 
-abbrev pub enumeratedTypes : ℕ
-enumeratedTypes = 1
+abbrev pub enumerated_types : ℕ
+enumerated_types = 1
 
 abbrev pub declarations : ℕ
 declarations = 2
@@ -43,22 +43,22 @@ externals r = r.f1
 abbrev pub ports : Record → ℕ
 ports r = r.f2
 
-abbrev pub stepLimit : Record → ℕ
-stepLimit r = r.f3
+abbrev pub step_limit : Record → ℕ
+step_limit r = r.f3
 
 -- ---- an enumerated type; a declaration
 
 abbrev pub size : Record → ℕ
 size r = r.f0
 
-abbrev pub defaultMember : Record → ℕ
-defaultMember r = r.f1
+abbrev pub default_member : Record → ℕ
+default_member r = r.f1
 
-abbrev pub declaredType : Record → ℕ
-declaredType r = r.f0
+abbrev pub declared_type : Record → ℕ
+declared_type r = r.f0
 
-abbrev pub declaredIndex : Record → ℕ
-declaredIndex r = r.f1
+abbrev pub declared_index : Record → ℕ
+declared_index r = r.f1
 
 -- ---- a range of records: its first one and how many
 
@@ -81,14 +81,14 @@ internal = 1
 
 -- ---- a chart
 
-abbrev pub chartParameters : Record → Range
-chartParameters r = range r.f0 r.f1
+abbrev pub chart_parameters : Record → Range
+chart_parameters r = range r.f0 r.f1
 
-abbrev pub chartVariables : Record → Range
-chartVariables r = range r.f2 r.f3
+abbrev pub chart_variables : Record → Range
+chart_variables r = range r.f2 r.f3
 
-abbrev pub chartBodies : Record → Range
-chartBodies r = range r.f4 r.f5
+abbrev pub chart_bodies : Record → Range
+chart_bodies r = range r.f4 r.f5
 
 -- ---- a body
 
@@ -101,63 +101,63 @@ initial = 0
 abbrev pub panic : ℕ
 panic = 1
 
-abbrev pub externalReaction : ℕ
-externalReaction = 2
+abbrev pub external_reaction : ℕ
+external_reaction = 2
 
-abbrev pub internalReaction : ℕ
-internalReaction = 3
+abbrev pub internal_reaction : ℕ
+internal_reaction = 3
 
 abbrev pub procedure : ℕ
 procedure = 4
 
-abbrev pub reactionPort : Record → ℕ
-reactionPort r = r.f1
+abbrev pub reaction_port : Record → ℕ
+reaction_port r = r.f1
 
-abbrev pub reactionName : Record → ℕ
-reactionName r = r.f2
+abbrev pub reaction_name : Record → ℕ
+reaction_name r = r.f2
 
-abbrev pub bodyParameters : Record → Range
-bodyParameters r = range r.f3 r.f4
+abbrev pub body_parameters : Record → Range
+body_parameters r = range r.f3 r.f4
 
-abbrev pub bodyLocals : Record → Range
-bodyLocals r = range r.f5 r.f6
+abbrev pub body_locals : Record → Range
+body_locals r = range r.f5 r.f6
 
 abbrev pub root : Record → ℕ
 root r = r.f7
 
 -- ---- a binding: the chart; the constants are f1 onward
 
-abbrev pub boundChart : Record → ℕ
-boundChart r = r.f0
+abbrev pub bound_chart : Record → ℕ
+bound_chart r = r.f0
 
 -- ---- types: 4 to 6 are clocks, 8 + k is enumerated type k, the others are data types too
 
-abbrev pub Bool-type : ℕ
-Bool-type = 0
+abbrev pub bool_type : ℕ
+bool_type = 0
 
-abbrev pub Int-type : ℕ
-Int-type = 1
+abbrev pub int_type : ℕ
+int_type = 1
 
-abbrev pub Component-type : ℕ
-Component-type = 2
+abbrev pub component_type : ℕ
+component_type = 2
 
-abbrev pub Port-type : ℕ
-Port-type = 3
+abbrev pub port_type : ℕ
+port_type = 3
 
-abbrev pub Timer-type : ℕ
-Timer-type = 4
+abbrev pub timer_type : ℕ
+timer_type = 4
 
-abbrev pub Timeout-type : ℕ
-Timeout-type = 5
+abbrev pub timeout_type : ℕ
+timeout_type = 5
 
-abbrev pub Cycler-type : ℕ
-Cycler-type = 6
+abbrev pub cycler_type : ℕ
+cycler_type = 6
 
 abbrev pub enumerated : ℕ → ℕ
 enumerated k = 8 + k
 
-unfoldable pub isClock : ℕ → Bool
-isClock t = leb 4 t and leb t 6
+unfoldable pub is_clock : ℕ → Bool
+is_clock t = leb 4 t and leb t 6
 
 -- ---- operators
 
@@ -165,17 +165,17 @@ abbrev pub operator : Record → ℕ
 operator r = r.f0
 
 -- literals are 1 to 6; the table of all forms stands with the definitions of shape
-unfoldable pub isLiteral : ℕ → Bool
-isLiteral op = leb 1 op and leb op 6
+unfoldable pub is_literal : ℕ → Bool
+is_literal op = leb 1 op and leb op 6
 
 -- ---- places of a read or an assignment (f1 of operators 7 and 33)
 
-abbrev pub chartParameter : ℕ
-chartParameter = 0
+abbrev pub chart_parameter : ℕ
+chart_parameter = 0
 
-abbrev pub chartVariable : ℕ
-chartVariable = 1
+abbrev pub chart_variable : ℕ
+chart_variable = 1
 
 -- a body's parameters first, then its locals
-abbrev pub bodyVariable : ℕ
-bodyVariable = 2
+abbrev pub body_variable : ℕ
+body_variable = 2

@@ -22,33 +22,33 @@ start_of s zero = 32
 start_of s (suc k) = offset_of s k + length_of s k
 
 -- "Lengths are multiples of 16."
-unfoldable pub pairRight : List ℕ → ℕ → Bool
-pairRight s k = eqb (offset_of s k) (start_of s k) and eqb (length_of s k % 16) 0
+unfoldable pub pair_right : List ℕ → ℕ → Bool
+pair_right s k = eqb (offset_of s k) (start_of s k) and eqb (length_of s k % 16) 0
 
 -- "at most 65,535 bytes", "the last section ends with the sheet"
-unfoldable pub directoryRight : List ℕ → Bool
-directoryRight s = leb (length s) 65535 and all_below 8 (pairRight s) and eqb (start_of s 8) (length s)
+unfoldable pub directory_right : List ℕ → Bool
+directory_right s = leb (length s) 65535 and all_below 8 (pair_right s) and eqb (start_of s 8) (length s)
 
 -- how many records section k has; none "if the directory is wrong"
 unfoldable pub count_of : List ℕ → ℕ → ℕ
-count_of s k = elim (directoryRight s and ltb k 8) [ true ↦ length_of s k / 16 | false ↦ 0 ]
+count_of s k = elim (directory_right s and ltb k 8) [ true ↦ length_of s k / 16 | false ↦ 0 ]
 
 -- "A record is eight 16-bit fields f0 to f7"
-unfoldable pub recordAt : List ℕ → ℕ → Record
-recordAt s at = record { f0 = word_at s at; f1 = word_at s (at + 2); f2 = word_at s (at + 4); f3 = word_at s (at + 6); f4 = word_at s (at + 8); f5 = word_at s (at + 10); f6 = word_at s (at + 12); f7 = word_at s (at + 14) }
+unfoldable pub record_at : List ℕ → ℕ → Record
+record_at s at = record { f0 = word_at s at; f1 = word_at s (at + 2); f2 = word_at s (at + 4); f3 = word_at s (at + 6); f4 = word_at s (at + 8); f5 = word_at s (at + 10); f6 = word_at s (at + 12); f7 = word_at s (at + 14) }
 
 -- "any record by section and number, and a record that isn't there is reported absent"
-unfoldable pub recordOf : List ℕ → ℕ → ℕ → Found
-recordOf s k n = elim (ltb n (count_of s k)) [ true ↦ Present (recordAt s (offset_of s k + 16 * n)) | false ↦ Absent ]
+unfoldable pub record_of : List ℕ → ℕ → ℕ → Found
+record_of s k n = elim (ltb n (count_of s k)) [ true ↦ Present (record_at s (offset_of s k + 16 * n)) | false ↦ Absent ]
 
 -- The directory as it is handed on once it is tested: for section k its offset at place 2k and its count of records at place 2k + 1; all 0 if it is wrong.
-unfoldable pub sectionsFrom : List ℕ → ℕ → ℕ → List ℕ
-sectionsFrom s zero k = []
-sectionsFrom s (suc n) k = offset_of s k ∷ count_of s k ∷ sectionsFrom s n (suc k)
+unfoldable pub sections_from : List ℕ → ℕ → ℕ → List ℕ
+sections_from s zero k = []
+sections_from s (suc n) k = offset_of s k ∷ count_of s k ∷ sections_from s n (suc k)
 
-unfoldable pub directoryOf : List ℕ → List ℕ
-directoryOf s = elim (directoryRight s) [ true ↦ sectionsFrom s 8 0 | false ↦ replicate 16 0 ]
+unfoldable pub directory_of : List ℕ → List ℕ
+directory_of s = elim (directory_right s) [ true ↦ sections_from s 8 0 | false ↦ replicate 16 0 ]
 
 -- how many records section k has by such an array, whatever it holds; sections above 7 have none
-unfoldable pub countIn : List ℕ → ℕ → ℕ
-countIn d k = elim (ltb k 8) [ true ↦ get_or d (2 * k + 1) 0 | false ↦ 0 ]
+unfoldable pub count_in : List ℕ → ℕ → ℕ
+count_in d k = elim (ltb k 8) [ true ↦ get_or d (2 * k + 1) 0 | false ↦ 0 ]

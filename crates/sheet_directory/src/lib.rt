@@ -1,6 +1,6 @@
 // Numbers in a sheet's bytes, and whether its directory is right.
 ghost use Rattle.std.specs.Prelude.{◌≡◌, ◌+◌, ◌*◌, ◌<◌, length};
-ghost use Rattle.sheet.specs.Sheet.{word_at, directoryRight};
+ghost use Rattle.sheet.specs.Sheet.{word_at, directory_right};
 
 fn join(low: u8, high: u8) -> u16
     ensures { result ≡ low + 256 * high }
@@ -26,7 +26,7 @@ pub fn number_at(sheet: &[u8], at: usize) -> usize
 
 // Whether the sheet's directory is right.
 pub fn directory_right(sheet: &[u8]) -> bool
-    ensures { result ≡ directoryRight sheet.now }
+    ensures { result ≡ directory_right sheet.now }
 {
     if 65535 < sheet.len() {
         return false;

@@ -4,22 +4,22 @@ use mathlib.Core.Path.{◌≡◌, sym, ap, ◌∙◌}
 use mathlib.Core.List.{List}
 use Rattle.sheet.specs.declared.Record.{Record}
 use Rattle.sheet.specs.declared.Found.TheVariants.{Present, Absent}
-use Rattle.sheet_rules.specs.Fields.{sumBelow}
-use Rattle.sheet_rules.specs.Indices.{cellsBefore}
-use Rattle.sheet_rules.specs.Bindings.{chartBound, firstBinding}
-use Rattle.sheet_rules.specs.Shape.{cellsBound}
-use Rattle.sheet_rules.proofs.Fields.{sum_more, number-present, number-absent}
+use Rattle.sheet_rules.specs.Fields.{sum_below}
+use Rattle.sheet_rules.specs.Indices.{cells_before}
+use Rattle.sheet_rules.specs.Bindings.{chart_bound, first_binding}
+use Rattle.sheet_rules.specs.Shape.{cells_bound}
+use Rattle.sheet_rules.proofs.Fields.{sum_more, number-present, number_absent}
 
 -- one variable or element more
-pub sum-next : (f : ℕ → ℕ) (i sum x : ℕ) → sum ≡ sumBelow i f → x ≡ f i → sum + x ≡ sumBelow (i + 1) f
-sum-next f i sum x p q = rw (p, q) (sym (sum_more i f))
+pub sum_next : (f : ℕ → ℕ) (i sum x : ℕ) → sum ≡ sum_below i f → x ≡ f i → sum + x ≡ sum_below (i + 1) f
+sum_next f i sum x p q = rw (p, q) (sym (sum_more i f))
 
 -- the cells of element i, whose first binding record is k
-module _ (s : List ℕ) (k i : ℕ) (at : k ≡ firstBinding s i) where
-  pub no-chart : chartBound s k ≡ Absent → 0 ≡ cellsBound s i
-  unfolding cellsBound
-  no-chart e = sym (number-absent _ _ (ap (chartBound s) (sym at) ∙ e))
+module _ (s : List ℕ) (k i : ℕ) (at : k ≡ first_binding s i) where
+  pub no_chart_lem : chart_bound s k ≡ Absent → 0 ≡ cells_bound s i
+  unfolding cells_bound
+  no_chart_lem e = sym (number_absent _ _ (ap (chart_bound s) (sym at) ∙ e))
 
-  pub chart-cells : (c : Record) → chartBound s k ≡ Present c → cellsBefore s c c.f3 ≡ cellsBound s i
-  unfolding cellsBound
-  chart-cells c e = sym (number-present _ _ _ (ap (chartBound s) (sym at) ∙ e))
+  pub chart-cells : (c : Record) → chart_bound s k ≡ Present c → cells_before s c c.f3 ≡ cells_bound s i
+  unfolding cells_bound
+  chart-cells c e = sym (number-present _ _ _ (ap (chart_bound s) (sym at) ∙ e))

@@ -1,16 +1,16 @@
 // The bound elements: how many cells the variables of each take, and all together.
 ghost use Rattle.std.specs.Prelude.{◌≡◌, ℕ, ◌*◌, ◌<◌};
-ghost use Rattle.sheet.specs.Sheet.{directoryOf};
-ghost use Rattle.sheet_rules.specs.Indices.{cellsBefore};
-ghost use Rattle.sheet_rules.specs.Bindings.{firstBinding};
-ghost use Rattle.sheet_rules.specs.Shape.{cellsBound, cells_of};
+ghost use Rattle.sheet.specs.Sheet.{directory_of};
+ghost use Rattle.sheet_rules.specs.Indices.{cells_before};
+ghost use Rattle.sheet_rules.specs.Bindings.{first_binding};
+ghost use Rattle.sheet_rules.specs.Shape.{cells_bound, cells_of};
 
 use sheet::{Directory, Found, HEAD, Record};
 
 // How many cells the first n variables of chart c take.
 pub fn cells_before(sheet: &[u8], directory: &Directory, c: Record, n: u16) -> usize
-    requires { directory.now ≡ directoryOf sheet.now }
-    ensures { (result ≡ cellsBefore sheet.now c n) × (result < 65536 * 65536) }
+    requires { directory.now ≡ directory_of sheet.now }
+    ensures { (result ≡ cells_before sheet.now c n) × (result < 65536 * 65536) }
 {
     let first = c.f2 as usize;
     let count = n as usize;
@@ -25,8 +25,8 @@ pub fn cells_before(sheet: &[u8], directory: &Directory, c: Record, n: u16) -> u
 
 // How many cells the element has whose first binding record is k.
 fn cells_bound(sheet: &[u8], directory: &Directory, k: usize) -> usize
-    requires { directory.now ≡ directoryOf sheet.now }
-    ensures { ((i : ℕ) → k ≡ firstBinding sheet.now i → result ≡ cellsBound sheet.now i) × (result < 65536 * 65536) }
+    requires { directory.now ≡ directory_of sheet.now }
+    ensures { ((i : ℕ) → k ≡ first_binding sheet.now i → result ≡ cells_bound sheet.now i) × (result < 65536 * 65536) }
 {
     let Found::Present(c) = sheet_bindings::chart_bound(sheet, directory, k) else {
         return 0;
@@ -36,7 +36,7 @@ fn cells_bound(sheet: &[u8], directory: &Directory, k: usize) -> usize
 
 // How many cells the bound elements have together.
 pub fn cells(sheet: &[u8], directory: &Directory) -> usize
-    requires { directory.now ≡ directoryOf sheet.now }
+    requires { directory.now ≡ directory_of sheet.now }
     ensures { result ≡ cells_of sheet.now }
 {
     let components = sheet_fields::field_at(sheet, directory, HEAD, 0, 0);

@@ -1,10 +1,10 @@
 // Fields of records by number, and where a node's operands stand.
 ghost use Rattle.std.specs.Prelude.{◌≡◌, ◌+◌, ◌<◌};
 ghost use Rattle.sheet.specs.Names.{range};
-ghost use Rattle.sheet.specs.Sheet.{directoryOf};
-ghost use Rattle.sheet_rules.specs.Fields.{field_of, zeroFrom, fieldAt, inSection};
+ghost use Rattle.sheet.specs.Sheet.{directory_of};
+ghost use Rattle.sheet_rules.specs.Fields.{field_of, zero_from, field_at, in_section};
 ghost use Rattle.sheet_fields.specs.Small.{Small};
-ghost use Rattle.sheet_rules.specs.Forms.{callData, operandsOf, operand_at};
+ghost use Rattle.sheet_rules.specs.Forms.{call_data, operands_of, operand_at};
 
 use sheet::{BODIES, Directory, Found, NAMES, Record};
 use sheet_rules::Operands;
@@ -27,7 +27,7 @@ pub fn field(r: Record, i: usize) -> usize
 
 // Whether the fields from number n on are 0.
 pub fn zero_from(r: Record, n: usize) -> bool
-    ensures { result ≡ zeroFrom n r }
+    ensures { result ≡ zero_from n r }
 {
     if 8 <= n {
         return true;
@@ -50,8 +50,8 @@ pub fn field_at(
     number: usize,
     i: usize,
 ) -> usize
-    requires { directory.now ≡ directoryOf sheet.now }
-    ensures { (result ≡ fieldAt sheet.now section number i) × (result < 65536) }
+    requires { directory.now ≡ directory_of sheet.now }
+    ensures { (result ≡ field_at sheet.now section number i) × (result < 65536) }
 {
     let Found::Present(r) = sheet_reader::read(sheet, directory, section, number) else {
         return 0;
@@ -67,16 +67,16 @@ pub fn in_section(
     first: u16,
     count: u16,
 ) -> bool
-    requires { directory.now ≡ directoryOf sheet.now }
-    ensures { result ≡ inSection sheet.now section (range first count) }
+    requires { directory.now ≡ directory_of sheet.now }
+    ensures { result ≡ in_section sheet.now section (range first count) }
 {
     first as usize + count as usize <= sheet_reader::count_in(directory, section)
 }
 
 // How many data fields a call in chart c uses.
 pub fn call_data(sheet: &[u8], directory: &Directory, c: Record, r: Record) -> usize
-    requires { directory.now ≡ directoryOf sheet.now }
-    ensures { (result ≡ callData sheet.now c r) × (result < 65536) }
+    requires { directory.now ≡ directory_of sheet.now }
+    ensures { (result ≡ call_data sheet.now c r) × (result < 65536) }
 {
     if c.f5 <= r.f1 {
         return 0;
@@ -86,8 +86,8 @@ pub fn call_data(sheet: &[u8], directory: &Directory, c: Record, r: Record) -> u
 
 // Where the operands of a node of chart c stand.
 pub fn operands(sheet: &[u8], directory: &Directory, c: Record, r: Record) -> Operands
-    requires { directory.now ≡ directoryOf sheet.now }
-    ensures { (result ≡ operandsOf sheet.now c r) × Small result }
+    requires { directory.now ≡ directory_of sheet.now }
+    ensures { (result ≡ operands_of sheet.now c r) × Small result }
 {
     let op = r.f0;
     match op {

@@ -1,15 +1,15 @@
 // The index of a declaration: whether it is a plain variable, whether its index is there, how many cells it takes.
 ghost use Rattle.std.specs.Prelude.{◌≡◌, ◌<◌};
-ghost use Rattle.sheet.specs.Sheet.{directoryOf};
-ghost use Rattle.sheet_rules.specs.Indices.{index_of, index_at, is_plain, cellsBy, cellsTaken};
-ghost use Rattle.sheet_rules.specs.Shape.{indexExists};
+ghost use Rattle.sheet.specs.Sheet.{directory_of};
+ghost use Rattle.sheet_rules.specs.Indices.{index_of, index_at, is_plain, cells_by, cells_taken};
+ghost use Rattle.sheet_rules.specs.Shape.{index_exists};
 
 use sheet::{DECLARATIONS, Directory, ENUMERATED_TYPES, Found, HEAD};
 
 // "An array takes one cell of 8 words per index"; any other variable takes one, also where i is no index.
 pub fn cells_by(sheet: &[u8], directory: &Directory, i: u16) -> usize
-    requires { directory.now ≡ directoryOf sheet.now }
-    ensures { (result ≡ cellsBy (index_of sheet.now i)) × (result < 65536) }
+    requires { directory.now ≡ directory_of sheet.now }
+    ensures { (result ≡ cells_by (index_of sheet.now i)) × (result < 65536) }
 {
     match i {
         0 => 1,
@@ -25,8 +25,8 @@ pub fn cells_by(sheet: &[u8], directory: &Directory, i: u16) -> usize
 
 // How many cells declaration d takes: one where it isn't there.
 pub fn cells_taken(sheet: &[u8], directory: &Directory, d: usize) -> usize
-    requires { directory.now ≡ directoryOf sheet.now }
-    ensures { (result ≡ cellsTaken sheet.now d) × (result < 65536) }
+    requires { directory.now ≡ directory_of sheet.now }
+    ensures { (result ≡ cells_taken sheet.now d) × (result < 65536) }
 {
     let Found::Present(r) = sheet_reader::read(sheet, directory, DECLARATIONS, d) else {
         return 1;
@@ -36,7 +36,7 @@ pub fn cells_taken(sheet: &[u8], directory: &Directory, d: usize) -> usize
 
 // "0 stays a plain variable"
 pub fn is_plain(sheet: &[u8], directory: &Directory, d: usize) -> bool
-    requires { directory.now ≡ directoryOf sheet.now }
+    requires { directory.now ≡ directory_of sheet.now }
     ensures { result ≡ is_plain (index_at sheet.now d) }
 {
     let Found::Present(r) = sheet_reader::read(sheet, directory, DECLARATIONS, d) else {
@@ -47,8 +47,8 @@ pub fn is_plain(sheet: &[u8], directory: &Directory, d: usize) -> bool
 
 // "Another f1 is 1": none, a data type that is there, or a number from 1 to 64.
 pub fn index_exists(sheet: &[u8], directory: &Directory, i: u16) -> bool
-    requires { directory.now ≡ directoryOf sheet.now }
-    ensures { result ≡ indexExists sheet.now (index_of sheet.now i) }
+    requires { directory.now ≡ directory_of sheet.now }
+    ensures { result ≡ index_exists sheet.now (index_of sheet.now i) }
 {
     match i {
         0..=3 => true,

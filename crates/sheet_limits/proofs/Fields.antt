@@ -3,40 +3,40 @@ use Prim.Native.Nat.{ℕ, ◌+◌, ◌-◌}
 use mathlib.Core.List.{List}
 use mathlib.Core.Path.{◌≡◌, refl}
 use lib.Dec.{leb}
-use Rattle.sheet.specs.Names.{components, externals, ports, size, declaredType}
-use Rattle.sheet_rules.specs.Fields.{holds, numberOr0, componentsOf, externalsOf, portsOf, members_of, elementsOf, declaredSo, type_at, inSection}
+use Rattle.sheet.specs.Names.{components, externals, ports, size, declared_type}
+use Rattle.sheet_rules.specs.Fields.{holds, number_or0, components_of, externals_of, ports_of, members_of, elements_of, declared_so, type_at, in_section}
 use Rattle.sheet_limits.specs.ButLimit.{ButLimit}
-use Rattle.sheet_limits.proofs.Records.{same-countOf, same-declarations, same-enumeratedTypes, same-head-number}
+use Rattle.sheet_limits.proofs.Records.{same_count_of, same_declarations, same_enumerated_types, same_head-number}
 
 module _ {s s' : List ℕ} (h : ButLimit s s') where
-  pub same-componentsOf : componentsOf s ≡ componentsOf s'
-  unfolding componentsOf
-  same-componentsOf = same-head-number h components (λ r. refl) 0
+  pub same_components_of : components_of s ≡ components_of s'
+  unfolding components_of
+  same_components_of = same_head-number h components (λ r. refl) 0
 
-  pub same-externalsOf : externalsOf s ≡ externalsOf s'
-  unfolding externalsOf
-  same-externalsOf = same-head-number h externals (λ r. refl) 0
+  pub same_externals_of : externals_of s ≡ externals_of s'
+  unfolding externals_of
+  same_externals_of = same_head-number h externals (λ r. refl) 0
 
-  pub same-portsOf : portsOf s ≡ portsOf s'
-  unfolding portsOf
-  same-portsOf = same-head-number h ports (λ r. refl) 0
+  pub same_ports_of : ports_of s ≡ ports_of s'
+  unfolding ports_of
+  same_ports_of = same_head-number h ports (λ r. refl) 0
 
-  pub same-membersOf : members_of s ≡ members_of s'
+  pub same_members_of : members_of s ≡ members_of s'
   unfolding members_of
-  same-membersOf = λ q k. numberOr0 (same-enumeratedTypes h q k) size
+  same_members_of = λ q k. number_or0 (same_enumerated_types h q k) size
 
-  pub same-elementsOf : elementsOf s ≡ elementsOf s'
-  unfolding elementsOf
-  same-elementsOf = λ q. same-componentsOf q - same-externalsOf q
+  pub same_elements_of : elements_of s ≡ elements_of s'
+  unfolding elements_of
+  same_elements_of = λ q. same_components_of q - same_externals_of q
 
-  pub same-declaredSo : declaredSo s ≡ declaredSo s'
-  unfolding declaredSo
-  same-declaredSo = λ q d p. holds (same-declarations h q d) (λ r. p (declaredType r))
+  pub same_declared_so : declared_so s ≡ declared_so s'
+  unfolding declared_so
+  same_declared_so = λ q d p. holds (same_declarations h q d) (λ r. p (declared_type r))
 
-  pub same-typeAt : type_at s ≡ type_at s'
+  pub same_type_at : type_at s ≡ type_at s'
   unfolding type_at
-  same-typeAt = λ q d. numberOr0 (same-declarations h q d) declaredType
+  same_type_at = λ q d. number_or0 (same_declarations h q d) declared_type
 
-  pub same-inSection : inSection s ≡ inSection s'
-  unfolding inSection
-  same-inSection = λ q k g. leb (g.first + g.count) (same-countOf h q k)
+  pub same_in_section : in_section s ≡ in_section s'
+  unfolding in_section
+  same_in_section = λ q k g. leb (g.first + g.count) (same_count_of h q k)

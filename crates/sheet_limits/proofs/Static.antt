@@ -5,119 +5,119 @@ use mathlib.Core.Bool.{true, false, not}
 use mathlib.Core.Path.{◌≡◌, refl, ◌∙◌}
 use lib.Dec.{leb, eqb}
 use Rattle.sheet.specs.All.{◌and◌, all_below}
-use Rattle.sheet.specs.Table.{up_to, lookUp}
-use Rattle.sheet.specs.Names.{enumeratedTypes, declarations, names, charts, bindings, declaredType, declaredIndex, data_of, external, internal, chartParameters, chartBodies, role, initial, panic, externalReaction, reactionName, bodyParameters, bodyLocals, root, isClock, head}
-use Rattle.sheet.specs.Sheet.{recordOf}
-use Rattle.sheet_rules.specs.Fields.{holds, countBelow}
+use Rattle.sheet.specs.Table.{up_to, look_up}
+use Rattle.sheet.specs.Names.{enumerated_types, declarations, names, charts, bindings, declared_type, declared_index, data_of, external, internal, chart_parameters, chart_bodies, role, initial, panic, external_reaction, reaction_name, body_parameters, body_locals, root, is_clock, head}
+use Rattle.sheet.specs.Sheet.{record_of}
+use Rattle.sheet_rules.specs.Fields.{holds, count_below}
 use Rattle.sheet_rules.specs.Indices.{is_plain}
 use Rattle.sheet_rules.specs.Bindings.{constant_of}
-use Rattle.sheet_rules.specs.Shape.{isReaction}
-use Rattle.sheet_rules.specs.Types.{isStatement, literalType}
-use Rattle.sheet_rules.specs.Static.{declarationStatic, plainData, nameStatic, sameTypes, reactionStatic, roleStatic, bodyStatic, body_of, hasRole, bodiesWith, sameReaction, noTwin, bodiesStatic, chartStatic, constantStatic, constantsStatic, bindingStatic, bindingsStatic, staticTable, recordStatic, eachStatic, sectionStatic, static}
+use Rattle.sheet_rules.specs.Shape.{is_reaction}
+use Rattle.sheet_rules.specs.Types.{is_statement, literal_type}
+use Rattle.sheet_rules.specs.Static.{declaration_static, plain_data, name_static, same_types, reaction_static, role_static, body_static, body_of, has_role, bodies_with, same_reaction, no_twin, bodies_static, chart_static, constant_static, constants_static, binding_static, bindings_static, static_table, record_static, each_static, section_static, static}
 use Rattle.sheet_limits.specs.ButLimit.{ButLimit}
-use Rattle.sheet_limits.proofs.Fields.{same-typeAt}
-use Rattle.sheet_limits.proofs.Indices.{same-indexAt, same-indexOf}
-use Rattle.sheet_limits.proofs.Bindings.{same-chartBound, same-firstBinding, same-elementsBoundIn, same-constantBinding}
-use Rattle.sheet_limits.proofs.Records.{same-bodies, same-countOf, same-head-test, same_nodes, same-recordOf}
-use Rattle.sheet_limits.proofs.Types.{same-hasClass, same-nameRange, same-typeOf}
+use Rattle.sheet_limits.proofs.Fields.{same_type_at}
+use Rattle.sheet_limits.proofs.Indices.{same_index_at, same_index_of}
+use Rattle.sheet_limits.proofs.Bindings.{same_chart_bound, same_first_binding, same_elements_bound_in, same_constant_binding}
+use Rattle.sheet_limits.proofs.Records.{same_bodies, same_count_of, same_head_test, same_nodes, same_record_of}
+use Rattle.sheet_limits.proofs.Types.{same_has_class, same_name_range, same_type_of}
 
 module _ {s s' : List ℕ} (h : ButLimit s s') where
-  pub same-declarationStatic : declarationStatic s ≡ declarationStatic s'
-  unfolding declarationStatic
-  same-declarationStatic = λ q r. not (isClock (declaredType r) and not (is_plain (same-indexOf h q (declaredIndex r))))
+  pub same_declaration_static : declaration_static s ≡ declaration_static s'
+  unfolding declaration_static
+  same_declaration_static = λ q r. not (is_clock (declared_type r) and not (is_plain (same_index_of h q (declared_index r))))
 
-  pub same-plainData : plainData s ≡ plainData s'
-  unfolding plainData
-  same-plainData = λ q g. all_below g.count (λ j. not (isClock (same-typeAt h q (g.first + j))) and is_plain (same-indexAt h q (g.first + j)))
+  pub same_plain_data : plain_data s ≡ plain_data s'
+  unfolding plain_data
+  same_plain_data = λ q g. all_below g.count (λ j. not (is_clock (same_type_at h q (g.first + j))) and is_plain (same_index_at h q (g.first + j)))
 
-  pub same-nameStatic : nameStatic s ≡ nameStatic s'
-  unfolding nameStatic
-  same-nameStatic = λ q r. same-plainData q (data_of r)
+  pub same_name_static : name_static s ≡ name_static s'
+  unfolding name_static
+  same_name_static = λ q r. same_plain_data q (data_of r)
 
-  pub same-sameTypes : sameTypes s ≡ sameTypes s'
-  unfolding sameTypes
-  same-sameTypes = λ q g g'. eqb g.count g'.count and all_below g.count (λ j. eqb (same-typeAt h q (g.first + j)) (same-typeAt h q (g'.first + j)))
+  pub same_same_types : same_types s ≡ same_types s'
+  unfolding same_types
+  same_same_types = λ q g g'. eqb g.count g'.count and all_below g.count (λ j. eqb (same_type_at h q (g.first + j)) (same_type_at h q (g'.first + j)))
 
-  pub same-reactionStatic : reactionStatic s ≡ reactionStatic s'
-  unfolding reactionStatic
-  same-reactionStatic = λ q b. same-hasClass h q (reactionName b) (elim (eqb (role b) externalReaction) [ true ↦ external | false ↦ internal ]) and same-sameTypes q (bodyParameters b) (same-nameRange h q (reactionName b))
+  pub same_reaction_static : reaction_static s ≡ reaction_static s'
+  unfolding reaction_static
+  same_reaction_static = λ q b. same_has_class h q (reaction_name b) (elim (eqb (role b) external_reaction) [ true ↦ external | false ↦ internal ]) and same_same_types q (body_parameters b) (same_name_range h q (reaction_name b))
 
-  pub same-roleStatic : roleStatic s ≡ roleStatic s'
-  unfolding roleStatic
-  same-roleStatic = λ q b. elim (isReaction (role b)) [ true ↦ same-reactionStatic q b | false ↦ elim (leb (role b) panic) [ true ↦ eqb (bodyParameters b).count 0 | false ↦ true ] ]
+  pub same_role_static : role_static s ≡ role_static s'
+  unfolding role_static
+  same_role_static = λ q b. elim (is_reaction (role b)) [ true ↦ same_reaction_static q b | false ↦ elim (leb (role b) panic) [ true ↦ eqb (body_parameters b).count 0 | false ↦ true ] ]
 
-  pub same-bodyStatic : bodyStatic s ≡ bodyStatic s'
-  unfolding bodyStatic
-  same-bodyStatic = λ q c b. same-plainData q (bodyParameters b) and same-plainData q (bodyLocals b) and same-roleStatic q b and isStatement (same-typeOf h q c b (root b))
+  pub same_body_static : body_static s ≡ body_static s'
+  unfolding body_static
+  same_body_static = λ q c b. same_plain_data q (body_parameters b) and same_plain_data q (body_locals b) and same_role_static q b and is_statement (same_type_of h q c b (root b))
 
-  pub same-bodyOf : body_of s ≡ body_of s'
-  same-bodyOf = λ q c j. same-bodies h q ((chartBodies c).first + j)
+  pub same_body_of : body_of s ≡ body_of s'
+  same_body_of = λ q c j. same_bodies h q ((chart_bodies c).first + j)
 
-  pub same-hasRole : hasRole s ≡ hasRole s'
-  unfolding hasRole
-  same-hasRole = λ q i k. holds (same-bodies h q i) (λ b. eqb (role b) k)
+  pub same_has_role : has_role s ≡ has_role s'
+  unfolding has_role
+  same_has_role = λ q i k. holds (same_bodies h q i) (λ b. eqb (role b) k)
 
-  pub same-bodiesWith : bodiesWith s ≡ bodiesWith s'
-  unfolding bodiesWith
-  same-bodiesWith = λ q c k. countBelow (chartBodies c).count (λ j. same-hasRole q ((chartBodies c).first + j) k)
+  pub same_bodies_with : bodies_with s ≡ bodies_with s'
+  unfolding bodies_with
+  same_bodies_with = λ q c k. count_below (chart_bodies c).count (λ j. same_has_role q ((chart_bodies c).first + j) k)
 
-  pub same-noTwin : noTwin s ≡ noTwin s'
-  unfolding noTwin
-  same-noTwin = λ q c j b. all_below j (λ i. holds (same-bodyOf q c i) (λ a. not (sameReaction a b)))
+  pub same_no_twin : no_twin s ≡ no_twin s'
+  unfolding no_twin
+  same_no_twin = λ q c j b. all_below j (λ i. holds (same_body_of q c i) (λ a. not (same_reaction a b)))
 
-  pub same-bodiesStatic : bodiesStatic s ≡ bodiesStatic s'
-  unfolding bodiesStatic
-  same-bodiesStatic = λ q c. all_below (chartBodies c).count (λ j. holds (same-bodyOf q c j) (λ b. same-noTwin q c j b and same-bodyStatic q c b))
+  pub same_bodies_static : bodies_static s ≡ bodies_static s'
+  unfolding bodies_static
+  same_bodies_static = λ q c. all_below (chart_bodies c).count (λ j. holds (same_body_of q c j) (λ b. same_no_twin q c j b and same_body_static q c b))
 
-  pub same-chartStatic : chartStatic s ≡ chartStatic s'
-  unfolding chartStatic
-  same-chartStatic = λ q c.
-      same-plainData q (chartParameters c)
-      and eqb (same-bodiesWith q c initial) 1
-      and eqb (same-bodiesWith q c panic) 1
-      and same-bodiesStatic q c
+  pub same_chart_static : chart_static s ≡ chart_static s'
+  unfolding chart_static
+  same_chart_static = λ q c.
+      same_plain_data q (chart_parameters c)
+      and eqb (same_bodies_with q c initial) 1
+      and eqb (same_bodies_with q c panic) 1
+      and same_bodies_static q c
 
-  pub same-constantStatic : constantStatic s ≡ constantStatic s'
-  unfolding constantStatic
-  same-constantStatic = λ q n t. holds (same_nodes h q n) (λ r. eqb (literalType r) t)
+  pub same_constant_static : constant_static s ≡ constant_static s'
+  unfolding constant_static
+  same_constant_static = λ q n t. holds (same_nodes h q n) (λ r. eqb (literal_type r) t)
 
-  pub same-constantsStatic : constantsStatic s ≡ constantsStatic s'
-  unfolding constantsStatic
-  same-constantsStatic = λ q k c. all_below (chartParameters c).count (λ j. holds (same-constantBinding h q k j) (λ b. same-constantStatic q (constant_of b j) (same-typeAt h q ((chartParameters c).first + j))))
+  pub same_constants_static : constants_static s ≡ constants_static s'
+  unfolding constants_static
+  same_constants_static = λ q k c. all_below (chart_parameters c).count (λ j. holds (same_constant_binding h q k j) (λ b. same_constant_static q (constant_of b j) (same_type_at h q ((chart_parameters c).first + j))))
 
-  pub same-bindingStatic : bindingStatic s ≡ bindingStatic s'
-  unfolding bindingStatic
-  same-bindingStatic = λ q k. holds (same-chartBound h q k) (same-constantsStatic q k)
+  pub same_binding_static : binding_static s ≡ binding_static s'
+  unfolding binding_static
+  same_binding_static = λ q k. holds (same_chart_bound h q k) (same_constants_static q k)
 
-  pub same-bindingsStatic : bindingsStatic s ≡ bindingsStatic s'
-  unfolding bindingsStatic
-  same-bindingsStatic = λ q. all_below (same-elementsBoundIn h q) (λ i. same-bindingStatic q (same-firstBinding h q i))
+  pub same_bindings_static : bindings_static s ≡ bindings_static s'
+  unfolding bindings_static
+  same_bindings_static = λ q. all_below (same_elements_bound_in h q) (λ i. same_binding_static q (same_first_binding h q i))
 
-  pub same-staticTable : staticTable s ≡ staticTable s'
-  same-staticTable = λ q r.
-      up_to enumeratedTypes true
-      ∷ up_to declarations (same-declarationStatic q r)
-      ∷ up_to names (same-nameStatic q r)
-      ∷ up_to charts (same-chartStatic q r)
+  pub same_static_table : static_table s ≡ static_table s'
+  same_static_table = λ q r.
+      up_to enumerated_types true
+      ∷ up_to declarations (same_declaration_static q r)
+      ∷ up_to names (same_name_static q r)
+      ∷ up_to charts (same_chart_static q r)
       ∷ []
 
-  pub same-recordStatic : recordStatic s ≡ recordStatic s'
-  unfolding recordStatic
-  same-recordStatic = λ q k r. lookUp (same-staticTable q r) true k
+  pub same_record_static : record_static s ≡ record_static s'
+  unfolding record_static
+  same_record_static = λ q k r. look_up (same_static_table q r) true k
 
   -- there is no static rule for a head
-  eachStatic-at : (k : ℕ) → eachStatic s k ≡ eachStatic s' k
-  unfolding eachStatic recordStatic lookUp
-  eachStatic-at zero = λ q. all_below (same-countOf h q head) (λ i. ((λ q. holds (recordOf s head i) (same-recordStatic q head)) ∙ same-head-test h (recordStatic s' head) (λ r. refl) i) q)
-  eachStatic-at (suc k) = λ q. all_below (same-countOf h q (suc k)) (λ i. holds (same-recordOf h k q i) (same-recordStatic q (suc k)))
+  each_static_at : (k : ℕ) → each_static s k ≡ each_static s' k
+  unfolding each_static record_static look_up
+  each_static_at zero = λ q. all_below (same_count_of h q head) (λ i. ((λ q. holds (record_of s head i) (same_record_static q head)) ∙ same_head_test h (record_static s' head) (λ r. refl) i) q)
+  each_static_at (suc k) = λ q. all_below (same_count_of h q (suc k)) (λ i. holds (same_record_of h k q i) (same_record_static q (suc k)))
 
-  pub same-eachStatic : eachStatic s ≡ eachStatic s'
-  same-eachStatic = λ q k. eachStatic-at k q
+  pub same_each_static : each_static s ≡ each_static s'
+  same_each_static = λ q k. each_static_at k q
 
-  pub same-sectionStatic : sectionStatic s ≡ sectionStatic s'
-  unfolding sectionStatic
-  same-sectionStatic = λ q k. elim (eqb k bindings) [ true ↦ same-bindingsStatic q | false ↦ same-eachStatic q k ]
+  pub same_section_static : section_static s ≡ section_static s'
+  unfolding section_static
+  same_section_static = λ q k. elim (eqb k bindings) [ true ↦ same_bindings_static q | false ↦ same_each_static q k ]
 
-  pub same-static : static s ≡ static s'
+  pub same_static : static s ≡ static s'
   unfolding static
-  same-static = λ q. all_below 8 (same-sectionStatic q)
+  same_static = λ q. all_below 8 (same_section_static q)

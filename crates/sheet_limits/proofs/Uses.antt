@@ -6,91 +6,91 @@ use mathlib.Core.Path.{◌≡◌, refl}
 use lib.Dec.{ltb, eqb}
 use Rattle.sheet.specs.declared.Record.{Record}
 use Rattle.sheet.specs.All.{all_below}
-use Rattle.sheet.specs.Names.{charts, nodes, chartParameters, chartBodies, root}
-use Rattle.sheet_rules.specs.Fields.{holds, numberOr0, oneIf, sumBelow, countBelow}
-use Rattle.sheet_rules.specs.Forms.{operandCount, operand_at}
+use Rattle.sheet.specs.Names.{charts, nodes, chart_parameters, chart_bodies, root}
+use Rattle.sheet_rules.specs.Fields.{holds, number_or0, one_if, sum_below, count_below}
+use Rattle.sheet_rules.specs.Forms.{operand_count, operand_at}
 use Rattle.sheet_rules.specs.Bindings.{constant_of}
-use Rattle.sheet_rules.specs.Uses.{lowerOnly, standsStep, standsF, standsIn, overBodies, overCharts, overBindings, standsInBodies, homeBelow, home_of, noChart, chartOr, homeChart, operandFields, operandUses, rootUses, constantUses, usesOf, usedOnce}
+use Rattle.sheet_rules.specs.Uses.{lower_only, stands_step, stands_f, stands_in, over_bodies, over_charts, over_bindings, stands_in_bodies, home_below, home_of, no_chart, chart_or, home_chart, operand_fields, operand_uses, root_uses, constant_uses, uses_of, used_once}
 use Rattle.sheet_limits.specs.ButLimit.{ButLimit}
-use Rattle.sheet_limits.proofs.Forms.{same-operandsOf}
-use Rattle.sheet_limits.proofs.Records.{same-bodies, same-charts, same-countOf, same_nodes}
-use Rattle.sheet_limits.proofs.Bindings.{same-chartBound, same-firstBinding, same-elementsBoundIn, same-constantBinding}
+use Rattle.sheet_limits.proofs.Forms.{same_operands_of}
+use Rattle.sheet_limits.proofs.Records.{same_bodies, same_charts, same_count_of, same_nodes}
+use Rattle.sheet_limits.proofs.Bindings.{same_chart_bound, same_first_binding, same_elements_bound_in, same_constant_binding}
 
 module _ {s s' : List ℕ} (h : ButLimit s s') where
-  pub same-standsStep : standsStep s ≡ standsStep s'
-  unfolding standsStep
-  same-standsStep = λ q c n f m. oneIf (eqb m n) + numberOr0 (same_nodes h q m) (λ r. sumBelow (operandCount (same-operandsOf h q c r)) (λ j. f (operand_at r (same-operandsOf h q c r) j)))
+  pub same_stands_step : stands_step s ≡ stands_step s'
+  unfolding stands_step
+  same_stands_step = λ q c n f m. one_if (eqb m n) + number_or0 (same_nodes h q m) (λ r. sum_below (operand_count (same_operands_of h q c r)) (λ j. f (operand_at r (same_operands_of h q c r) j)))
 
-  standsF-at : (c : Record) (n a : ℕ) → standsF s c n a ≡ standsF s' c n a
-  unfolding standsF
-  standsF-at c n zero = λ q m. 0
-  standsF-at c n (suc k) = λ q m. same-standsStep q c n (lowerOnly m (standsF-at c n k q)) m
+  stands_f_at : (c : Record) (n a : ℕ) → stands_f s c n a ≡ stands_f s' c n a
+  unfolding stands_f
+  stands_f_at c n zero = λ q m. 0
+  stands_f_at c n (suc k) = λ q m. same_stands_step q c n (lower_only m (stands_f_at c n k q)) m
 
-  pub same-standsF : standsF s ≡ standsF s'
-  same-standsF = λ q c n a. standsF-at c n a q
+  pub same_stands_f : stands_f s ≡ stands_f s'
+  same_stands_f = λ q c n a. stands_f_at c n a q
 
-  pub same-standsIn : standsIn s ≡ standsIn s'
-  unfolding standsIn
-  same-standsIn = λ q c n m. same-standsF q c n (suc m) m
+  pub same_stands_in : stands_in s ≡ stands_in s'
+  unfolding stands_in
+  same_stands_in = λ q c n m. same_stands_f q c n (suc m) m
 
-  pub same-overBodies : overBodies s ≡ overBodies s'
-  unfolding overBodies
-  same-overBodies = λ q f c. sumBelow (chartBodies c).count (λ j. numberOr0 (same-bodies h q ((chartBodies c).first + j)) f)
+  pub same_over_bodies : over_bodies s ≡ over_bodies s'
+  unfolding over_bodies
+  same_over_bodies = λ q f c. sum_below (chart_bodies c).count (λ j. number_or0 (same_bodies h q ((chart_bodies c).first + j)) f)
 
-  pub same-overCharts : overCharts s ≡ overCharts s'
-  unfolding overCharts
-  same-overCharts = λ q f. sumBelow (same-countOf h q charts) (λ k. numberOr0 (same-charts h q k) f)
+  pub same_over_charts : over_charts s ≡ over_charts s'
+  unfolding over_charts
+  same_over_charts = λ q f. sum_below (same_count_of h q charts) (λ k. number_or0 (same_charts h q k) f)
 
-  pub same-overBindings : overBindings s ≡ overBindings s'
-  same-overBindings = λ q f. sumBelow (same-elementsBoundIn h q) (λ i. f (same-firstBinding h q i))
+  pub same_over_bindings : over_bindings s ≡ over_bindings s'
+  same_over_bindings = λ q f. sum_below (same_elements_bound_in h q) (λ i. f (same_first_binding h q i))
 
-  pub same-standsInBodies : standsInBodies s ≡ standsInBodies s'
-  unfolding standsInBodies
-  same-standsInBodies = λ q n c. same-overBodies q (λ b. same-standsIn q c n (root b)) c
+  pub same_stands_in_bodies : stands_in_bodies s ≡ stands_in_bodies s'
+  unfolding stands_in_bodies
+  same_stands_in_bodies = λ q n c. same_over_bodies q (λ b. same_stands_in q c n (root b)) c
 
-  homeBelow-at : (n a : ℕ) → homeBelow s n a ≡ homeBelow s' n a
-  unfolding homeBelow
-  homeBelow-at n zero = refl
-  homeBelow-at n (suc k) = λ q. elim (ltb 0 (numberOr0 (same-charts h q k) (same-standsInBodies q n))) [ true ↦ suc k | false ↦ homeBelow-at n k q ]
+  home_below_at : (n a : ℕ) → home_below s n a ≡ home_below s' n a
+  unfolding home_below
+  home_below_at n zero = refl
+  home_below_at n (suc k) = λ q. elim (ltb 0 (number_or0 (same_charts h q k) (same_stands_in_bodies q n))) [ true ↦ suc k | false ↦ home_below_at n k q ]
 
-  pub same-homeBelow : homeBelow s ≡ homeBelow s'
-  same-homeBelow = λ q n a. homeBelow-at n a q
+  pub same_home_below : home_below s ≡ home_below s'
+  same_home_below = λ q n a. home_below_at n a q
 
-  pub same-homeOf : home_of s ≡ home_of s'
+  pub same_home_of : home_of s ≡ home_of s'
   unfolding home_of
-  same-homeOf = λ q n. same-homeBelow q n (same-countOf h q charts)
+  same_home_of = λ q n. same_home_below q n (same_count_of h q charts)
 
-  homeChart-at : (a : ℕ) → homeChart s a ≡ homeChart s' a
-  unfolding homeChart
-  homeChart-at zero = refl
-  homeChart-at (suc k) = λ q. chartOr noChart (same-charts h q k)
+  home_chart_at : (a : ℕ) → home_chart s a ≡ home_chart s' a
+  unfolding home_chart
+  home_chart_at zero = refl
+  home_chart_at (suc k) = λ q. chart_or no_chart (same_charts h q k)
 
-  pub same-homeChart : homeChart s ≡ homeChart s'
-  same-homeChart = λ q a. homeChart-at a q
+  pub same_home_chart : home_chart s ≡ home_chart s'
+  same_home_chart = λ q a. home_chart_at a q
 
-  pub same-operandFields : operandFields s ≡ operandFields s'
-  unfolding operandFields
-  same-operandFields = λ q c m n. numberOr0 (same_nodes h q m) (λ r. countBelow (operandCount (same-operandsOf h q c r)) (λ j. eqb (operand_at r (same-operandsOf h q c r) j) n))
+  pub same_operand_fields : operand_fields s ≡ operand_fields s'
+  unfolding operand_fields
+  same_operand_fields = λ q c m n. number_or0 (same_nodes h q m) (λ r. count_below (operand_count (same_operands_of h q c r)) (λ j. eqb (operand_at r (same_operands_of h q c r) j) n))
 
-  pub same-operandUses : operandUses s ≡ operandUses s'
-  unfolding operandUses
-  same-operandUses = λ q c m n. lowerOnly m (same-operandFields q c m) n
+  pub same_operand_uses : operand_uses s ≡ operand_uses s'
+  unfolding operand_uses
+  same_operand_uses = λ q c m n. lower_only m (same_operand_fields q c m) n
 
-  pub same-rootUses : rootUses s ≡ rootUses s'
-  unfolding rootUses
-  same-rootUses = λ q n c. same-overBodies q (λ b. oneIf (eqb (root b) n)) c
+  pub same_root_uses : root_uses s ≡ root_uses s'
+  unfolding root_uses
+  same_root_uses = λ q n c. same_over_bodies q (λ b. one_if (eqb (root b) n)) c
 
-  pub same-constantUses : constantUses s ≡ constantUses s'
-  unfolding constantUses
-  same-constantUses = λ q n k. numberOr0 (same-chartBound h q k) (λ c. countBelow (chartParameters c).count (λ j. holds (same-constantBinding h q k j) (λ b. eqb (constant_of b j) n)))
+  pub same_constant_uses : constant_uses s ≡ constant_uses s'
+  unfolding constant_uses
+  same_constant_uses = λ q n k. number_or0 (same_chart_bound h q k) (λ c. count_below (chart_parameters c).count (λ j. holds (same_constant_binding h q k j) (λ b. eqb (constant_of b j) n)))
 
-  pub same-usesOf : usesOf s ≡ usesOf s'
-  unfolding usesOf
-  same-usesOf = λ q n.
-      same-overCharts q (same-rootUses q n)
-      + same-overBindings q (same-constantUses q n)
-      + sumBelow (same-countOf h q nodes) (λ m. same-operandUses q (same-homeChart q (same-homeOf q m)) m n)
+  pub same_uses_of : uses_of s ≡ uses_of s'
+  unfolding uses_of
+  same_uses_of = λ q n.
+      same_over_charts q (same_root_uses q n)
+      + same_over_bindings q (same_constant_uses q n)
+      + sum_below (same_count_of h q nodes) (λ m. same_operand_uses q (same_home_chart q (same_home_of q m)) m n)
 
-  pub same-usedOnce : usedOnce s ≡ usedOnce s'
-  unfolding usedOnce
-  same-usedOnce = λ q. all_below (same-countOf h q nodes) (λ n. eqb (same-usesOf q n) 1)
+  pub same_used_once : used_once s ≡ used_once s'
+  unfolding used_once
+  same_used_once = λ q. all_below (same_count_of h q nodes) (λ n. eqb (same_uses_of q n) 1)

@@ -2,7 +2,7 @@
 // covers no function over a struct that holds a reference, so each of the three is proved by hand, and each leaves the
 // work to the covered functions of `sheet_reader`.
 ghost use Rattle.std.specs.Prelude.{◌≡◌};
-ghost use Rattle.sheet.specs.Sheet.{directoryOf, recordOf};
+ghost use Rattle.sheet.specs.Sheet.{directory_of, record_of};
 
 use sheet::{Directory, Found};
 
@@ -14,7 +14,7 @@ pub struct Reader<'a> {
 
 // The directory is tested once, here.
 pub fn new<'a>(sheet: &'a [u8]) -> Reader<'a>
-    ensures { (result.sheet ≡ sheet.entry) × (result.directory ≡ directoryOf sheet.now) }
+    ensures { (result.sheet ≡ sheet.entry) × (result.directory ≡ directory_of sheet.now) }
 {
     let directory = sheet_reader::directory(sheet);
     Reader { sheet, directory }
@@ -22,15 +22,15 @@ pub fn new<'a>(sheet: &'a [u8]) -> Reader<'a>
 
 // Any record by section and number, of a reader that was opened on its sheet.
 pub fn record_of<'a>(r: Reader<'a>, section: usize, number: usize) -> Found
-    requires { r.directory ≡ directoryOf r.sheet.now }
-    ensures { result ≡ recordOf r.entry.sheet.now section number }
+    requires { r.directory ≡ directory_of r.sheet.now }
+    ensures { result ≡ record_of r.entry.sheet.now section number }
 {
     sheet_reader::read(r.sheet, &r.directory, section, number)
 }
 
 // A reader is opened and asked once. Its parameters are plain, so whoever calls it needs no walk.
 pub fn record(sheet: &[u8], section: usize, number: usize) -> Found
-    ensures { result ≡ recordOf sheet.now section number }
+    ensures { result ≡ record_of sheet.now section number }
 {
     record_of(new(sheet), section, number)
 }

@@ -1,6 +1,6 @@
 // The sheet's reader: any record of any bytes, by section and number.
 ghost use Rattle.std.specs.Prelude.{◌≡◌, ◌+◌, ◌*◌, ◌<◌, ◌≤◌, length};
-ghost use Rattle.sheet.specs.Sheet.{count_of, countIn, recordAt, recordOf, directoryOf};
+ghost use Rattle.sheet.specs.Sheet.{count_of, count_in, record_at, record_of, directory_of};
 
 use sheet::{DIRECTORY, Directory, Found, Record};
 
@@ -23,7 +23,7 @@ fn count_place(section: usize) -> usize
 // The directory, tested once and handed on: each section's offset and its count of records. Where the
 // directory is wrong every count is 0.
 pub fn directory(sheet: &[u8]) -> Directory
-    ensures { result ≡ directoryOf sheet.now }
+    ensures { result ≡ directory_of sheet.now }
 {
     let mut sections = [0usize; DIRECTORY];
     if sheet_directory::directory_right(sheet) {
@@ -41,7 +41,7 @@ pub fn directory(sheet: &[u8]) -> Directory
 
 // How many records a section has, by the opened directory. Any array has an answer.
 pub fn count_in(directory: &Directory, section: usize) -> usize
-    ensures { result ≡ countIn directory.now section }
+    ensures { result ≡ count_in directory.now section }
 {
     if section < 8 {
         let place = count_place(section);
@@ -52,7 +52,7 @@ pub fn count_in(directory: &Directory, section: usize) -> usize
 
 fn fields_at(sheet: &[u8], at: usize) -> Record
     requires { at + 16 ≤ length sheet.now }
-    ensures { result ≡ recordAt sheet.now at }
+    ensures { result ≡ record_at sheet.now at }
 {
     Record {
         f0: sheet_directory::word_at(sheet, at),
@@ -68,8 +68,8 @@ fn fields_at(sheet: &[u8], at: usize) -> Record
 
 // A record by the opened directory: the sixteen bytes and one bound.
 pub fn read(sheet: &[u8], directory: &Directory, section: usize, number: usize) -> Found
-    requires { directory.now ≡ directoryOf sheet.now }
-    ensures { result ≡ recordOf sheet.now section number }
+    requires { directory.now ≡ directory_of sheet.now }
+    ensures { result ≡ record_of sheet.now section number }
 {
     if 8 <= section {
         return Found::Absent;
@@ -85,7 +85,7 @@ pub fn read(sheet: &[u8], directory: &Directory, section: usize, number: usize) 
 
 // A record by section and number, for a caller who has only the bytes.
 pub fn record(sheet: &[u8], section: usize, number: usize) -> Found
-    ensures { result ≡ recordOf sheet.now section number }
+    ensures { result ≡ record_of sheet.now section number }
 {
     let opened = directory(sheet);
     read(sheet, &opened, section, number)

@@ -5,21 +5,21 @@ use mathlib.Core.Bool.{false}
 use mathlib.Core.Path.{◌≡◌, refl}
 use lib.ListN.{length}
 use Rattle.sheet.specs.All.{◌and◌, all_below}
-use Rattle.sheet.specs.Table.{lookUp}
-use Rattle.sheet.specs.Names.{isClock, isLiteral}
+use Rattle.sheet.specs.Table.{look_up}
+use Rattle.sheet.specs.Names.{is_clock, is_literal}
 use Rattle.sheet.specs.declared.Record.{Record}
-use Rattle.sheet.specs.Sheet.{start_of, pairRight, directoryRight, count_of, recordAt, recordOf}
+use Rattle.sheet.specs.Sheet.{start_of, pair_right, directory_right, count_of, record_at, record_of}
 use Rattle.sheet_rules.specs.declared.Typed.TheVariants.{Expression, Statement, Wrong}
-use Rattle.sheet_rules.specs.Fields.{field_of, zeroFrom, holds, numberOr0, sumBelow, countBelow, componentsOf, externalsOf, portsOf, members_of, elementsOf, declaredSo, type_at, inSection}
-use Rattle.sheet_rules.specs.Forms.{form_of, literalOf, less, plus, modulo, binaryOf, nameData, calledBody, callData, operandsIn, operandsOf, operand_at}
-use Rattle.sheet_rules.specs.DataTypes.{enumeratedType, noData, dataTypeOf}
-use Rattle.sheet_rules.specs.Indices.{index_of, index_at, is_plain, cellsBy, cellsTaken, cellsBefore}
-use Rattle.sheet_rules.specs.Bindings.{recordsFor, chartBound, behind, firstBinding, elementsBoundIn, constantRecord, constantField}
-use Rattle.sheet_rules.specs.Shape.{headShape, enumeratedShape, typeExists, indexExists, declarationShape, nameShape, bodiesUpTo, chartShape, bodiesCovered, isReaction, reactionShape, bodyShape, literalFields, literalShape, variablesAt, sendShape, fieldsShape, treeShape, treesShape, constantShape, secondShape, constantsShape, recordsShape, bindingShape, bindingsShape, elementsBound, cellsBound, cells_of, recordShape, eachShape, sectionShape}
-use Rattle.sheet_rules.specs.Uses.{lowerOnly, standsStep, standsF, standsIn, overBodies, overCharts, standsInBodies, homeBelow, home_of, chartOr, homeChart, operandFields, operandUses, rootUses, constantUses, usesOf, usedOnce, mark_of, bodiesHolding, callsInOneBody, goneOver}
-use Rattle.sheet_rules.specs.Types.{given, is_of, isStatement, sameType, writtenType, literalType, variableAt, ofInts, combinedType, binaryType, hasClass, hasReaction, internalName, nameRange, parametersOf, clockOf, dataMatch, lowerType, readType, notType, clockType, assignType, indexedBy, readElementType, assignElementType, externalType, internalType, armType, clockActType, callType, choiceType, loopType, sequenceType, typeIn, typeStep, typeF, type_of}
-use Rattle.sheet_rules.specs.Static.{declarationStatic, plainData, nameStatic, sameTypes, reactionStatic, roleStatic, bodyStatic, hasRole, bodiesWith, sameReaction, noTwin, bodiesStatic, chartStatic, constantStatic, constantsStatic, bindingStatic, bindingsStatic, recordStatic, eachStatic, sectionStatic, static}
-use Rattle.sheet_rules.specs.Check.{nodesShape, sectionsShape, shapeWith, shape, otherwiseInShape, checkOf, checkNumber}
+use Rattle.sheet_rules.specs.Fields.{field_of, zero_from, holds, number_or0, sum_below, count_below, components_of, externals_of, ports_of, members_of, elements_of, declared_so, type_at, in_section}
+use Rattle.sheet_rules.specs.Forms.{form_of, literal_of, less, plus, modulo, binary_of, name_data, called_body, call_data, operands_in, operands_of, operand_at}
+use Rattle.sheet_rules.specs.DataTypes.{enumerated_type, no_data, data_type_of}
+use Rattle.sheet_rules.specs.Indices.{index_of, index_at, is_plain, cells_by, cells_taken, cells_before}
+use Rattle.sheet_rules.specs.Bindings.{records_for, chart_bound, behind, first_binding, elements_bound_in, constant_record, constant_field}
+use Rattle.sheet_rules.specs.Shape.{head_shape, enumerated_shape, type_exists, index_exists, declaration_shape, name_shape, bodies_up_to, chart_shape, bodies_covered, is_reaction, reaction_shape, body_shape, literal_fields, literal_shape, variables_at, send_shape, fields_shape, tree_shape, trees_shape, constant_shape, second_shape, constants_shape, records_shape, binding_shape, bindings_shape, elements_bound, cells_bound, cells_of, record_shape, each_shape, section_shape}
+use Rattle.sheet_rules.specs.Uses.{lower_only, stands_step, stands_f, stands_in, over_bodies, over_charts, stands_in_bodies, home_below, home_of, chart_or, home_chart, operand_fields, operand_uses, root_uses, constant_uses, uses_of, used_once, mark_of, bodies_holding, calls_in_one_body, gone_over}
+use Rattle.sheet_rules.specs.Types.{given, is_of, is_statement, same_type, written_type, literal_type, variable_at, of_ints, combined_type, binary_type, has_class, has_reaction, internal_name, name_range, parameters_of, clock_of, data_match, lower_type, read_type, not_type, clock_type, assign_type, indexed_by, read_element_type, assign_element_type, external_type, internal_type, arm_type, clock_act_type, call_type, choice_type, loop_type, sequence_type, type_in, type_step, type_f, type_of}
+use Rattle.sheet_rules.specs.Static.{declaration_static, plain_data, name_static, same_types, reaction_static, role_static, body_static, has_role, bodies_with, same_reaction, no_twin, bodies_static, chart_static, constant_static, constants_static, binding_static, bindings_static, record_static, each_static, section_static, static}
+use Rattle.sheet_rules.specs.Check.{nodes_shape, sections_shape, shape_with, shape, otherwise_in_shape, check_of, check_number}
 
 -- ---- a sheet from its eight sections, each the fields of its records
 
@@ -27,17 +27,17 @@ bytes_of : List ℕ → List ℕ
 bytes_of [] = []
 bytes_of (w ∷ ws) = w % 256 ∷ w / 256 ∷ bytes_of ws
 
-directoryFor : ℕ → List (List ℕ) → List ℕ
-directoryFor at [] = []
-directoryFor at (s ∷ ss) = at ∷ 2 * length s ∷ directoryFor (at + 2 * length s) ss
+directory_for : ℕ → List (List ℕ) → List ℕ
+directory_for at [] = []
+directory_for at (s ∷ ss) = at ∷ 2 * length s ∷ directory_for (at + 2 * length s) ss
 
 fields_of : List (List ℕ) → List ℕ
 fields_of [] = []
 fields_of (s ∷ ss) = s ++ fields_of ss
 
-unfoldable pub sheetOf : List (List ℕ) → List ℕ
-unfolding bytes_of directoryFor fields_of
-sheetOf ss = bytes_of (directoryFor 32 ss ++ fields_of ss)
+unfoldable pub sheet_of : List (List ℕ) → List ℕ
+unfolding bytes_of directory_for fields_of
+sheet_of ss = bytes_of (directory_for 32 ss ++ fields_of ss)
 
 -- a record by its first three or six fields; a body by role, name and root
 unfoldable pub rec3 : ℕ → ℕ → ℕ → List ℕ
@@ -51,20 +51,20 @@ body role name root = role ∷ 0 ∷ name ∷ 0 ∷ 0 ∷ 0 ∷ 0 ∷ root ∷ [
 
 -- the number that check gives to a sheet, with every definition open
 unfoldable pub check : List (List ℕ) → ℕ
-unfolding ◌and◌ all_below isClock isLiteral start_of pairRight directoryRight count_of recordAt recordOf field_of zeroFrom holds numberOr0 sumBelow countBelow
-    componentsOf externalsOf portsOf members_of elementsOf declaredSo type_at inSection lookUp form_of literalOf binaryOf dataTypeOf index_of index_at is_plain
-    cellsBy cellsTaken cellsBefore recordsFor chartBound behind firstBinding elementsBoundIn constantRecord constantField nameData calledBody callData
-    operandsIn operandsOf operand_at headShape enumeratedShape typeExists indexExists declarationShape nameShape bodiesUpTo chartShape bodiesCovered isReaction
-    reactionShape bodyShape literalFields literalShape variablesAt sendShape fieldsShape treeShape treesShape constantShape secondShape constantsShape
-    recordsShape bindingShape bindingsShape elementsBound cellsBound cells_of recordShape eachShape sectionShape lowerOnly standsStep standsF standsIn overBodies
-    overCharts standsInBodies homeBelow home_of chartOr homeChart operandFields operandUses rootUses constantUses usesOf usedOnce mark_of bodiesHolding
-    callsInOneBody goneOver given is_of isStatement sameType writtenType literalType variableAt ofInts combinedType binaryType hasClass hasReaction internalName
-    nameRange parametersOf clockOf dataMatch lowerType readType notType clockType assignType indexedBy readElementType assignElementType externalType
-    internalType armType clockActType callType choiceType loopType sequenceType typeIn typeStep typeF type_of declarationStatic plainData nameStatic sameTypes
-    reactionStatic roleStatic bodyStatic hasRole bodiesWith sameReaction noTwin bodiesStatic chartStatic constantStatic constantsStatic bindingStatic
-    bindingsStatic recordStatic eachStatic sectionStatic static nodesShape sectionsShape shapeWith shape otherwiseInShape checkOf bytes_of directoryFor fields_of
-    sheetOf rec3 rec6 body
-check ss = checkNumber (checkOf (sheetOf ss))
+unfolding ◌and◌ all_below is_clock is_literal start_of pair_right directory_right count_of record_at record_of field_of zero_from holds number_or0 sum_below count_below
+    components_of externals_of ports_of members_of elements_of declared_so type_at in_section look_up form_of literal_of binary_of data_type_of index_of index_at is_plain
+    cells_by cells_taken cells_before records_for chart_bound behind first_binding elements_bound_in constant_record constant_field name_data called_body call_data
+    operands_in operands_of operand_at head_shape enumerated_shape type_exists index_exists declaration_shape name_shape bodies_up_to chart_shape bodies_covered is_reaction
+    reaction_shape body_shape literal_fields literal_shape variables_at send_shape fields_shape tree_shape trees_shape constant_shape second_shape constants_shape
+    records_shape binding_shape bindings_shape elements_bound cells_bound cells_of record_shape each_shape section_shape lower_only stands_step stands_f stands_in over_bodies
+    over_charts stands_in_bodies home_below home_of chart_or home_chart operand_fields operand_uses root_uses constant_uses uses_of used_once mark_of bodies_holding
+    calls_in_one_body gone_over given is_of is_statement same_type written_type literal_type variable_at of_ints combined_type binary_type has_class has_reaction internal_name
+    name_range parameters_of clock_of data_match lower_type read_type not_type clock_type assign_type indexed_by read_element_type assign_element_type external_type
+    internal_type arm_type clock_act_type call_type choice_type loop_type sequence_type type_in type_step type_f type_of declaration_static plain_data name_static same_types
+    reaction_static role_static body_static has_role bodies_with same_reaction no_twin bodies_static chart_static constant_static constants_static binding_static
+    bindings_static record_static each_static section_static static nodes_shape sections_shape shape_with shape otherwise_in_shape check_of bytes_of directory_for fields_of
+    sheet_of rec3 rec6 body
+check ss = check_number (check_of (sheet_of ss))
 
 -- ---- two sheets of the starred samples
 
@@ -100,80 +100,80 @@ abbrev fields : ℕ → ℕ → ℕ → ℕ → ℕ → ℕ → ℕ → ℕ → 
 fields a b c d e f g h = record { f0 = a; f1 = b; f2 = c; f3 = d; f4 = e; f5 = f; f6 = g; f7 = h }
 
 abbrev some : List ℕ → List ℕ → List ℕ → List ℕ → List ℕ → List ℕ → List ℕ
-some declarations names charts bodies nodes bindings = sheetOf ([] ∷ [] ∷ declarations ∷ names ∷ charts ∷ bodies ∷ nodes ∷ bindings ∷ [])
+some declarations names charts bodies nodes bindings = sheet_of ([] ∷ [] ∷ declarations ∷ names ∷ charts ∷ bodies ∷ nodes ∷ bindings ∷ [])
 
 -- ---- static rules
 
 -- 33 assign to a chart's only variable, a Bool: "an assignment keeps its variable's type"
-bool-to-bool : assignType (some (rec3 0 0 0) [] [] [] [] []) (fields 0 0 0 1 0 0 0 0) (fields 0 0 0 0 0 0 0 0) (fields 33 1 0 0 0 0 0 0) (Expression 0) ≡ Statement
+bool_to_bool : assign_type (some (rec3 0 0 0) [] [] [] [] []) (fields 0 0 0 1 0 0 0 0) (fields 0 0 0 0 0 0 0 0) (fields 33 1 0 0 0 0 0 0) (Expression 0) ≡ Statement
 unfolding check
-bool-to-bool = refl
+bool_to_bool = refl
 
-int-to-bool : assignType (some (rec3 0 0 0) [] [] [] [] []) (fields 0 0 0 1 0 0 0 0) (fields 0 0 0 0 0 0 0 0) (fields 33 1 0 0 0 0 0 0) (Expression 1) ≡ Wrong
+int_to_bool : assign_type (some (rec3 0 0 0) [] [] [] [] []) (fields 0 0 0 1 0 0 0 0) (fields 0 0 0 0 0 0 0 0) (fields 33 1 0 0 0 0 0 0) (Expression 1) ≡ Wrong
 unfolding check
-int-to-bool = refl
+int_to_bool = refl
 
 -- 44 assign to an array of Bools over Component: a Port is no index of it
-port-index : assignElementType (some (rec3 0 2 0) [] [] [] [] []) (fields 0 0 0 1 0 0 0 0) (fields 44 0 0 0 0 0 0 0) (Expression 3) (Expression 0) ≡ Wrong
+port_index : assign_element_type (some (rec3 0 2 0) [] [] [] [] []) (fields 0 0 0 1 0 0 0 0) (fields 44 0 0 0 0 0 0 0) (Expression 3) (Expression 0) ≡ Wrong
 unfolding check
-port-index = refl
+port_index = refl
 
 -- an array of Timers over Component
-array-of-clocks : declarationStatic [] (fields 4 2 0 0 0 0 0 0) ≡ false
+array_of_clocks : declaration_static [] (fields 4 2 0 0 0 0 0 0) ≡ false
 unfolding check
-array-of-clocks = refl
+array_of_clocks = refl
 
 -- operator 1 is a Bool
-one_bool : literalType (fields 1 1 0 0 0 0 0 0) ≡ 0
+one_bool : literal_type (fields 1 1 0 0 0 0 0 0) ≡ 0
 unfolding check
 one_bool = refl
 
 -- internal name 0, and a chart whose only body is a procedure: no reaction to it
-no-reaction : internalName (some [] (rec3 0 0 1) [] (body 4 0 0) [] []) (fields 0 0 0 0 0 1 0 0) 0 ≡ false
+no_reaction_lem : internal_name (some [] (rec3 0 0 1) [] (body 4 0 0) [] []) (fields 0 0 0 0 0 1 0 0) 0 ≡ false
 unfolding check
-no-reaction = refl
+no_reaction_lem = refl
 
 -- ---- shape
 
 -- "a whole number n from 1 to 64": an Int array over 65
-number-65 : declarationShape [] (fields 1 60065 0 0 0 0 0 0) ≡ false
+number_65 : declaration_shape [] (fields 1 60065 0 0 0 0 0 0) ≡ false
 unfolding check
-number-65 = refl
+number_65 = refl
 
 -- "the 512 counts cells": one array of 64 Ints
-cells-64 : cells_of (sheetOf (rec3 3 2 2 ∷ [] ∷ rec3 1 60064 0 ∷ [] ∷ rec6 0 0 0 1 0 0 ∷ [] ∷ [] ∷ rec3 0 0 0 ∷ [])) ≡ 64
+cells_64 : cells_of (sheet_of (rec3 3 2 2 ∷ [] ∷ rec3 1 60064 0 ∷ [] ∷ rec6 0 0 0 1 0 0 ∷ [] ∷ [] ∷ rec3 0 0 0 ∷ [])) ≡ 64
 unfolding check
-cells-64 = refl
+cells_64 = refl
 
 -- "up to 14 parameters": 15 Bools
 bools : ℕ → List ℕ
 bools zero = []
 bools (suc n) = rec3 0 0 0 ++ bools n
 
-fifteen : chartShape (some (bools 15) [] [] [] [] []) 0 (fields 0 15 0 0 0 0 0 0) ≡ false
+fifteen : chart_shape (some (bools 15) [] [] [] [] []) 0 (fields 0 15 0 0 0 0 0 0) ≡ false
 unfolding check bools
 fifteen = refl
 
 -- a second record with one constant: "without that f0 is also 1", be it the number of a chart; an unused field of it
-unmarked : secondShape (some [] [] [] [] [] (rec3 0 1 0)) 0 1 ≡ false
+unmarked : second_shape (some [] [] [] [] [] (rec3 0 1 0)) 0 1 ≡ false
 unfolding check
 unmarked = refl
 
-unused-second : secondShape (some [] [] [] [] [] (rec3 65535 1 1)) 0 1 ≡ false
+unused_second : second_shape (some [] [] [] [] [] (rec3 65535 1 1)) 0 1 ≡ false
 unfolding check
-unused-second = refl
+unused_second = refl
 
 -- ---- uses of nodes
 
 -- a body, a node, two bindings
-gone-over : goneOver (some [] [] (rec6 0 0 0 0 0 1) (body 0 0 0) (rec3 32 0 0) (rec3 0 0 0 ++ rec3 0 0 0)) ≡ 4
+gone-over : gone_over (some [] [] (rec6 0 0 0 0 0 1) (body 0 0 0) (rec3 32 0 0) (rec3 0 0 0 ++ rec3 0 0 0)) ≡ 4
 unfolding check
 gone-over = refl
 
 -- node 0 is the constant of a chart's one parameter
-constant-used : constantUses (some [] [] (rec6 0 1 0 0 0 0) [] [] (rec3 0 0 0)) 0 0 ≡ 1
+constant_used : constant_uses (some [] [] (rec6 0 1 0 0 0 0) [] [] (rec3 0 0 0)) 0 0 ≡ 1
 unfolding check
-constant-used = refl
+constant_used = refl
 
 -- ---- the head says how many elements are bound, however many bindings there are
 
@@ -181,34 +181,34 @@ constant-used = refl
 half : List (List ℕ)
 half = rec3 4 2 2 ∷ [] ∷ [] ∷ [] ∷ [] ∷ [] ∷ [] ∷ rec3 0 0 0 ∷ []
 
-elements-by-the-head : elementsOf (sheetOf half) ≡ 2
+elements_by_the_head : elements_of (sheet_of half) ≡ 2
 unfolding check half
-elements-by-the-head = refl
+elements_by_the_head = refl
 
 -- ---- data types: "4 to 6 are clocks", there is no 7, "8+k enumerated type k"
 
-cycler-no-data : dataTypeOf 6 ≡ noData
+cycler_no_data : data_type_of 6 ≡ no_data
 unfolding check
-cycler-no-data = refl
+cycler_no_data = refl
 
-seven-no-data : dataTypeOf 7 ≡ noData
+seven_no_data : data_type_of 7 ≡ no_data
 unfolding check
-seven-no-data = refl
+seven_no_data = refl
 
-eight-enumerated : dataTypeOf 8 ≡ enumeratedType 0
+eight_enumerated : data_type_of 8 ≡ enumerated_type 0
 unfolding check
-eight-enumerated = refl
+eight_enumerated = refl
 
 -- ---- operators on two values: "11 less; 12 plus"; the last, "16 mod"
 
-eleven-less : binaryOf 11 ≡ less
+eleven_less : binary_of 11 ≡ less
 unfolding check
-eleven-less = refl
+eleven_less = refl
 
-twelve-plus : binaryOf 12 ≡ plus
+twelve_plus : binary_of 12 ≡ plus
 unfolding check
-twelve-plus = refl
+twelve_plus = refl
 
-sixteen-mod : binaryOf 16 ≡ modulo
+sixteen_mod : binary_of 16 ≡ modulo
 unfolding check
-sixteen-mod = refl
+sixteen_mod = refl

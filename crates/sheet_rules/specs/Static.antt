@@ -4,108 +4,108 @@ use Rattle.sheet.specs.declared.Record.{Record}
 use Rattle.sheet.specs.declared.Range.{Range}
 use Rattle.sheet.specs.declared.Found.{Found}
 use Rattle.sheet.specs.All.{◌and◌, all_below}
-use Rattle.sheet.specs.Table.{Line, up_to, lookUp}
-use Rattle.sheet.specs.Names.{enumeratedTypes, declarations, names, charts, bodies, nodes, bindings, declaredType, declaredIndex, data_of, external, internal, chartParameters, chartBodies, role, initial, panic, externalReaction, reactionPort, reactionName, bodyParameters, bodyLocals, root, isClock}
-use Rattle.sheet.specs.Sheet.{count_of, recordOf}
-use Rattle.sheet_rules.specs.Fields.{holds, countBelow, type_at}
+use Rattle.sheet.specs.Table.{Line, up_to, look_up}
+use Rattle.sheet.specs.Names.{enumerated_types, declarations, names, charts, bodies, nodes, bindings, declared_type, declared_index, data_of, external, internal, chart_parameters, chart_bodies, role, initial, panic, external_reaction, reaction_port, reaction_name, body_parameters, body_locals, root, is_clock}
+use Rattle.sheet.specs.Sheet.{count_of, record_of}
+use Rattle.sheet_rules.specs.Fields.{holds, count_below, type_at}
 use Rattle.sheet_rules.specs.Indices.{index_of, index_at, is_plain}
-use Rattle.sheet_rules.specs.Bindings.{chartBound, firstBinding, elementsBoundIn, constantBinding, constant_of}
-use Rattle.sheet_rules.specs.Shape.{isReaction}
-use Rattle.sheet_rules.specs.Types.{isStatement, literalType, hasClass, nameRange, type_of}
+use Rattle.sheet_rules.specs.Bindings.{chart_bound, first_binding, elements_bound_in, constant_binding, constant_of}
+use Rattle.sheet_rules.specs.Shape.{is_reaction}
+use Rattle.sheet_rules.specs.Types.{is_statement, literal_type, has_class, name_range, type_of}
 
 -- "An array .. of clocks, gets 2", wherever it stands
-unfoldable pub declarationStatic : List ℕ → Record → Bool
-declarationStatic s r = not (isClock (declaredType r) and not (is_plain (index_of s (declaredIndex r))))
+unfoldable pub declaration_static : List ℕ → Record → Bool
+declaration_static s r = not (is_clock (declared_type r) and not (is_plain (index_of s (declared_index r))))
 
 -- "clocks .. stand in no declaration range but chart variables", nor does an array
-unfoldable pub plainData : List ℕ → Range → Bool
-plainData s g = all_below g.count (λ j. not (isClock (type_at s (g.first + j))) and is_plain (index_at s (g.first + j)))
+unfoldable pub plain_data : List ℕ → Range → Bool
+plain_data s g = all_below g.count (λ j. not (is_clock (type_at s (g.first + j))) and is_plain (index_at s (g.first + j)))
 
-unfoldable pub nameStatic : List ℕ → Record → Bool
-nameStatic s r = plainData s (data_of r)
+unfoldable pub name_static : List ℕ → Record → Bool
+name_static s r = plain_data s (data_of r)
 
 -- ---- bodies
 
 -- "reaction parameters have the name's types"
-unfoldable pub sameTypes : List ℕ → Range → Range → Bool
-sameTypes s g h = eqb g.count h.count and all_below g.count (λ j. eqb (type_at s (g.first + j)) (type_at s (h.first + j)))
+unfoldable pub same_types : List ℕ → Range → Range → Bool
+same_types s g h = eqb g.count h.count and all_below g.count (λ j. eqb (type_at s (g.first + j)) (type_at s (h.first + j)))
 
 -- "external .. reactions use external names, internal reactions internal ones"
-unfoldable pub reactionStatic : List ℕ → Record → Bool
-reactionStatic s b = hasClass s (reactionName b) (elim (eqb (role b) externalReaction) [ true ↦ external | false ↦ internal ]) and sameTypes s (bodyParameters b) (nameRange s (reactionName b))
+unfoldable pub reaction_static : List ℕ → Record → Bool
+reaction_static s b = has_class s (reaction_name b) (elim (eqb (role b) external_reaction) [ true ↦ external | false ↦ internal ]) and same_types s (body_parameters b) (name_range s (reaction_name b))
 
 -- "one initial and one panic body, both without parameters"
-unfoldable pub roleStatic : List ℕ → Record → Bool
-roleStatic s b = elim (isReaction (role b)) [ true ↦ reactionStatic s b | false ↦ elim (leb (role b) panic) [ true ↦ eqb (bodyParameters b).count 0 | false ↦ true ] ]
+unfoldable pub role_static : List ℕ → Record → Bool
+role_static s b = elim (is_reaction (role b)) [ true ↦ reaction_static s b | false ↦ elim (leb (role b) panic) [ true ↦ eqb (body_parameters b).count 0 | false ↦ true ] ]
 
 -- "roots are statements"
-unfoldable pub bodyStatic : List ℕ → Record → Record → Bool
-bodyStatic s c b = plainData s (bodyParameters b) and plainData s (bodyLocals b) and roleStatic s b and isStatement (type_of s c b (root b))
+unfoldable pub body_static : List ℕ → Record → Record → Bool
+body_static s c b = plain_data s (body_parameters b) and plain_data s (body_locals b) and role_static s b and is_statement (type_of s c b (root b))
 
 -- ---- charts
 
 -- the body numbered j in chart c
 abbrev pub body_of : List ℕ → Record → ℕ → Found
-body_of s c j = recordOf s bodies ((chartBodies c).first + j)
+body_of s c j = record_of s bodies ((chart_bodies c).first + j)
 
-unfoldable pub hasRole : List ℕ → ℕ → ℕ → Bool
-hasRole s i k = holds (recordOf s bodies i) (λ b. eqb (role b) k)
+unfoldable pub has_role : List ℕ → ℕ → ℕ → Bool
+has_role s i k = holds (record_of s bodies i) (λ b. eqb (role b) k)
 
-unfoldable pub bodiesWith : List ℕ → Record → ℕ → ℕ
-bodiesWith s c k = countBelow (chartBodies c).count (λ j. hasRole s ((chartBodies c).first + j) k)
+unfoldable pub bodies_with : List ℕ → Record → ℕ → ℕ
+bodies_with s c k = count_below (chart_bodies c).count (λ j. has_role s ((chart_bodies c).first + j) k)
 
 -- "no chart has two external reactions with equal port and name, or two internal ones with equal name" (whose port field is 0)
-unfoldable pub sameReaction : Record → Record → Bool
-sameReaction a b = isReaction (role a) and eqb (role a) (role b) and eqb (reactionPort a) (reactionPort b) and eqb (reactionName a) (reactionName b)
+unfoldable pub same_reaction : Record → Record → Bool
+same_reaction a b = is_reaction (role a) and eqb (role a) (role b) and eqb (reaction_port a) (reaction_port b) and eqb (reaction_name a) (reaction_name b)
 
 -- body b, numbered j in chart c, reacts to nothing that an earlier body reacts to
-unfoldable pub noTwin : List ℕ → Record → ℕ → Record → Bool
-noTwin s c j b = all_below j (λ i. holds (body_of s c i) (λ a. not (sameReaction a b)))
+unfoldable pub no_twin : List ℕ → Record → ℕ → Record → Bool
+no_twin s c j b = all_below j (λ i. holds (body_of s c i) (λ a. not (same_reaction a b)))
 
-unfoldable pub bodiesStatic : List ℕ → Record → Bool
-bodiesStatic s c = all_below (chartBodies c).count (λ j. holds (body_of s c j) (λ b. noTwin s c j b and bodyStatic s c b))
+unfoldable pub bodies_static : List ℕ → Record → Bool
+bodies_static s c = all_below (chart_bodies c).count (λ j. holds (body_of s c j) (λ b. no_twin s c j b and body_static s c b))
 
-unfoldable pub chartStatic : List ℕ → Record → Bool
-chartStatic s c =
-    plainData s (chartParameters c)
-    and eqb (bodiesWith s c initial) 1
-    and eqb (bodiesWith s c panic) 1
-    and bodiesStatic s c
+unfoldable pub chart_static : List ℕ → Record → Bool
+chart_static s c =
+    plain_data s (chart_parameters c)
+    and eqb (bodies_with s c initial) 1
+    and eqb (bodies_with s c panic) 1
+    and bodies_static s c
 
 -- ---- bindings: "binding constants their parameters'" types
 
-unfoldable pub constantStatic : List ℕ → ℕ → ℕ → Bool
-constantStatic s n t = holds (recordOf s nodes n) (λ r. eqb (literalType r) t)
+unfoldable pub constant_static : List ℕ → ℕ → ℕ → Bool
+constant_static s n t = holds (record_of s nodes n) (λ r. eqb (literal_type r) t)
 
 -- of the element bound to chart c whose first record is k
-unfoldable pub constantsStatic : List ℕ → ℕ → Record → Bool
-constantsStatic s k c = all_below (chartParameters c).count (λ j. holds (constantBinding s k j) (λ b. constantStatic s (constant_of b j) (type_at s ((chartParameters c).first + j))))
+unfoldable pub constants_static : List ℕ → ℕ → Record → Bool
+constants_static s k c = all_below (chart_parameters c).count (λ j. holds (constant_binding s k j) (λ b. constant_static s (constant_of b j) (type_at s ((chart_parameters c).first + j))))
 
-unfoldable pub bindingStatic : List ℕ → ℕ → Bool
-bindingStatic s k = holds (chartBound s k) (constantsStatic s k)
+unfoldable pub binding_static : List ℕ → ℕ → Bool
+binding_static s k = holds (chart_bound s k) (constants_static s k)
 
-unfoldable pub bindingsStatic : List ℕ → Bool
-bindingsStatic s = all_below (elementsBoundIn s) (λ i. bindingStatic s (firstBinding s i))
+unfoldable pub bindings_static : List ℕ → Bool
+bindings_static s = all_below (elements_bound_in s) (λ i. binding_static s (first_binding s i))
 
 -- ---- every declaration, name and chart, and every element's binding
 
-abbrev pub staticTable : List ℕ → Record → List (Line Bool)
-staticTable s r =
-    up_to enumeratedTypes true
-    ∷ up_to declarations (declarationStatic s r)
-    ∷ up_to names (nameStatic s r)
-    ∷ up_to charts (chartStatic s r)
+abbrev pub static_table : List ℕ → Record → List (Line Bool)
+static_table s r =
+    up_to enumerated_types true
+    ∷ up_to declarations (declaration_static s r)
+    ∷ up_to names (name_static s r)
+    ∷ up_to charts (chart_static s r)
     ∷ []
 
 -- a record of section k
-unfoldable pub recordStatic : List ℕ → ℕ → Record → Bool
-recordStatic s k r = lookUp (staticTable s r) true k
+unfoldable pub record_static : List ℕ → ℕ → Record → Bool
+record_static s k r = look_up (static_table s r) true k
 
-unfoldable pub eachStatic : List ℕ → ℕ → Bool
-eachStatic s k = all_below (count_of s k) (λ i. holds (recordOf s k i) (recordStatic s k))
+unfoldable pub each_static : List ℕ → ℕ → Bool
+each_static s k = all_below (count_of s k) (λ i. holds (record_of s k i) (record_static s k))
 
-unfoldable pub sectionStatic : List ℕ → ℕ → Bool
-sectionStatic s k = elim (eqb k bindings) [ true ↦ bindingsStatic s | false ↦ eachStatic s k ]
+unfoldable pub section_static : List ℕ → ℕ → Bool
+section_static s k = elim (eqb k bindings) [ true ↦ bindings_static s | false ↦ each_static s k ]
 
 unfoldable pub static : List ℕ → Bool
-static s = all_below 8 (sectionStatic s)
+static s = all_below 8 (section_static s)

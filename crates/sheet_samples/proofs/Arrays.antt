@@ -30,39 +30,39 @@ over-port : check (indexing [] (rec3 0 3 0) (rec3 5 1 0) (rec3 1 1 0)) ≡ 0
 unfolding check indexing
 over-port = refl
 
-over-members : check (indexing (rec3 2 0 0) (rec3 0 8 0) (rec3 3 0 1) (rec3 1 1 0)) ≡ 0
+over_members : check (indexing (rec3 2 0 0) (rec3 0 8 0) (rec3 3 0 1) (rec3 1 1 0)) ≡ 0
 unfolding check indexing
-over-members = refl
+over_members = refl
 
 over-number : check (indexing [] (rec3 0 60064 0) (rec3 2 64 0) (rec3 1 1 0)) ≡ 0
 unfolding check indexing
 over-number = refl
 
 -- "Another f1 is 1": a type that is not there, the numbers 0 and 65
-no-such-type : check (indexing [] (rec3 0 8 0) (rec3 3 0 0) (rec3 1 1 0)) ≡ 1
+no_such_type : check (indexing [] (rec3 0 8 0) (rec3 3 0 0) (rec3 1 1 0)) ≡ 1
 unfolding check indexing
-no-such-type = refl
+no_such_type = refl
 
-number-zero : check (indexing [] (rec3 0 60000 0) (rec3 2 0 0) (rec3 1 1 0)) ≡ 1
+number_zero : check (indexing [] (rec3 0 60000 0) (rec3 2 0 0) (rec3 1 1 0)) ≡ 1
 unfolding check indexing
-number-zero = refl
+number_zero = refl
 
-number-65 : check (indexing [] (rec3 0 60065 0) (rec3 2 0 0) (rec3 1 1 0)) ≡ 1
+number_65 : check (indexing [] (rec3 0 60065 0) (rec3 2 0 0) (rec3 1 1 0)) ≡ 1
 unfolding check indexing
-number-65 = refl
+number_65 = refl
 
 -- an index of another type; a plain variable; an array of clocks, in no range
-another-type : check (indexing [] (rec3 0 2 0) (rec3 5 1 0) (rec3 1 1 0)) ≡ 2
+another_type : check (indexing [] (rec3 0 2 0) (rec3 5 1 0) (rec3 1 1 0)) ≡ 2
 unfolding check indexing
-another-type = refl
+another_type = refl
 
 plain-variable : check (indexing [] (rec3 0 0 0) (rec3 1 1 0) (rec3 1 1 0)) ≡ 2
 unfolding check indexing
 plain-variable = refl
 
-array-of-clocks : check (indexing [] (rec3 0 2 0 ++ rec3 4 2 0) (rec3 4 2 0) (rec3 1 1 0)) ≡ 2
+array_of_clocks : check (indexing [] (rec3 0 2 0 ++ rec3 4 2 0) (rec3 4 2 0) (rec3 1 1 0)) ≡ 2
 unfolding check indexing
-array-of-clocks = refl
+array_of_clocks = refl
 
 -- "the 512 counts cells": eight arrays of 64 Ints, and a plain variable more
 arrays : ℕ → List ℕ
@@ -81,10 +81,10 @@ many variables declarations =
     ∷ rec3 0 0 0
     ∷ []
 
-cells-512 : check (many 8 (arrays 8)) ≡ 0
+cells_512 : check (many 8 (arrays 8)) ≡ 0
 unfolding check many arrays
-cells-512 = refl
+cells_512 = refl
 
-cells-513 : check (many 9 (arrays 8 ++ rec3 1 0 0)) ≡ 1
+cells_513 : check (many 9 (arrays 8 ++ rec3 1 0 0)) ≡ 1
 unfolding check many arrays
-cells-513 = refl
+cells_513 = refl

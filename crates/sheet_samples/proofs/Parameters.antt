@@ -2,8 +2,8 @@
 use Prim.Native.Nat.{ℕ, zero, suc}
 use mathlib.Core.List.{List, [], ◌∷◌, ◌++◌}
 use mathlib.Core.Path.{◌≡◌, refl}
-use Rattle.sheet_rules.specs.Bindings.{firstBinding}
-use Rattle.sheet_rules.proofs.Samples.{sheetOf, rec3, rec6, body, check}
+use Rattle.sheet_rules.specs.Bindings.{first_binding}
+use Rattle.sheet_rules.proofs.Samples.{sheet_of, rec3, rec6, body, check}
 
 -- n records alike
 times : ℕ → List ℕ → List ℕ
@@ -47,27 +47,27 @@ unfolding check sheet binding
 fourteen = refl
 
 -- "up to 14 parameters", in a chart that nothing binds too
-fourteen-unbound : check (sheet 0 14 0 []) ≡ 0
+fourteen_unbound : check (sheet 0 14 0 []) ≡ 0
 unfolding check sheet
-fourteen-unbound = refl
+fourteen_unbound = refl
 
-fifteen-unbound : check (sheet 0 15 0 []) ≡ 1
+fifteen_unbound : check (sheet 0 15 0 []) ≡ 1
 unfolding check sheet
-fifteen-unbound = refl
+fifteen_unbound = refl
 
 -- two elements: the second one's records stand behind both of the first
-two-elements : check (sheet 2 8 16 (binding 0 7 2 0 ++ binding 65535 1 9 6 ++ binding 0 7 10 0 ++ binding 65535 1 17 6)) ≡ 0
+two_elements : check (sheet 2 8 16 (binding 0 7 2 0 ++ binding 65535 1 9 6 ++ binding 0 7 10 0 ++ binding 65535 1 17 6)) ≡ 0
 unfolding check sheet binding
-two-elements = refl
+two_elements = refl
 
-behind-two : firstBinding (sheetOf (sheet 2 8 16 (binding 0 7 2 0 ++ binding 65535 1 9 6 ++ binding 0 7 10 0 ++ binding 65535 1 17 6))) 1 ≡ 2
+behind_two : first_binding (sheet_of (sheet 2 8 16 (binding 0 7 2 0 ++ binding 65535 1 9 6 ++ binding 0 7 10 0 ++ binding 65535 1 17 6))) 1 ≡ 2
 unfolding check sheet binding
-behind-two = refl
+behind_two = refl
 
 -- "as many records as its charts need": one less, between others and at the end, and one more where none is needed
-none-second : check (sheet 2 8 15 (binding 0 7 2 0 ++ binding 0 7 9 0 ++ binding 65535 1 16 6)) ≡ 1
+none_second : check (sheet 2 8 15 (binding 0 7 2 0 ++ binding 0 7 9 0 ++ binding 65535 1 16 6)) ≡ 1
 unfolding check sheet binding
-none-second = refl
+none_second = refl
 
 none_last : check (sheet 1 8 7 (binding 0 7 2 0)) ≡ 1
 unfolding check sheet binding
@@ -83,6 +83,6 @@ unfolding check sheet binding
 unmarked = refl
 
 -- an unused field of it
-unused-second : check (sheet 1 8 8 (binding 0 7 2 0 ++ binding 65535 1 9 5 ++ (1 ∷ []))) ≡ 1
+unused_second : check (sheet 1 8 8 (binding 0 7 2 0 ++ binding 65535 1 9 5 ++ (1 ∷ []))) ≡ 1
 unfolding check sheet binding
-unused-second = refl
+unused_second = refl

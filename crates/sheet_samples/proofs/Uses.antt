@@ -3,15 +3,15 @@ use Prim.Native.Nat.{ℕ, zero, suc}
 use mathlib.Core.List.{List, [], ◌∷◌, ◌++◌}
 use mathlib.Core.Path.{◌≡◌, refl}
 use mathlib.Core.Bool.{true, false}
-use Rattle.sheet_rules.specs.Uses.{usesOf, mark_of, callsInOneBody, goneOver}
-use Rattle.sheet_rules.specs.Check.{otherwiseInShape}
-use Rattle.sheet_rules.proofs.Samples.{sheetOf, rec3, rec6, body, check}
+use Rattle.sheet_rules.specs.Uses.{uses_of, mark_of, calls_in_one_body, gone_over}
+use Rattle.sheet_rules.specs.Check.{otherwise_in_shape}
+use Rattle.sheet_rules.proofs.Samples.{sheet_of, rec3, rec6, body, check}
 
 -- the marks of the first n nodes
 marks : ℕ → List (List ℕ) → List ℕ
 unfolding check
 marks zero ss = []
-marks (suc n) ss = marks n ss ++ (mark_of (usesOf (sheetOf ss) n) ∷ [])
+marks (suc n) ss = marks n ss ++ (mark_of (uses_of (sheet_of ss) n) ∷ [])
 
 -- ---- a node that hangs in a body and below a node that nothing uses
 
@@ -29,27 +29,27 @@ hanging =
     ∷ rec3 1 0 0
     ∷ []
 
-hanging-otherwise : otherwiseInShape (sheetOf hanging) ≡ true
+hanging_otherwise : otherwise_in_shape (sheet_of hanging) ≡ true
 unfolding check hanging
-hanging-otherwise = refl
+hanging_otherwise = refl
 
-hanging-calls : callsInOneBody (sheetOf hanging) ≡ true
+hanging_calls : calls_in_one_body (sheet_of hanging) ≡ true
 unfolding check hanging
-hanging-calls = refl
+hanging_calls = refl
 
 -- the call's operand is used once, by the chart of the body that the call lies in
-hanging-marks : marks 7 hanging ≡ 1 ∷ 2 ∷ 2 ∷ 1 ∷ 0 ∷ 1 ∷ 1 ∷ []
+hanging_marks : marks 7 hanging ≡ 1 ∷ 2 ∷ 2 ∷ 1 ∷ 0 ∷ 1 ∷ 1 ∷ []
 unfolding check hanging marks
-hanging-marks = refl
+hanging_marks = refl
 
 -- three bodies, seven nodes, one binding
-hanging-gone : goneOver (sheetOf hanging) ≡ 11
+hanging_gone : gone_over (sheet_of hanging) ≡ 11
 unfolding check hanging
-hanging-gone = refl
+hanging_gone = refl
 
-hanging-check : check hanging ≡ 1
+hanging_check : check hanging ≡ 1
 unfolding check hanging
-hanging-check = refl
+hanging_check = refl
 
 -- ---- a constant of two parameters, and a node of three uses
 
@@ -67,13 +67,13 @@ shared second =
     ∷ rec3 0 0 second
     ∷ []
 
-shared-marks : marks 4 (shared 0) ≡ 2 ∷ 2 ∷ 1 ∷ 0 ∷ []
+shared_marks : marks 4 (shared 0) ≡ 2 ∷ 2 ∷ 1 ∷ 0 ∷ []
 unfolding check shared marks
-shared-marks = refl
+shared_marks = refl
 
-shared-other : marks 4 (shared 3) ≡ 1 ∷ 2 ∷ 1 ∷ 1 ∷ []
+shared_other : marks 4 (shared 3) ≡ 1 ∷ 2 ∷ 1 ∷ 1 ∷ []
 unfolding check shared marks
-shared-other = refl
+shared_other = refl
 
 -- ---- a call in bodies of two charts
 
@@ -91,6 +91,6 @@ doubled =
     ∷ rec3 0 0 0
     ∷ []
 
-doubled-calls : callsInOneBody (sheetOf doubled) ≡ false
+doubled_calls : calls_in_one_body (sheet_of doubled) ≡ false
 unfolding check doubled
-doubled-calls = refl
+doubled_calls = refl

@@ -3,128 +3,128 @@
 use Rattle.std.specs.Prelude.{ℕ, ◌+◌, List, [], ◌∷◌, Bool, true, false, leb, eqb}
 use Rattle.sheet.specs.declared.Record.{Record}
 use Rattle.sheet.specs.All.{◌and◌, all_below}
-use Rattle.sheet.specs.Table.{Line, up_to, lookUp}
-use Rattle.sheet.specs.Names.{head, enumeratedTypes, declarations, names, charts, bodies, nodes, bindings, chartParameters, chartVariables, chartBodies, boundChart}
-use Rattle.sheet.specs.Sheet.{count_of, directoryRight, recordOf}
+use Rattle.sheet.specs.Table.{Line, up_to, look_up}
+use Rattle.sheet.specs.Names.{head, enumerated_types, declarations, names, charts, bodies, nodes, bindings, chart_parameters, chart_variables, chart_bodies, bound_chart}
+use Rattle.sheet.specs.Sheet.{count_of, directory_right, record_of}
 use Rattle.sheet_rules.specs.declared.Checked.{Checked}
 use Rattle.sheet_rules.specs.declared.Checked.TheVariants.{Passed, Shape, Static}
-use Rattle.sheet_rules.specs.Fields.{field_of, zeroFrom, holds, numberOr0, sumBelow, countBelow, componentsOf, externalsOf, elementsOf, type_at, inSection}
-use Rattle.sheet_rules.specs.Indices.{cellsBefore}
-use Rattle.sheet_rules.specs.Shape.{headShape, enumeratedShape, declarationShape, nameShape, bodiesUpTo, bodiesCovered, bodyShape, constantShape}
-use Rattle.sheet_rules.specs.Uses.{overCharts, home_of, homeChart, operandUses, rootUses}
-use Rattle.sheet_rules.specs.Static.{declarationStatic, nameStatic, chartStatic, constantStatic}
-use Rattle.sheet_rules.specs.Check.{nodesShape}
+use Rattle.sheet_rules.specs.Fields.{field_of, zero_from, holds, number_or0, sum_below, count_below, components_of, externals_of, elements_of, type_at, in_section}
+use Rattle.sheet_rules.specs.Indices.{cells_before}
+use Rattle.sheet_rules.specs.Shape.{head_shape, enumerated_shape, declaration_shape, name_shape, bodies_up_to, bodies_covered, body_shape, constant_shape}
+use Rattle.sheet_rules.specs.Uses.{over_charts, home_of, home_chart, operand_uses, root_uses}
+use Rattle.sheet_rules.specs.Static.{declaration_static, name_static, chart_static, constant_static}
+use Rattle.sheet_rules.specs.Check.{nodes_shape}
 
 -- ---- shape
 
-unfoldable pub chartShape : List ℕ → ℕ → Record → Bool
-chartShape s k r =
-    inSection s declarations (chartParameters r)
-    and leb (chartParameters r).count 7
-    and inSection s declarations (chartVariables r)
-    and leb (chartVariables r).count 32
-    and eqb (chartBodies r).first (bodiesUpTo s k)
-    and zeroFrom 6 r
+unfoldable pub chart_shape : List ℕ → ℕ → Record → Bool
+chart_shape s k r =
+    in_section s declarations (chart_parameters r)
+    and leb (chart_parameters r).count 7
+    and in_section s declarations (chart_variables r)
+    and leb (chart_variables r).count 32
+    and eqb (chart_bodies r).first (bodies_up_to s k)
+    and zero_from 6 r
 
 -- the constant for parameter j in a binding record
 abbrev pub constant_of : Record → ℕ → ℕ
 constant_of b j = field_of b (1 + j)
 
-unfoldable pub constantsShape : List ℕ → Record → Record → Bool
-constantsShape s r c = all_below (chartParameters c).count (λ j. constantShape s (constant_of r j)) and zeroFrom (1 + (chartParameters c).count) r
+unfoldable pub constants_shape : List ℕ → Record → Record → Bool
+constants_shape s r c = all_below (chart_parameters c).count (λ j. constant_shape s (constant_of r j)) and zero_from (1 + (chart_parameters c).count) r
 
-unfoldable pub bindingShape : List ℕ → Record → Bool
-bindingShape s r = holds (recordOf s charts (boundChart r)) (constantsShape s r)
+unfoldable pub binding_shape : List ℕ → Record → Bool
+binding_shape s r = holds (record_of s charts (bound_chart r)) (constants_shape s r)
 
-unfoldable pub elementsBound : List ℕ → Bool
-elementsBound s = eqb (externalsOf s + count_of s bindings) (componentsOf s)
+unfoldable pub elements_bound : List ℕ → Bool
+elements_bound s = eqb (externals_of s + count_of s bindings) (components_of s)
 
-unfoldable pub cellsBound : List ℕ → ℕ → ℕ
-cellsBound s i = numberOr0 (recordOf s bindings i) (λ b. numberOr0 (recordOf s charts (boundChart b)) (λ c. cellsBefore s c (chartVariables c).count))
+unfoldable pub cells_bound : List ℕ → ℕ → ℕ
+cells_bound s i = number_or0 (record_of s bindings i) (λ b. number_or0 (record_of s charts (bound_chart b)) (λ c. cells_before s c (chart_variables c).count))
 
 unfoldable pub cells_of : List ℕ → ℕ
-cells_of s = sumBelow (elementsOf s) (cellsBound s)
+cells_of s = sum_below (elements_of s) (cells_bound s)
 
-abbrev pub shapeTable : List ℕ → ℕ → Record → List (Line Bool)
-shapeTable s i r =
-    up_to head (headShape r)
-    ∷ up_to enumeratedTypes (enumeratedShape r)
-    ∷ up_to declarations (declarationShape s r)
-    ∷ up_to names (nameShape s r)
-    ∷ up_to charts (chartShape s i r)
-    ∷ up_to bodies (bodyShape s r)
+abbrev pub shape_table : List ℕ → ℕ → Record → List (Line Bool)
+shape_table s i r =
+    up_to head (head_shape r)
+    ∷ up_to enumerated_types (enumerated_shape r)
+    ∷ up_to declarations (declaration_shape s r)
+    ∷ up_to names (name_shape s r)
+    ∷ up_to charts (chart_shape s i r)
+    ∷ up_to bodies (body_shape s r)
     ∷ up_to nodes true
-    ∷ up_to bindings (bindingShape s r)
+    ∷ up_to bindings (binding_shape s r)
     ∷ []
 
-unfoldable pub recordShape : List ℕ → ℕ → ℕ → Record → Bool
-recordShape s k i r = lookUp (shapeTable s i r) true k
+unfoldable pub record_shape : List ℕ → ℕ → ℕ → Record → Bool
+record_shape s k i r = look_up (shape_table s i r) true k
 
-unfoldable pub sectionShape : List ℕ → ℕ → Bool
-sectionShape s k = all_below (count_of s k) (λ i. holds (recordOf s k i) (recordShape s k i))
+unfoldable pub section_shape : List ℕ → ℕ → Bool
+section_shape s k = all_below (count_of s k) (λ i. holds (record_of s k i) (record_shape s k i))
 
-unfoldable pub sectionsShape : List ℕ → Bool
-sectionsShape s = all_below 8 (sectionShape s)
+unfoldable pub sections_shape : List ℕ → Bool
+sections_shape s = all_below 8 (section_shape s)
 
-unfoldable pub shapeWith : Bool → List ℕ → Bool
-shapeWith once s =
-    directoryRight s
+unfoldable pub shape_with : Bool → List ℕ → Bool
+shape_with once s =
+    directory_right s
     and eqb (count_of s head) 1
-    and sectionsShape s
-    and bodiesCovered s
-    and elementsBound s
+    and sections_shape s
+    and bodies_covered s
+    and elements_bound s
     and leb (cells_of s) 512
     and once
-    and nodesShape s
+    and nodes_shape s
 
 -- ---- uses
 
-abbrev pub overBindings : List ℕ → (Record → ℕ) → ℕ
-overBindings s f = sumBelow (count_of s bindings) (λ i. numberOr0 (recordOf s bindings i) f)
+abbrev pub over_bindings : List ℕ → (Record → ℕ) → ℕ
+over_bindings s f = sum_below (count_of s bindings) (λ i. number_or0 (record_of s bindings i) f)
 
-unfoldable pub constantUses : List ℕ → ℕ → Record → ℕ
-constantUses s n b = numberOr0 (recordOf s charts (boundChart b)) (λ c. countBelow (chartParameters c).count (λ j. eqb (constant_of b j) n))
+unfoldable pub constant_uses : List ℕ → ℕ → Record → ℕ
+constant_uses s n b = number_or0 (record_of s charts (bound_chart b)) (λ c. count_below (chart_parameters c).count (λ j. eqb (constant_of b j) n))
 
-unfoldable pub usesOf : List ℕ → ℕ → ℕ
-usesOf s n =
-    overCharts s (rootUses s n)
-    + overBindings s (constantUses s n)
-    + sumBelow (count_of s nodes) (λ m. operandUses s (homeChart s (home_of s m)) m n)
+unfoldable pub uses_of : List ℕ → ℕ → ℕ
+uses_of s n =
+    over_charts s (root_uses s n)
+    + over_bindings s (constant_uses s n)
+    + sum_below (count_of s nodes) (λ m. operand_uses s (home_chart s (home_of s m)) m n)
 
-unfoldable pub usedOnce : List ℕ → Bool
-usedOnce s = all_below (count_of s nodes) (λ n. eqb (usesOf s n) 1)
+unfoldable pub used_once : List ℕ → Bool
+used_once s = all_below (count_of s nodes) (λ n. eqb (uses_of s n) 1)
 
 unfoldable pub shape : List ℕ → Bool
-shape s = shapeWith (usedOnce s) s
+shape s = shape_with (used_once s) s
 
 -- ---- static rules
 
-unfoldable pub constantsStatic : List ℕ → Record → Record → Bool
-constantsStatic s r c = all_below (chartParameters c).count (λ j. constantStatic s (constant_of r j) (type_at s ((chartParameters c).first + j)))
+unfoldable pub constants_static : List ℕ → Record → Record → Bool
+constants_static s r c = all_below (chart_parameters c).count (λ j. constant_static s (constant_of r j) (type_at s ((chart_parameters c).first + j)))
 
-unfoldable pub bindingStatic : List ℕ → Record → Bool
-bindingStatic s r = holds (recordOf s charts (boundChart r)) (constantsStatic s r)
+unfoldable pub binding_static : List ℕ → Record → Bool
+binding_static s r = holds (record_of s charts (bound_chart r)) (constants_static s r)
 
-abbrev pub staticTable : List ℕ → Record → List (Line Bool)
-staticTable s r =
-    up_to enumeratedTypes true
-    ∷ up_to declarations (declarationStatic s r)
-    ∷ up_to names (nameStatic s r)
-    ∷ up_to charts (chartStatic s r)
+abbrev pub static_table : List ℕ → Record → List (Line Bool)
+static_table s r =
+    up_to enumerated_types true
+    ∷ up_to declarations (declaration_static s r)
+    ∷ up_to names (name_static s r)
+    ∷ up_to charts (chart_static s r)
     ∷ up_to nodes true
-    ∷ up_to bindings (bindingStatic s r)
+    ∷ up_to bindings (binding_static s r)
     ∷ []
 
-unfoldable pub recordStatic : List ℕ → ℕ → Record → Bool
-recordStatic s k r = lookUp (staticTable s r) true k
+unfoldable pub record_static : List ℕ → ℕ → Record → Bool
+record_static s k r = look_up (static_table s r) true k
 
-unfoldable pub sectionStatic : List ℕ → ℕ → Bool
-sectionStatic s k = all_below (count_of s k) (λ i. holds (recordOf s k i) (recordStatic s k))
+unfoldable pub section_static : List ℕ → ℕ → Bool
+section_static s k = all_below (count_of s k) (λ i. holds (record_of s k i) (record_static s k))
 
 unfoldable pub static : List ℕ → Bool
-static s = all_below 8 (sectionStatic s)
+static s = all_below 8 (section_static s)
 
 -- ---- check
 
-unfoldable pub checkOf : List ℕ → Checked
-checkOf s = elim (shape s) [ true ↦ elim (static s) [ true ↦ Passed | false ↦ Static ] | false ↦ Shape ]
+unfoldable pub check_of : List ℕ → Checked
+check_of s = elim (shape s) [ true ↦ elim (static s) [ true ↦ Passed | false ↦ Static ] | false ↦ Shape ]

@@ -3,39 +3,39 @@ use Rattle.std.specs.Prelude.{ℕ, ◌≡◌, List, Bool, leb}
 use Rattle.sheet.specs.declared.Record.{Record}
 use Rattle.sheet.specs.declared.Found.TheVariants.{Present}
 use Rattle.sheet.specs.All.{all_below}
-use Rattle.sheet.specs.Names.{charts, bindings, chartParameters}
-use Rattle.sheet.specs.Sheet.{count_of, recordOf}
+use Rattle.sheet.specs.Names.{charts, bindings, chart_parameters}
+use Rattle.sheet.specs.Sheet.{count_of, record_of}
 use Rattle.sheet_rules.specs.Fields.{holds}
-use Rattle.sheet_rules.specs.Bindings.{firstBinding, elementsBoundIn}
-use Rattle.sheet_rules.specs.Shape.{chartShape, bindingShape, elementsBound, cellsBound, cells_of, sectionShape}
-use Rattle.sheet_rules.specs.Uses.{constantUses, usesOf, usedOnce}
-use Rattle.sheet_rules.specs.Static.{bindingStatic, sectionStatic, static}
-use Rattle.sheet_rules.specs.Check.{shapeWith, shape, checkOf}
+use Rattle.sheet_rules.specs.Bindings.{first_binding, elements_bound_in}
+use Rattle.sheet_rules.specs.Shape.{chart_shape, binding_shape, elements_bound, cells_bound, cells_of, section_shape}
+use Rattle.sheet_rules.specs.Uses.{constant_uses, uses_of, used_once}
+use Rattle.sheet_rules.specs.Static.{binding_static, section_static, static}
+use Rattle.sheet_rules.specs.Check.{shape_with, shape, check_of}
 use Rattle.sheet_seven.specs.Before as before
 
 -- a sheet none of whose charts has more than seven parameters
-unfoldable pub upToSeven : List ℕ → Bool
-upToSeven s = all_below (count_of s charts) (λ k. holds (recordOf s charts k) (λ c. leb (chartParameters c).count 7))
+unfoldable pub up_to_seven : List ℕ → Bool
+up_to_seven s = all_below (count_of s charts) (λ k. holds (record_of s charts k) (λ c. leb (chart_parameters c).count 7))
 
 -- each definition that changed gives what its text of before gives, over today's definitions of what did not change
 pub record SheetKept (s : List ℕ) : Type 0 where
   -- record i binds element i
-  pub first : (i : ℕ) → firstBinding s i ≡ i
-  pub elements : elementsBoundIn s ≡ count_of s bindings
+  pub first : (i : ℕ) → first_binding s i ≡ i
+  pub elements : elements_bound_in s ≡ count_of s bindings
   -- of a chart and of a binding that are there
-  pub chart : (k : ℕ) (c : Record) → recordOf s charts k ≡ Present c → chartShape s k c ≡ before.chartShape s k c
-  pub binding : (k : ℕ) (b : Record) → recordOf s bindings k ≡ Present b → bindingShape s k ≡ before.bindingShape s b
-  pub bindingRule : (k : ℕ) (b : Record) → recordOf s bindings k ≡ Present b → bindingStatic s k ≡ before.bindingStatic s b
-  pub constants : (n k : ℕ) (b : Record) → recordOf s bindings k ≡ Present b → constantUses s n k ≡ before.constantUses s n b
+  pub chart : (k : ℕ) (c : Record) → record_of s charts k ≡ Present c → chart_shape s k c ≡ before.chart_shape s k c
+  pub binding : (k : ℕ) (b : Record) → record_of s bindings k ≡ Present b → binding_shape s k ≡ before.binding_shape s b
+  pub binding_rule : (k : ℕ) (b : Record) → record_of s bindings k ≡ Present b → binding_static s k ≡ before.binding_static s b
+  pub constants : (n k : ℕ) (b : Record) → record_of s bindings k ≡ Present b → constant_uses s n k ≡ before.constant_uses s n b
   -- of the sheet: the sums, sections and lists of rules over these
-  pub bound : elementsBound s ≡ before.elementsBound s
-  pub cellsOfOne : (i : ℕ) → cellsBound s i ≡ before.cellsBound s i
+  pub bound : elements_bound s ≡ before.elements_bound s
+  pub cells_of_one : (i : ℕ) → cells_bound s i ≡ before.cells_bound s i
   pub cells : cells_of s ≡ before.cells_of s
-  pub section : (k : ℕ) → sectionShape s k ≡ before.sectionShape s k
-  pub rules : (k : ℕ) → sectionStatic s k ≡ before.sectionStatic s k
-  pub uses : (n : ℕ) → usesOf s n ≡ before.usesOf s n
-  pub once : usedOnce s ≡ before.usedOnce s
-  pub otherwise : (b : Bool) → shapeWith b s ≡ before.shapeWith b s
+  pub section : (k : ℕ) → section_shape s k ≡ before.section_shape s k
+  pub rules : (k : ℕ) → section_static s k ≡ before.section_static s k
+  pub uses : (n : ℕ) → uses_of s n ≡ before.uses_of s n
+  pub once : used_once s ≡ before.used_once s
+  pub otherwise : (b : Bool) → shape_with b s ≡ before.shape_with b s
   pub whole : shape s ≡ before.shape s
   pub ruled : static s ≡ before.static s
-  pub check : checkOf s ≡ before.checkOf s
+  pub check : check_of s ≡ before.check_of s

@@ -9,20 +9,20 @@ use lib.Dec.{leb}
 use borrow.Author.Tests.{lt-ltb, le-ltb}
 use Rattle.sheet.specs.declared.Record.{Record}
 use Rattle.sheet.specs.All.{all_below}
-use Rattle.sheet.specs.Sheet.{count_of, recordOf}
-use Rattle.sheet.proofs.All.{true-false, true-and, false-and, all-fails}
-use Rattle.sheet.proofs.Sheet.{count-limit, record-absent}
+use Rattle.sheet.specs.Sheet.{count_of, record_of}
+use Rattle.sheet.proofs.All.{true_false, true-and, false-and, all_fails_lem}
+use Rattle.sheet.proofs.Sheet.{count_limit, record_absent}
 use Rattle.sheet_rules.specs.Fields.{holds}
-use Rattle.sheet_rules.proofs.Fields.{holds-absent}
-use Rattle.sheet_rules.specs.Types.{reactsTo, hasClass, hasReaction}
+use Rattle.sheet_rules.proofs.Fields.{holds_absent}
+use Rattle.sheet_rules.specs.Types.{reacts_to, has_class, has_reaction}
 use Rattle.sheet_types.specs.Table.{tabled}
 
 -- a name of a class is there, so it has a place in a table
-pub class-small : (s : List ℕ) (n k : ℕ) → hasClass s n k ≡ true → n < 4096
-unfolding hasClass
+pub class-small : (s : List ℕ) (n k : ℕ) → has_class s n k ≡ true → n < 4096
+unfolding has_class
 class-small s n k h = elim (dec_lt n (count_of s 3)) [
-  | yes l ↦ omega (arith, count-limit s 3)
-  | no l ↦ absurd (true-false h (holds-absent _ _ (record-absent s 3 n (omega arith))))
+  | yes l ↦ omega (arith, count_limit s 3)
+  | no l ↦ absurd (true_false h (holds_absent _ _ (record_absent s 3 n (omega arith))))
 ]
 
 module _ (c : Record) (e : ℕ) where
@@ -35,13 +35,13 @@ module _ (c : Record) (e : ℕ) where
   after_first h = true-and _ _ (lt-ltb _ _ h)
 
 -- body j of a chart is no internal reaction to name n
-abbrev pub noReaction : List ℕ → ℕ → ℕ → ℕ → Bool
-noReaction s first n j = not (holds (recordOf s 5 (first + j)) (reactsTo n))
+abbrev pub no_reaction : List ℕ → ℕ → ℕ → ℕ → Bool
+no_reaction s first n j = not (holds (record_of s 5 (first + j)) (reacts_to n))
 
-pub reaction-found : (s : List ℕ) (c : Record) (n j : ℕ) → j < c.f5 → holds (recordOf s 5 (c.f4 + j)) (reactsTo n) ≡ true → true ≡ hasReaction s c n
-unfolding hasReaction
-reaction-found s c n j l h = sym (ap not (all-fails c.f5 (noReaction s c.f4 n) j l (ap not h)))
+pub reaction_found : (s : List ℕ) (c : Record) (n j : ℕ) → j < c.f5 → holds (record_of s 5 (c.f4 + j)) (reacts_to n) ≡ true → true ≡ has_reaction s c n
+unfolding has_reaction
+reaction_found s c n j l h = sym (ap not (all_fails_lem c.f5 (no_reaction s c.f4 n) j l (ap not h)))
 
-pub reaction-none : (s : List ℕ) (c : Record) (n : ℕ) → all_below c.f5 (noReaction s c.f4 n) ≡ true → false ≡ hasReaction s c n
-unfolding hasReaction
-reaction-none s c n h = sym (ap not h)
+pub reaction_none : (s : List ℕ) (c : Record) (n : ℕ) → all_below c.f5 (no_reaction s c.f4 n) ≡ true → false ≡ has_reaction s c n
+unfolding has_reaction
+reaction_none s c n h = sym (ap not h)

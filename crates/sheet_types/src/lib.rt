@@ -1,23 +1,23 @@
 // The types of declarations, variables and literals; classes and data of names; the body that a call names.
 ghost use Rattle.std.specs.Prelude.{◌≡◌, ◌+◌, ◌<◌};
-ghost use Rattle.sheet.specs.Names.{isClock};
-ghost use Rattle.sheet.specs.Sheet.{directoryOf};
+ghost use Rattle.sheet.specs.Names.{is_clock};
+ghost use Rattle.sheet.specs.Sheet.{directory_of};
 ghost use Rattle.sheet_rules.specs.Fields.{type_at};
-ghost use Rattle.sheet_rules.specs.Forms.{calledBody};
-ghost use Rattle.sheet_rules.specs.Types.{is_of, isStatement, literalType, variableAt, hasClass, nameRange, parametersOf};
+ghost use Rattle.sheet_rules.specs.Forms.{called_body};
+ghost use Rattle.sheet_rules.specs.Types.{is_of, is_statement, literal_type, variable_at, has_class, name_range, parameters_of};
 
 use sheet::{BODIES, DECLARATIONS, Directory, Found, NAMES, Range, Record};
 use sheet_rules::Typed;
 
 pub fn type_at(sheet: &[u8], directory: &Directory, d: usize) -> usize
-    requires { directory.now ≡ directoryOf sheet.now }
+    requires { directory.now ≡ directory_of sheet.now }
     ensures { result ≡ type_at sheet.now d }
 {
     sheet_fields::field_at(sheet, directory, DECLARATIONS, d, 0)
 }
 
 pub fn is_clock(t: usize) -> bool
-    ensures { result ≡ isClock t }
+    ensures { result ≡ is_clock t }
 {
     if t < 4 {
         return false;
@@ -36,7 +36,7 @@ pub fn is_of(x: Typed, t: usize) -> bool
 }
 
 pub fn is_statement(x: Typed) -> bool
-    ensures { result ≡ isStatement x }
+    ensures { result ≡ is_statement x }
 {
     match x {
         Typed::Expression(_) => false,
@@ -46,7 +46,7 @@ pub fn is_statement(x: Typed) -> bool
 }
 
 pub fn literal_type(r: Record) -> usize
-    ensures { result ≡ literalType r }
+    ensures { result ≡ literal_type r }
 {
     let op = r.f0;
     match op {
@@ -60,7 +60,7 @@ pub fn literal_type(r: Record) -> usize
 
 // The declaration of a variable: place 0 a chart parameter, 1 a chart variable, 2 of the body.
 pub fn variable_at(c: Record, b: Record, place: u16, n: u16) -> usize
-    ensures { result ≡ variableAt c b place n }
+    ensures { result ≡ variable_at c b place n }
 {
     match place {
         0 => c.f0 as usize + n as usize,
@@ -77,7 +77,7 @@ pub fn variable_at(c: Record, b: Record, place: u16, n: u16) -> usize
 
 // The type of variable n of chart c.
 pub fn chart_variable_type(sheet: &[u8], directory: &Directory, c: Record, n: u16) -> usize
-    requires { directory.now ≡ directoryOf sheet.now }
+    requires { directory.now ≡ directory_of sheet.now }
     ensures { result ≡ type_at sheet.now (c.f2 + n) }
 {
     type_at(sheet, directory, c.f2 as usize + n as usize)
@@ -85,8 +85,8 @@ pub fn chart_variable_type(sheet: &[u8], directory: &Directory, c: Record, n: u1
 
 // Whether name n is of a class.
 pub fn has_class(sheet: &[u8], directory: &Directory, n: usize, kind: u16) -> bool
-    requires { directory.now ≡ directoryOf sheet.now }
-    ensures { result ≡ hasClass sheet.now n kind }
+    requires { directory.now ≡ directory_of sheet.now }
+    ensures { result ≡ has_class sheet.now n kind }
 {
     let Found::Present(r) = sheet_reader::read(sheet, directory, NAMES, n) else {
         return false;
@@ -96,8 +96,8 @@ pub fn has_class(sheet: &[u8], directory: &Directory, n: usize, kind: u16) -> bo
 
 // The data of name n.
 pub fn name_range(sheet: &[u8], directory: &Directory, n: usize) -> Range
-    requires { directory.now ≡ directoryOf sheet.now }
-    ensures { (result ≡ nameRange sheet.now n) × (result.first < 65536) × (result.count < 65536) }
+    requires { directory.now ≡ directory_of sheet.now }
+    ensures { (result ≡ name_range sheet.now n) × (result.first < 65536) × (result.count < 65536) }
 {
     let Found::Present(r) = sheet_reader::read(sheet, directory, NAMES, n) else {
         return Range { first: 0, count: 0 };
@@ -110,8 +110,8 @@ pub fn name_range(sheet: &[u8], directory: &Directory, n: usize) -> Range
 
 // The body that a call in chart c names.
 pub fn called_body(sheet: &[u8], directory: &Directory, c: Record, r: Record) -> Found
-    requires { directory.now ≡ directoryOf sheet.now }
-    ensures { result ≡ calledBody sheet.now c r }
+    requires { directory.now ≡ directory_of sheet.now }
+    ensures { result ≡ called_body sheet.now c r }
 {
     if c.f5 <= r.f1 {
         return Found::Absent;
@@ -121,8 +121,8 @@ pub fn called_body(sheet: &[u8], directory: &Directory, c: Record, r: Record) ->
 
 // Its parameters.
 pub fn called_range(sheet: &[u8], directory: &Directory, c: Record, r: Record) -> Range
-    requires { directory.now ≡ directoryOf sheet.now }
-    ensures { (result ≡ parametersOf (calledBody sheet.now c r)) × (result.first < 65536) × (result.count < 65536) }
+    requires { directory.now ≡ directory_of sheet.now }
+    ensures { (result ≡ parameters_of (called_body sheet.now c r)) × (result.first < 65536) × (result.count < 65536) }
 {
     let Found::Present(b) = called_body(sheet, directory, c, r) else {
         return Range { first: 0, count: 0 };

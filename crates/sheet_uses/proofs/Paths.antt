@@ -12,107 +12,107 @@ use Rattle.sheet.specs.declared.Record.{Record}
 use Rattle.sheet.specs.declared.Found.{Found}
 use Rattle.sheet.specs.declared.Found.TheVariants.{Present, Absent}
 use Rattle.sheet.specs.All.{◌and◌}
-use Rattle.sheet.specs.Names.{charts, nodes, chartParameters, boundChart, operator, isLiteral}
-use Rattle.sheet.specs.Sheet.{count_of, recordOf}
-use Rattle.sheet.proofs.All.{and_first, and_second, true-and, false-and, and-false, all-at, all_true, true-false}
-use Rattle.sheet_rules.specs.Fields.{oneIf, holds, numberOr0, sumBelow, countBelow}
-use Rattle.sheet_rules.specs.Forms.{operands, operandsIn, operandsOf}
-use Rattle.sheet_rules.specs.Bindings.{chartBound, firstBinding, elementsBoundIn, constantBinding, constant_of}
-use Rattle.sheet_rules.specs.Shape.{literalShape, constantShape, constantsShape, recordsShape, bindingShape}
-use Rattle.sheet_rules.specs.Uses.{standsIn, overBindings, constantUses, usesOf, usedOnce}
-use Rattle.sheet_rules.specs.Check.{shapeWith, shape, otherwiseInShape}
+use Rattle.sheet.specs.Names.{charts, nodes, chart_parameters, bound_chart, operator, is_literal}
+use Rattle.sheet.specs.Sheet.{count_of, record_of}
+use Rattle.sheet.proofs.All.{and_first, and_second, true-and, false-and, and-false, all-at, all_true, true_false}
+use Rattle.sheet_rules.specs.Fields.{one_if, holds, number_or0, sum_below, count_below}
+use Rattle.sheet_rules.specs.Forms.{operands, operands_in, operands_of}
+use Rattle.sheet_rules.specs.Bindings.{chart_bound, first_binding, elements_bound_in, constant_binding, constant_of}
+use Rattle.sheet_rules.specs.Shape.{literal_shape, constant_shape, constants_shape, records_shape, binding_shape}
+use Rattle.sheet_rules.specs.Uses.{stands_in, over_bindings, constant_uses, uses_of, used_once}
+use Rattle.sheet_rules.specs.Check.{shape_with, shape, otherwise_in_shape}
 use Rattle.sheet_rules.proofs.Fields.{holds-present}
 use Rattle.sheet_rules.proofs.Bindings.{chart-bound}
-use Rattle.sheet_rules.proofs.Shape.{binding-shaped}
+use Rattle.sheet_rules.proofs.Shape.{binding_shaped}
 use Rattle.sheet_rules.proofs.Forms.{form-literal}
-use Rattle.sheet_uses.specs.Paths.{standsInBinding, pathsTo, onePath, SameSheets}
-use Rattle.sheet_rules.proofs.Sums.{sum_same, sum-some}
-use Rattle.sheet_uses.proofs.Trees.{leaf-uses, leaf-stands, higher-uses}
-use Rattle.sheet_uses.proofs.Homes.{inBodies, homeUses, agree-once, bodies-above}
+use Rattle.sheet_uses.specs.Paths.{stands_in_binding, paths_to, one_path, SameSheets}
+use Rattle.sheet_rules.proofs.Sums.{sum_same, sum_some}
+use Rattle.sheet_uses.proofs.Trees.{leaf_uses, leaf_stands, higher_uses}
+use Rattle.sheet_uses.proofs.Homes.{in_bodies, home_uses, agree_once, bodies_above}
 use Rattle.sheet_uses.proofs.Bodies.{sections}
 
-module _ (s : List ℕ) (ok : otherwiseInShape s ≡ true) where
+module _ (s : List ℕ) (ok : otherwise_in_shape s ≡ true) where
   -- ---- constants are literals, which have no operands
 
-  leaf : (c r : Record) → isLiteral (operator r) ≡ true → operandsOf s c r ≡ operands 1 0 0
-  unfolding operandsOf operandsIn isLiteral
-  leaf c r q = ap (operandsIn s c r) (form-literal (operator r) (leb-true _ _ (and_first _ _ q)) (leb-true _ _ (and_second _ _ q)))
+  leaf : (c r : Record) → is_literal (operator r) ≡ true → operands_of s c r ≡ operands 1 0 0
+  unfolding operands_of operands_in is_literal
+  leaf c r q = ap (operands_in s c r) (form-literal (operator r) (leb-true _ _ (and_first _ _ q)) (leb-true _ _ (and_second _ _ q)))
 
-  constant-leaf : (m : ℕ) → constantShape s m ≡ true → (r : Record) × (recordOf s nodes m ≡ Present r) × (isLiteral (operator r) ≡ true)
-  unfolding constantShape holds
-  constant-leaf m = go (recordOf s nodes m) refl
+  constant_leaf : (m : ℕ) → constant_shape s m ≡ true → (r : Record) × (record_of s nodes m ≡ Present r) × (is_literal (operator r) ≡ true)
+  unfolding constant_shape holds
+  constant_leaf m = go (record_of s nodes m) refl
     where
-      go : (f : Found) → recordOf s nodes m ≡ f → holds f (λ r. isLiteral (operator r) and literalShape s r) ≡ true → (r : Record) × (recordOf s nodes m ≡ Present r) × (isLiteral (operator r) ≡ true)
+      go : (f : Found) → record_of s nodes m ≡ f → holds f (λ r. is_literal (operator r) and literal_shape s r) ≡ true → (r : Record) × (record_of s nodes m ≡ Present r) × (is_literal (operator r) ≡ true)
       go (Present r) p q = (r, p, and_first _ _ q)
-      go Absent p q = absurd (true-false refl (sym q))
+      go Absent p q = absurd (true_false refl (sym q))
 
-  module _ (k : ℕ) (c : Record) (shaped : bindingShape s k ≡ true) (chart : chartBound s k ≡ Present c) where
-    constant-shaped : (j : ℕ) → j < (chartParameters c).count → (b : Record) → constantBinding s k j ≡ Present b → constantShape s (constant_of b j) ≡ true
-    unfolding bindingShape recordsShape constantsShape
-    constant-shaped j l b e = let x = chart-bound s k c chart in sym (holds-present _ b _ e) ∙ all-at (chartParameters c).count _ (and_first _ _ (sym (holds-present _ c (recordsShape s k x.0) x.2) ∙ sym (holds-present _ x.0 (λ r. holds (recordOf s charts (boundChart r)) (recordsShape s k r)) x.1) ∙ shaped)) j l
+  module _ (k : ℕ) (c : Record) (shaped : binding_shape s k ≡ true) (chart : chart_bound s k ≡ Present c) where
+    constant_shaped : (j : ℕ) → j < (chart_parameters c).count → (b : Record) → constant_binding s k j ≡ Present b → constant_shape s (constant_of b j) ≡ true
+    unfolding binding_shape records_shape constants_shape
+    constant_shaped j l b e = let x = chart-bound s k c chart in sym (holds-present _ b _ e) ∙ all-at (chart_parameters c).count _ (and_first _ _ (sym (holds-present _ c (records_shape s k x.0) x.2) ∙ sym (holds-present _ x.0 (λ r. holds (record_of s charts (bound_chart r)) (records_shape s k r)) x.1) ∙ shaped)) j l
 
   -- in one binding
-  same-constants : (n k : ℕ) → bindingShape s k ≡ true → standsInBinding s n k ≡ constantUses s n k
-  unfolding standsInBinding constantUses countBelow numberOr0 holds
-  same-constants n k shaped = go (chartBound s k) refl
+  same_constants : (n k : ℕ) → binding_shape s k ≡ true → stands_in_binding s n k ≡ constant_uses s n k
+  unfolding stands_in_binding constant_uses count_below number_or0 holds
+  same_constants n k shaped = go (chart_bound s k) refl
     where
-      one : (c : Record) → chartBound s k ≡ Present c → (j : ℕ) → j < (chartParameters c).count → (f : Found) → constantBinding s k j ≡ f → numberOr0 f (λ b. standsIn s c n (constant_of b j)) ≡ oneIf (holds f (λ b. eqb (constant_of b j) n))
-      one c p j l (Present b) e = let r = constant-leaf (constant_of b j) (constant-shaped k c shaped p j l b e) in leaf-stands s c n (constant_of b j) r.0 r.1 (leaf c r.0 r.2)
+      one : (c : Record) → chart_bound s k ≡ Present c → (j : ℕ) → j < (chart_parameters c).count → (f : Found) → constant_binding s k j ≡ f → number_or0 f (λ b. stands_in s c n (constant_of b j)) ≡ one_if (holds f (λ b. eqb (constant_of b j) n))
+      one c p j l (Present b) e = let r = constant_leaf (constant_of b j) (constant_shaped k c shaped p j l b e) in leaf_stands s c n (constant_of b j) r.0 r.1 (leaf c r.0 r.2)
       one c p j l Absent e = refl
 
-      go : (f : Found) → chartBound s k ≡ f → numberOr0 f (λ c. sumBelow (chartParameters c).count (λ j. numberOr0 (constantBinding s k j) (λ b. standsIn s c n (constant_of b j)))) ≡ numberOr0 f (λ c. sumBelow (chartParameters c).count (λ j. oneIf (holds (constantBinding s k j) (λ b. eqb (constant_of b j) n))))
-      go (Present c) p = sum_same _ _ _ (λ j l. one c p j l (constantBinding s k j) refl)
+      go : (f : Found) → chart_bound s k ≡ f → number_or0 f (λ c. sum_below (chart_parameters c).count (λ j. number_or0 (constant_binding s k j) (λ b. stands_in s c n (constant_of b j)))) ≡ number_or0 f (λ c. sum_below (chart_parameters c).count (λ j. one_if (holds (constant_binding s k j) (λ b. eqb (constant_of b j) n))))
+      go (Present c) p = sum_same _ _ _ (λ j l. one c p j l (constant_binding s k j) refl)
       go Absent p = refl
 
   -- a constant has no operands
-  constant-here : (m k : ℕ) → bindingShape s k ≡ true → 1 ≤ constantUses s m k → constantShape s m ≡ true
-  unfolding constantUses countBelow numberOr0 holds
-  constant-here m k shaped = go (chartBound s k) refl
+  constant_here : (m k : ℕ) → binding_shape s k ≡ true → 1 ≤ constant_uses s m k → constant_shape s m ≡ true
+  unfolding constant_uses count_below number_or0 holds
+  constant_here m k shaped = go (chart_bound s k) refl
     where
-      named : (x : ℕ) (t : Bool) → eqb x m ≡ t → 1 ≤ oneIf t → x ≡ m
+      named : (x : ℕ) (t : Bool) → eqb x m ≡ t → 1 ≤ one_if t → x ≡ m
       named x true e l = eqb-true x m e
       named x false e l = absurd (omega arith)
 
-      one : (c : Record) → chartBound s k ≡ Present c → (j : ℕ) → j < (chartParameters c).count → (f : Found) → constantBinding s k j ≡ f → 1 ≤ oneIf (holds f (λ b. eqb (constant_of b j) m)) → constantShape s m ≡ true
-      one c p j l (Present b) e h = rw (← named (constant_of b j) _ refl h) (constant-shaped k c shaped p j l b e)
+      one : (c : Record) → chart_bound s k ≡ Present c → (j : ℕ) → j < (chart_parameters c).count → (f : Found) → constant_binding s k j ≡ f → 1 ≤ one_if (holds f (λ b. eqb (constant_of b j) m)) → constant_shape s m ≡ true
+      one c p j l (Present b) e h = rw (← named (constant_of b j) _ refl h) (constant_shaped k c shaped p j l b e)
       one c p j l Absent e h = absurd (omega arith)
 
-      go : (f : Found) → chartBound s k ≡ f → 1 ≤ numberOr0 f (λ c. sumBelow (chartParameters c).count (λ j. oneIf (holds (constantBinding s k j) (λ b. eqb (constant_of b j) m)))) → constantShape s m ≡ true
-      go (Present c) p l = let j = sum-some (chartParameters c).count (λ j. oneIf (holds (constantBinding s k j) (λ b. eqb (constant_of b j) m))) l in one c p j.0 j.1 (constantBinding s k j.0) refl j.2
+      go : (f : Found) → chart_bound s k ≡ f → 1 ≤ number_or0 f (λ c. sum_below (chart_parameters c).count (λ j. one_if (holds (constant_binding s k j) (λ b. eqb (constant_of b j) m)))) → constant_shape s m ≡ true
+      go (Present c) p l = let j = sum_some (chart_parameters c).count (λ j. one_if (holds (constant_binding s k j) (λ b. eqb (constant_of b j) m))) l in one c p j.0 j.1 (constant_binding s k j.0) refl j.2
       go Absent p l = absurd (omega arith)
 
-  constants-same : (n : ℕ) → overBindings s (standsInBinding s n) ≡ overBindings s (constantUses s n)
-  constants-same n = sum_same _ _ _ (λ i l. same-constants n (firstBinding s i) (binding-shaped s (sections s ok) i l))
+  constants_same : (n : ℕ) → over_bindings s (stands_in_binding s n) ≡ over_bindings s (constant_uses s n)
+  constants_same n = sum_same _ _ _ (λ i l. same_constants n (first_binding s i) (binding_shaped s (sections s ok) i l))
 
-  no-uses : (m n : ℕ) → 1 ≤ overBindings s (constantUses s m) → homeUses s m n ≡ 0
-  no-uses m n h = let i = sum-some (elementsBoundIn s) (λ i. constantUses s m (firstBinding s i)) h in let r = constant-leaf m (constant-here m (firstBinding s i.0) (binding-shaped s (sections s ok) i.0 i.1) i.2) in leaf-uses s _ m n r.0 r.1 (leaf _ r.0 r.2)
+  no_uses : (m n : ℕ) → 1 ≤ over_bindings s (constant_uses s m) → home_uses s m n ≡ 0
+  no_uses m n h = let i = sum_some (elements_bound_in s) (λ i. constant_uses s m (first_binding s i)) h in let r = constant_leaf m (constant_here m (first_binding s i.0) (binding_shaped s (sections s ok) i.0 i.1) i.2) in leaf_uses s _ m n r.0 r.1 (leaf _ r.0 r.2)
 
   -- ---- where each node above has one path, the paths to a node are its uses
 
-  paths-are : (n : ℕ) → ((m : ℕ) → n < m → m < count_of s nodes → pathsTo s m ≡ 1) → pathsTo s n ≡ usesOf s n
-  unfolding pathsTo usesOf
-  paths-are n h = omega (arith, bodies-above s n (λ m l q. agree-once s m (omega (arith, h m l q))), constants-same n, sum_same (count_of s nodes) (λ m. inBodies s m * homeUses s m n) (λ m. homeUses s m n) term)
+  paths_are : (n : ℕ) → ((m : ℕ) → n < m → m < count_of s nodes → paths_to s m ≡ 1) → paths_to s n ≡ uses_of s n
+  unfolding paths_to uses_of
+  paths_are n h = omega (arith, bodies_above s n (λ m l q. agree_once s m (omega (arith, h m l q))), constants_same n, sum_same (count_of s nodes) (λ m. in_bodies s m * home_uses s m n) (λ m. home_uses s m n) term)
     where
-      weight : (m x : ℕ) → inBodies s m ≡ x → x + overBindings s (constantUses s m) ≡ 1 → x * homeUses s m n ≡ homeUses s m n
-      weight m zero e q = let z : homeUses s m n ≡ 0 = no-uses m n (omega arith) in ap (λ (y : ℕ). zero * y) z ∙ mul-zero zero ∙ sym z
+      weight : (m x : ℕ) → in_bodies s m ≡ x → x + over_bindings s (constant_uses s m) ≡ 1 → x * home_uses s m n ≡ home_uses s m n
+      weight m zero e q = let z : home_uses s m n ≡ 0 = no_uses m n (omega arith) in ap (λ (y : ℕ). zero * y) z ∙ mul-zero zero ∙ sym z
       weight m (suc zero) e q = one-mul _
       weight m (suc (suc x)) e q = absurd (omega arith)
 
-      term : (m : ℕ) → m < count_of s nodes → inBodies s m * homeUses s m n ≡ homeUses s m n
+      term : (m : ℕ) → m < count_of s nodes → in_bodies s m * home_uses s m n ≡ home_uses s m n
       term m l = elim (dec_lt n m) [
-        | yes q ↦ weight m (inBodies s m) refl (omega (arith, h m q l, constants-same m))
-        | no q ↦ (let z : homeUses s m n ≡ 0 = higher-uses s _ m n (omega arith) in ap (λ (y : ℕ). inBodies s m * y) z ∙ mul-zero _ ∙ sym z)
+        | yes q ↦ weight m (in_bodies s m) refl (omega (arith, h m q l, constants_same m))
+        | no q ↦ (let z : home_uses s m n ≡ 0 = higher_uses s _ m n (omega arith) in ap (λ (y : ℕ). in_bodies s m * y) z ∙ mul-zero _ ∙ sym z)
       ]
 
-  from-uses : ((n : ℕ) → n < count_of s nodes → usesOf s n ≡ 1) → (k n : ℕ) → count_of s nodes ≤ n + k → n < count_of s nodes → pathsTo s n ≡ 1
-  from-uses h zero n g l = absurd (omega arith)
-  from-uses h (suc k) n g l = paths-are n (λ m q r. from-uses h k m (omega arith) r) ∙ h n l
+  from_uses : ((n : ℕ) → n < count_of s nodes → uses_of s n ≡ 1) → (k n : ℕ) → count_of s nodes ≤ n + k → n < count_of s nodes → paths_to s n ≡ 1
+  from_uses h zero n g l = absurd (omega arith)
+  from_uses h (suc k) n g l = paths_are n (λ m q r. from_uses h k m (omega arith) r) ∙ h n l
 
-  same_once : onePath s ≡ usedOnce s
-  unfolding onePath usedOnce
+  same_once : one_path s ≡ used_once s
+  unfolding one_path used_once
   same_once = both_ways _ _
-      (λ h. all_true _ _ (λ n l. eq-eqb _ _ (sym (paths-are n (λ m q r. eqb-true _ _ (all-at _ _ h m r))) ∙ eqb-true _ _ (all-at _ _ h n l))))
-      (λ h. all_true _ _ (λ n l. eq-eqb _ _ (from-uses (λ m q. eqb-true _ _ (all-at _ _ h m q)) (count_of s nodes) n (omega arith) l)))
+      (λ h. all_true _ _ (λ n l. eq-eqb _ _ (sym (paths_are n (λ m q r. eqb-true _ _ (all-at _ _ h m r))) ∙ eqb-true _ _ (all-at _ _ h n l))))
+      (λ h. all_true _ _ (λ n l. eq-eqb _ _ (from_uses (λ m q. eqb-true _ _ (all-at _ _ h m q)) (count_of s nodes) n (omega arith) l)))
     where
       both_ways : (a b : Bool) → (a ≡ true → b ≡ true) → (b ≡ true → a ≡ true) → a ≡ b
       both_ways true b f g = sym (f refl)
@@ -121,15 +121,15 @@ module _ (s : List ℕ) (ok : otherwiseInShape s ≡ true) where
 
 -- ---- every sheet
 
-shape-parts : (s : List ℕ) (b : Bool) → shapeWith b s ≡ (b and otherwiseInShape s)
-unfolding shapeWith otherwiseInShape
-shape-parts s true = sym (true-and _ _ refl)
-shape-parts s false = and-false _ _ (and-false _ _ (and-false _ _ (and-false _ _ (and-false _ _ (and-false _ _ (false-and _ _ refl)))))) ∙ sym (false-and _ _ refl)
+shape_parts : (s : List ℕ) (b : Bool) → shape_with b s ≡ (b and otherwise_in_shape s)
+unfolding shape_with otherwise_in_shape
+shape_parts s true = sym (true-and _ _ refl)
+shape_parts s false = and-false _ _ (and-false _ _ (and-false _ _ (and-false _ _ (and-false _ _ (and-false _ _ (false-and _ _ refl)))))) ∙ sym (false-and _ _ refl)
 
-pub same-sheets : SameSheets
+pub same_sheets : SameSheets
 unfolding shape
-same-sheets s = go (otherwiseInShape s) refl
+same_sheets s = go (otherwise_in_shape s) refl
   where
-    go : (b : Bool) → otherwiseInShape s ≡ b → shapeWith (onePath s) s ≡ shapeWith (usedOnce s) s
-    go true e = ap (λ (x : Bool). shapeWith x s) (same_once s e)
-    go false e = shape-parts s (onePath s) ∙ and-false _ _ e ∙ sym (and-false _ _ e) ∙ sym (shape-parts s (usedOnce s))
+    go : (b : Bool) → otherwise_in_shape s ≡ b → shape_with (one_path s) s ≡ shape_with (used_once s) s
+    go true e = ap (λ (x : Bool). shape_with x s) (same_once s e)
+    go false e = shape_parts s (one_path s) ∙ and-false _ _ e ∙ sym (and-false _ _ e) ∙ sym (shape_parts s (used_once s))

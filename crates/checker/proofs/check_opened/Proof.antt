@@ -6,22 +6,22 @@ use borrow.Author.Tests.{not-true, not-false}
 use borrow.Author.Rules.{rules}
 use Rattle.sheet_rules.specs.declared.Checked.TheVariants.{Passed, Shape, Static}
 use Rattle.sheet_rules.specs.Static.{static}
-use Rattle.sheet_rules.specs.Check.{shape, checkOf, checkCall}
+use Rattle.sheet_rules.specs.Check.{shape, check_of, check_call}
 use Rattle.checker.proofs.check_opened.Statement.{statement}
 use Rattle.checker.proofs.check_opened.Tie as tie
 
 module _ (s : List ℕ) where
-  no-shape : shape s ≡ false → (Shape ≡ checkOf s) × (1 ≡ checkCall s)
-  unfolding checkOf checkCall
-  no-shape e = (rw (checkOf, e) refl, rw (checkCall, e) refl)
+  no-shape : shape s ≡ false → (Shape ≡ check_of s) × (1 ≡ check_call s)
+  unfolding check_of check_call
+  no-shape e = (rw (check_of, e) refl, rw (check_call, e) refl)
 
-  no_static : shape s ≡ true → static s ≡ false → (Static ≡ checkOf s) × (2 ≡ checkCall s)
-  unfolding checkOf checkCall
-  no_static e f = (rw (checkOf, e, f) refl, rw (checkCall, e, f) refl)
+  no_static : shape s ≡ true → static s ≡ false → (Static ≡ check_of s) × (2 ≡ check_call s)
+  unfolding check_of check_call
+  no_static e f = (rw (check_of, e, f) refl, rw (check_call, e, f) refl)
 
-  passes : shape s ≡ true → static s ≡ true → (Passed ≡ checkOf s) × (0 ≡ checkCall s)
-  unfolding checkOf checkCall
-  passes e f = (rw (checkOf, e, f) refl, rw (checkCall, e, f) refl)
+  passes : shape s ≡ true → static s ≡ true → (Passed ≡ check_of s) × (0 ≡ check_call s)
+  unfolding check_of check_call
+  passes e f = (rw (check_of, e, f) refl, rw (check_call, e, f) refl)
 
 shaped-requires : tie.Need-shaped-requires
 shaped-requires c κs = search rules

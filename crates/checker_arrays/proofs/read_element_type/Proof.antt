@@ -1,5 +1,5 @@
 use borrow.Author.Rules.{rules}
-use Rattle.checker_arrays.proofs.Laws.{no-element-read, element-read}
+use Rattle.checker_arrays.proofs.Laws.{no_element-read, element-read}
 use Rattle.checker_arrays.proofs.read_element_type.Statement.{statement}
 use Rattle.checker_arrays.proofs.read_element_type.Tie as tie
 
@@ -7,7 +7,7 @@ indexed-by-requires : tie.Need-indexed-by-requires
 indexed-by-requires c κs = search rules
 
 returns : tie.Need-returns
-returns c = no-element-read _ _ _ _ _ c.before.indexed-by.ensures c.if1.true
+returns c = no_element-read _ _ _ _ _ c.before.indexed-by.ensures c.if1.true
 
 chart-variable-type-requires : tie.Need-chart-variable-type-requires
 chart-variable-type-requires c κs = search rules

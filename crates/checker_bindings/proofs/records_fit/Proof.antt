@@ -4,8 +4,8 @@ use Prim.Native.Nat.{ℕ, ◌≤◌, ◌<◌}
 use lib.Dec.{leb}
 use borrow.Author.Tests.{not-true, not-false, le-leb, lt-leb}
 use borrow.Author.Rules.{rules}
-use Rattle.sheet.proofs.All.{first-fails, rest-fails, first_holds}
-use Rattle.sheet_rules.specs.Shape.{recordsShape}
+use Rattle.sheet.proofs.All.{first_fails_lem, rest_fails, first_holds}
+use Rattle.sheet_rules.specs.Shape.{records_shape}
 use Rattle.checker_bindings.proofs.records_fit.Statement.{statement}
 use Rattle.checker_bindings.proofs.records_fit.Tie as tie
 
@@ -20,8 +20,8 @@ constants-fit-requires : tie.Need-constants-fit-requires
 constants-fit-requires c κs = search rules
 
 returns : tie.Need-returns
-unfolding recordsShape
-returns c = first-fails _ _ (sym c.before.constants-fit.ensures ∙ not-true _ c.if1.true)
+unfolding records_shape
+returns c = first_fails_lem _ _ (sym c.before.constants-fit.ensures ∙ not-true _ c.if1.true)
 
 cast-count : tie.Need-overflow-cast-count
 cast-count c = search rules
@@ -33,11 +33,11 @@ zero-from-requires : tie.Need-zero-from-requires
 zero-from-requires c κs = search rules
 
 returns-2 : tie.Need-returns-2
-unfolding recordsShape
-returns-2 c = rest-fails _ _ (first-fails _ _ (sym c.before.zero-from.ensures ∙ not-true _ c.if2.true))
+unfolding records_shape
+returns-2 c = rest_fails _ _ (first_fails_lem _ _ (sym c.before.zero-from.ensures ∙ not-true _ c.if2.true))
 
 returns-3 : tie.Need-returns-3
-unfolding recordsShape
+unfolding records_shape
 returns-3 c = first_holds _ _ _ (sym c.before.before.before.before.before.constants-fit.ensures ∙ not-false _ c.before.before.before.before.if1.false) (first_holds _ _ _ (sym c.before.before.zero-from.ensures ∙ not-false _ c.before.if2.false) (one _ _ c.if3.true))
 
 add-second-fits : tie.Need-overflow-add-second-fits
@@ -50,7 +50,7 @@ second-fits-requires : tie.Need-second-fits-requires
 second-fits-requires c κs = (c.before.before.before.before.before.before.before.requires.0, search rules)
 
 returns-4 : tie.Need-returns-4
-unfolding recordsShape
+unfolding records_shape
 returns-4 c = first_holds _ _ _ (sym c.before.before.before.before.before.before.constants-fit.ensures ∙ not-false _ c.before.before.before.before.before.if1.false) (first_holds _ _ _ (sym c.before.before.before.zero-from.ensures ∙ not-false _ c.before.before.if2.false) (two _ _ _ c.before.if3.false c.second-fits.ensures))
 
 pub records-fit-spec : {M : Type 1} → statement M

@@ -2,40 +2,40 @@ use mathlib.Core.Path.{sym, ap, ◌∙◌}
 use borrow.Author.Tests.{le-leb, lt-leb, not-true, not-false}
 use borrow.Author.Rules.{rules}
 use lib.Dec.{ltb}
-use Rattle.sheet.proofs.Sheet.{count-opened}
-use Rattle.sheet.proofs.All.{first-fails, rest-fails, first_holds}
-use Rattle.sheet_rules.specs.Shape.{bodyShape}
+use Rattle.sheet.proofs.Sheet.{count_opened}
+use Rattle.sheet.proofs.All.{first_fails_lem, rest_fails, first_holds}
+use Rattle.sheet_rules.specs.Shape.{body_shape}
 use Rattle.checker_bodies.proofs.body_fits.Statement.{statement}
 use Rattle.checker_bodies.proofs.body_fits.Tie as tie
 
 returns : tie.Need-returns
-unfolding bodyShape
-returns c = first-fails _ _ (lt-leb _ _ c.if1.true)
+unfolding body_shape
+returns c = first_fails_lem _ _ (lt-leb _ _ c.if1.true)
 
 reaction-fits-requires : tie.Need-reaction-fits-requires
 reaction-fits-requires c κs = search rules
 
 returns-2 : tie.Need-returns-2
-unfolding bodyShape
-returns-2 c = rest-fails _ _ (first-fails _ _ (sym c.before.reaction-fits.ensures ∙ not-true _ c.if2.true))
+unfolding body_shape
+returns-2 c = rest_fails _ _ (first_fails_lem _ _ (sym c.before.reaction-fits.ensures ∙ not-true _ c.if2.true))
 
 in-section-requires : tie.Need-in-section-requires
 in-section-requires c κs = search rules
 
 returns-3 : tie.Need-returns-3
-unfolding bodyShape
-returns-3 c = rest-fails _ _ (rest-fails _ _ (first-fails _ _ (sym c.before.in-section.ensures ∙ not-true _ c.if3.true)))
+unfolding body_shape
+returns-3 c = rest_fails _ _ (rest_fails _ _ (first_fails_lem _ _ (sym c.before.in-section.ensures ∙ not-true _ c.if3.true)))
 
 returns-4 : tie.Need-returns-4
-unfolding bodyShape
-returns-4 c = rest-fails _ _ (rest-fails _ _ (rest-fails _ _ (first-fails _ _ (lt-leb _ _ c.if4.true))))
+unfolding body_shape
+returns-4 c = rest_fails _ _ (rest_fails _ _ (rest_fails _ _ (first_fails_lem _ _ (lt-leb _ _ c.if4.true))))
 
 in-section-requires-2 : tie.Need-in-section-requires-2
 in-section-requires-2 c κs = search rules
 
 returns-5 : tie.Need-returns-5
-unfolding bodyShape
-returns-5 c = rest-fails _ _ (rest-fails _ _ (rest-fails _ _ (rest-fails _ _ (first-fails _ _ (sym c.before.in-section2.ensures ∙ not-true _ c.if5.true)))))
+unfolding body_shape
+returns-5 c = rest_fails _ _ (rest_fails _ _ (rest_fails _ _ (rest_fails _ _ (first_fails_lem _ _ (sym c.before.in-section2.ensures ∙ not-true _ c.if5.true)))))
 
 cast-if6 : tie.Need-overflow-cast-if6
 cast-if6 c = search rules
@@ -47,8 +47,8 @@ add-if6 : tie.Need-overflow-add-if6
 add-if6 c = search rules
 
 returns-6 : tie.Need-returns-6
-unfolding bodyShape
-returns-6 c = rest-fails _ _ (rest-fails _ _ (rest-fails _ _ (rest-fails _ _ (rest-fails _ _ (first-fails _ _ (lt-leb _ _ c.if6.true))))))
+unfolding body_shape
+returns-6 c = rest_fails _ _ (rest_fails _ _ (rest_fails _ _ (rest_fails _ _ (rest_fails _ _ (first_fails_lem _ _ (lt-leb _ _ c.if6.true))))))
 
 cast-result : tie.Need-overflow-cast-result
 cast-result c = search rules
@@ -57,7 +57,7 @@ count-in-requires : tie.Need-count-in-requires
 count-in-requires c κs = search rules
 
 returns-7 : tie.Need-returns-7
-unfolding bodyShape
+unfolding body_shape
 returns-7 c =
     let at8 = c.before.before.before.before.before.before.before.before in
     let if5 = c.before.before.before.before.before.if5 in
@@ -76,7 +76,7 @@ returns-7 c =
     (first_holds _ _ _ reaction-fits-is
     (first_holds _ _ _ in-section-is
     (first_holds _ _ _ (le-leb _ _ if4.false)
-    (first_holds _ _ _ in-section2-is (first_holds _ _ _ (le-leb _ _ c.before.before.if6.false) (ap (ltb _) (count-opened _ _ _ c.count-in.ensures _ pre)))))))
+    (first_holds _ _ _ in-section2-is (first_holds _ _ _ (le-leb _ _ c.before.before.if6.false) (ap (ltb _) (count_opened _ _ _ c.count-in.ensures _ pre)))))))
 
 pub body-fits-spec : {M : Type 1} → statement M
 body-fits-spec =

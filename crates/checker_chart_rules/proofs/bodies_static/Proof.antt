@@ -6,19 +6,19 @@ use Prim.Native.Nat.{ℕ, ◌+◌, ◌-◌, ◌≤◌, ◌<◌}
 use borrow.Author.Tests.{not-true, not-false}
 use borrow.Author.Rules.{rules}
 use Rattle.sheet.specs.All.{◌and◌, all_below}
-use Rattle.sheet.proofs.All.{and-true, first-fails, rest-fails, all_more, loop-fails, loop-ends}
+use Rattle.sheet.proofs.All.{and-true, first_fails_lem, rest_fails, all_more, loop_fails, loop_ends}
 use Rattle.sheet.specs.declared.Record.{Record}
-use Rattle.sheet.specs.Sheet.{recordOf}
+use Rattle.sheet.specs.Sheet.{record_of}
 use Rattle.sheet_rules.specs.Fields.{holds}
-use Rattle.sheet_rules.proofs.Fields.{holds-present, holds-absent}
-use Rattle.sheet_rules.specs.Static.{noTwin, bodyStatic, bodiesStatic}
+use Rattle.sheet_rules.proofs.Fields.{holds-present, holds_absent}
+use Rattle.sheet_rules.specs.Static.{no_twin, body_static, bodies_static}
 use Rattle.checker_reactions.specs.Entries.{Chains}
-use Rattle.checker_reactions.proofs.Entries.{body-small, static-small, chained-next, chains-start, ready}
+use Rattle.checker_reactions.proofs.Entries.{body-small, static-small, chained_next, chains_start, ready}
 use Rattle.checker_chart_rules.proofs.bodies_static.Statement.{statement}
 use Rattle.checker_chart_rules.proofs.bodies_static.Tie as tie
 
 abbrev bodyFits : List ℕ → Record → ℕ → Bool
-bodyFits s c j = holds (recordOf s 5 (c.f4 + j)) (λ b. noTwin s c j b and bodyStatic s c b)
+bodyFits s c j = holds (record_of s 5 (c.f4 + j)) (λ b. no_twin s c j b and body_static s c b)
 
 abbrev invariant-loop : tie.invariant-loop
 invariant-loop sheet directory table last₀ previous₀ c first count j₀ last previous j = (j ≤ count) × (count < 65536) × (all_below j (bodyFits sheet c) ≡ true) × Chains sheet first (first + j) last previous
@@ -37,7 +37,7 @@ cast-count c = search rules
 
 loop-holds : tie.Need-loop-init invariant-loop decreases-loop
 unfolding all_below
-loop-holds c = (omega arith, omega arith, refl, chains-start _ _ _ _ _ c.before.before.before.before.before.requires.1)
+loop-holds c = (omega arith, omega arith, refl, chains_start _ _ _ _ _ c.before.before.before.before.before.requires.1)
 
 add-i : tie.Need-overflow-add-i invariant-loop decreases-loop
 add-i c = search rules
@@ -52,14 +52,14 @@ enum_told : tie.Need-enum-told invariant-loop decreases-loop
 enum_told c = search rules
 
 returns : tie.Need-returns invariant-loop decreases-loop
-unfolding bodiesStatic
-returns c = (loop-fails _ _ _ _ refl c.before.before.before.loop-test.true (holds-absent _ _ (sym c.before.before.read.ensures ∙ c.enum_told.given.1)), ready _ _ _ _ _ _ c.before.before.before.before.before.before.before.fill.ensures.0 c.before.before.before.before.loop.invariant.3)
+unfolding bodies_static
+returns c = (loop_fails _ _ _ _ refl c.before.before.before.loop-test.true (holds_absent _ _ (sym c.before.before.read.ensures ∙ c.enum_told.given.1)), ready _ _ _ _ _ _ c.before.before.before.before.before.before.before.fill.ensures.0 c.before.before.before.before.loop.invariant.3)
 
 body-static-requires : tie.Need-body-static-requires invariant-loop decreases-loop
 body-static-requires c κs = (c.before.before.before.before.before.before.before.before.before.before.before.before.requires.0, c.before.before.before.before.before.before.before.before.before.fill.ensures.1)
 
 returns-2 : tie.Need-returns-2 invariant-loop decreases-loop
-unfolding bodiesStatic
+unfolding bodies_static
 returns-2 c =
     let b = c.before.before.before.before.b in
     let read = c.before.before.before.before.before.before.read in
@@ -68,7 +68,7 @@ returns-2 c =
     let fill = c.before.before.before.before.before.before.before.before.before.before.before.fill in
     let b-is = sym read.ensures ∙ b.given.1 in
     let body-static-is = sym (sym c.before.body-static.ensures ∙ not-true _ c.if1.true) in (
-      loop-fails _ _ _ _ refl loop-test.true (holds-present _ _ _ b-is ∙ sym (rest-fails _ _ body-static-is)),
+      loop_fails _ _ _ _ refl loop-test.true (holds-present _ _ _ b-is ∙ sym (rest_fails _ _ body-static-is)),
       ready _ _ _ _ _ _ fill.ensures.0 loop.invariant.3,
     )
 
@@ -84,7 +84,7 @@ no-twin-requires c κs =
     (pre.0, (omega arith, (omega (arith, body-small _ _ _ (sym read.ensures ∙ b.given.1)), (loop.invariant.3, static-small _ _ _ body-static-is))))
 
 returns-3 : tie.Need-returns-3 invariant-loop decreases-loop
-unfolding bodiesStatic
+unfolding bodies_static
 returns-3 c =
     let at8 = c.before.before.before.before.before.before.before.before in
     let b = at8.b in
@@ -94,7 +94,7 @@ returns-3 c =
     let fill = at8.before.before.before.before.before.before.before.fill in
     let b-is = sym read.ensures ∙ b.given.1 in
     let no-twin-is = sym c.before.no-twin.ensures ∙ not-true _ c.if2.true in (
-      loop-fails _ _ _ _ refl loop-test.true (holds-present _ _ _ b-is ∙ sym (first-fails _ _ no-twin-is)),
+      loop_fails _ _ _ _ refl loop-test.true (holds-present _ _ _ b-is ∙ sym (first_fails_lem _ _ no-twin-is)),
       ready _ _ _ _ _ _ fill.ensures.0 loop.invariant.3,
     )
 
@@ -132,12 +132,12 @@ loop-again c =
       omega arith,
       loop.invariant.1,
       all_more loop.j _ loop.invariant.2 (holds-present _ _ _ b-is ∙ and-true _ _ no-twin-is body-static-is),
-      chained-next _ _ _ _ _ _ _ _ b-is loop.invariant.3 c.link.ensures,
+      chained_next _ _ _ _ _ _ _ _ b-is loop.invariant.3 c.link.ensures,
     )
 
 returns-4 : tie.Need-returns-4 invariant-loop decreases-loop
-unfolding bodiesStatic
-returns-4 c = (loop-ends _ _ _ _ refl c.before.loop.invariant.0 c.loop-test.false c.before.loop.invariant.2, ready _ _ _ _ _ _ c.before.before.before.before.fill.ensures.0 c.before.loop.invariant.3)
+unfolding bodies_static
+returns-4 c = (loop_ends _ _ _ _ refl c.before.loop.invariant.0 c.loop-test.false c.before.loop.invariant.2, ready _ _ _ _ _ _ c.before.before.before.before.fill.ensures.0 c.before.loop.invariant.3)
 
 pub bodies-static-spec : {M : Type 1} → statement M
 bodies-static-spec =

@@ -1,9 +1,9 @@
 use mathlib.Core.Path.{sym, ap, ◌∙◌}
 use borrow.Author.Tests.{not-true, not-false}
 use borrow.Author.Rules.{rules}
-use Rattle.sheet.proofs.All.{first-fails, rest-fails, first_holds}
-use Rattle.sheet_rules.specs.Types.{isStatement}
-use Rattle.sheet_rules.specs.Static.{plainData, bodyStatic}
+use Rattle.sheet.proofs.All.{first_fails_lem, rest_fails, first_holds}
+use Rattle.sheet_rules.specs.Types.{is_statement}
+use Rattle.sheet_rules.specs.Static.{plain_data, body_static}
 use Rattle.checker_chart_rules.proofs.body_static.Statement.{statement}
 use Rattle.checker_chart_rules.proofs.body_static.Tie as tie
 
@@ -14,8 +14,8 @@ plain-data-requires : tie.Need-plain-data-requires
 plain-data-requires c κs = search rules
 
 returns : tie.Need-returns
-unfolding bodyStatic
-returns c = first-fails _ _ (sym (c.before.plain-data.ensures ∙ ap (plainData _) c.before.before.parameters.ensures.0) ∙ not-true _ c.if1.true)
+unfolding body_static
+returns c = first_fails_lem _ _ (sym (c.before.plain-data.ensures ∙ ap (plain_data _) c.before.before.parameters.ensures.0) ∙ not-true _ c.if1.true)
 
 locals-requires : tie.Need-locals-requires
 locals-requires c κs = search rules
@@ -24,15 +24,15 @@ plain-data-requires-2 : tie.Need-plain-data-requires-2
 plain-data-requires-2 c κs = search rules
 
 returns-2 : tie.Need-returns-2
-unfolding bodyStatic
-returns-2 c = rest-fails _ _ (first-fails _ _ (sym (c.before.plain-data2.ensures ∙ ap (plainData _) c.before.before.locals.ensures.0) ∙ not-true _ c.if2.true))
+unfolding body_static
+returns-2 c = rest_fails _ _ (first_fails_lem _ _ (sym (c.before.plain-data2.ensures ∙ ap (plain_data _) c.before.before.locals.ensures.0) ∙ not-true _ c.if2.true))
 
 role-static-requires : tie.Need-role-static-requires
 role-static-requires c κs = search rules
 
 returns-3 : tie.Need-returns-3
-unfolding bodyStatic
-returns-3 c = rest-fails _ _ (rest-fails _ _ (first-fails _ _ (sym c.before.role-static.ensures ∙ not-true _ c.if3.true)))
+unfolding body_static
+returns-3 c = rest_fails _ _ (rest_fails _ _ (first_fails_lem _ _ (sym c.before.role-static.ensures ∙ not-true _ c.if3.true)))
 
 cast-type-of : tie.Need-overflow-cast-type-of
 cast-type-of c = search rules
@@ -44,7 +44,7 @@ is-statement-requires : tie.Need-is-statement-requires
 is-statement-requires c κs = search rules
 
 returns-4 : tie.Need-returns-4
-unfolding bodyStatic
+unfolding body_static
 returns-4 c =
     let at8 = c.before.before.before.before.before.before.before.before in
     let if3 = c.before.before.before.if3 in
@@ -56,10 +56,10 @@ returns-4 c =
     let plain-data = at8.before.plain-data in
     let parameters = at8.before.before.parameters in
     let role-static-is = sym role-static.ensures ∙ not-false _ if3.false in
-    let plain-data2-is = sym (plain-data2.ensures ∙ ap (plainData _) locals.ensures.0) ∙ not-false _ if2.false in
-    let plain-data-is = sym (plain-data.ensures ∙ ap (plainData _) parameters.ensures.0) ∙ not-false _ if1.false in
+    let plain-data2-is = sym (plain-data2.ensures ∙ ap (plain_data _) locals.ensures.0) ∙ not-false _ if2.false in
+    let plain-data-is = sym (plain-data.ensures ∙ ap (plain_data _) parameters.ensures.0) ∙ not-false _ if1.false in
     first_holds _ _ _ plain-data-is
-    (first_holds _ _ _ plain-data2-is (first_holds _ _ _ role-static-is (c.is-statement.ensures ∙ ap isStatement c.before.type-of.ensures)))
+    (first_holds _ _ _ plain-data2-is (first_holds _ _ _ role-static-is (c.is-statement.ensures ∙ ap is_statement c.before.type-of.ensures)))
 
 pub body-static-spec : {M : Type 1} → statement M
 body-static-spec =

@@ -1,8 +1,8 @@
 use mathlib.Core.Path.{sym, ◌∙◌}
 use borrow.Author.Tests.{eq-eqb, ne_eqb, not-true, not-false}
 use borrow.Author.Rules.{rules}
-use Rattle.sheet.proofs.All.{first-fails, rest-fails, first_holds}
-use Rattle.sheet_rules.specs.Static.{chartStatic}
+use Rattle.sheet.proofs.All.{first_fails_lem, rest_fails, first_holds}
+use Rattle.sheet_rules.specs.Static.{chart_static}
 use Rattle.checker_chart_rules.proofs.chart_static.Statement.{statement}
 use Rattle.checker_chart_rules.proofs.chart_static.Tie as tie
 
@@ -16,28 +16,28 @@ plain-data-requires : tie.Need-plain-data-requires
 plain-data-requires c κs = search rules
 
 returns : tie.Need-returns
-unfolding chartStatic
-returns c = (first-fails _ _ (sym c.before.plain-data.ensures ∙ not-true _ c.if1.true), c.before.before.before.before.before.requires.1)
+unfolding chart_static
+returns c = (first_fails_lem _ _ (sym c.before.plain-data.ensures ∙ not-true _ c.if1.true), c.before.before.before.before.before.requires.1)
 
 bodies-with-requires : tie.Need-bodies-with-requires
 bodies-with-requires c κs = search rules
 
 returns-2 : tie.Need-returns-2
-unfolding chartStatic
-returns-2 c = (rest-fails _ _ (first-fails _ _ (ne_eqb _ _ (λ e. c.if2.true (c.before.bodies-with.ensures ∙ e)))), c.before.before.before.before.before.before.before.requires.1)
+unfolding chart_static
+returns-2 c = (rest_fails _ _ (first_fails_lem _ _ (ne_eqb _ _ (λ e. c.if2.true (c.before.bodies-with.ensures ∙ e)))), c.before.before.before.before.before.before.before.requires.1)
 
 bodies-with-requires-2 : tie.Need-bodies-with-requires-2
 bodies-with-requires-2 c κs = search rules
 
 returns-3 : tie.Need-returns-3
-unfolding chartStatic
-returns-3 c = (rest-fails _ _ (rest-fails _ _ (first-fails _ _ (ne_eqb _ _ (λ e. c.if3.true (c.before.bodies-with2.ensures ∙ e))))), c.before.before.before.before.before.before.before.before.before.requires.1)
+unfolding chart_static
+returns-3 c = (rest_fails _ _ (rest_fails _ _ (first_fails_lem _ _ (ne_eqb _ _ (λ e. c.if3.true (c.before.bodies-with2.ensures ∙ e))))), c.before.before.before.before.before.before.before.before.before.requires.1)
 
 bodies-static-requires : tie.Need-bodies-static-requires
 bodies-static-requires c κs = search rules
 
 returns-4 : tie.Need-returns-4
-unfolding chartStatic
+unfolding chart_static
 returns-4 c =
     let if3 = c.before.before.before.before.if3 in
     let bodies-with2 = c.before.before.before.before.before.bodies-with2 in

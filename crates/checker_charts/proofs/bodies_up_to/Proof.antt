@@ -3,19 +3,19 @@ use mathlib.Core.Path.{◌≡◌, refl, sym, ◌∙◌}
 use mathlib.Core.List.{List}
 use Prim.Native.Nat.{ℕ, zero, suc, ◌+◌, ◌-◌}
 use borrow.Author.Rules.{rules}
-use Rattle.sheet.specs.Sheet.{recordOf}
-use Rattle.sheet_rules.specs.Fields.{numberOr0}
-use Rattle.sheet_rules.proofs.Fields.{number-present, number-absent}
-use Rattle.sheet_rules.specs.Shape.{bodiesUpTo}
+use Rattle.sheet.specs.Sheet.{record_of}
+use Rattle.sheet_rules.specs.Fields.{number_or0}
+use Rattle.sheet_rules.proofs.Fields.{number-present, number_absent}
+use Rattle.sheet_rules.specs.Shape.{bodies_up_to}
 use Rattle.checker_charts.proofs.bodies_up_to.Statement.{statement}
 use Rattle.checker_charts.proofs.bodies_up_to.Tie as tie
 
-first-chart : (s : List ℕ) (k : ℕ) → k ≡ 0 → 0 ≡ bodiesUpTo s k
-unfolding bodiesUpTo
+first-chart : (s : List ℕ) (k : ℕ) → k ≡ 0 → 0 ≡ bodies_up_to s k
+unfolding bodies_up_to
 first-chart s k e = rw e refl
 
-later-chart : (s : List ℕ) (k : ℕ) → (k ≡ 0 → ⊥) → bodiesUpTo s k ≡ numberOr0 (recordOf s 4 (k - 1)) (λ c. c.f4 + c.f5)
-unfolding bodiesUpTo
+later-chart : (s : List ℕ) (k : ℕ) → (k ≡ 0 → ⊥) → bodies_up_to s k ≡ number_or0 (record_of s 4 (k - 1)) (λ c. c.f4 + c.f5)
+unfolding bodies_up_to
 later-chart s zero h = absurd (h refl)
 later-chart s (suc k) h = let e : suc k - 1 ≡ k = omega arith in rw e refl
 
@@ -35,7 +35,7 @@ enum_told : tie.Need-enum-told
 enum_told c = search rules
 
 returns-2 : tie.Need-returns-2
-returns-2 c = sym (later-chart _ _ c.before.before.before.if1.false ∙ number-absent _ _ (sym c.before.before.read.ensures ∙ c.enum_told.given.1))
+returns-2 c = sym (later-chart _ _ c.before.before.before.if1.false ∙ number_absent _ _ (sym c.before.before.read.ensures ∙ c.enum_told.given.1))
 
 cast-result : tie.Need-overflow-cast-result
 cast-result c = search rules

@@ -1,8 +1,8 @@
 use mathlib.Core.Path.{sym, ◌∙◌}
 use borrow.Author.Tests.{le-leb, lt-leb, eq-eqb, ne_eqb, not-true, not-false}
 use borrow.Author.Rules.{rules}
-use Rattle.sheet.proofs.All.{first-fails, rest-fails, first_holds}
-use Rattle.sheet_rules.specs.Shape.{chartShape}
+use Rattle.sheet.proofs.All.{first_fails_lem, rest_fails, first_holds}
+use Rattle.sheet_rules.specs.Shape.{chart_shape}
 use Rattle.checker_charts.proofs.chart_fits.Statement.{statement}
 use Rattle.checker_charts.proofs.chart_fits.Tie as tie
 
@@ -10,23 +10,23 @@ in-section-requires : tie.Need-in-section-requires
 in-section-requires c κs = search rules
 
 returns : tie.Need-returns
-unfolding chartShape
-returns c = first-fails _ _ (sym c.before.in-section.ensures ∙ not-true _ c.if1.true)
+unfolding chart_shape
+returns c = first_fails_lem _ _ (sym c.before.in-section.ensures ∙ not-true _ c.if1.true)
 
 returns-2 : tie.Need-returns-2
-unfolding chartShape
-returns-2 c = rest-fails _ _ (first-fails _ _ (lt-leb _ _ c.if2.true))
+unfolding chart_shape
+returns-2 c = rest_fails _ _ (first_fails_lem _ _ (lt-leb _ _ c.if2.true))
 
 in-section-requires-2 : tie.Need-in-section-requires-2
 in-section-requires-2 c κs = search rules
 
 returns-3 : tie.Need-returns-3
-unfolding chartShape
-returns-3 c = rest-fails _ _ (rest-fails _ _ (first-fails _ _ (sym c.before.in-section2.ensures ∙ not-true _ c.if3.true)))
+unfolding chart_shape
+returns-3 c = rest_fails _ _ (rest_fails _ _ (first_fails_lem _ _ (sym c.before.in-section2.ensures ∙ not-true _ c.if3.true)))
 
 returns-4 : tie.Need-returns-4
-unfolding chartShape
-returns-4 c = rest-fails _ _ (rest-fails _ _ (rest-fails _ _ (first-fails _ _ (lt-leb _ _ c.if4.true))))
+unfolding chart_shape
+returns-4 c = rest_fails _ _ (rest_fails _ _ (rest_fails _ _ (first_fails_lem _ _ (lt-leb _ _ c.if4.true))))
 
 cast-if5 : tie.Need-overflow-cast-if5
 cast-if5 c = search rules
@@ -35,14 +35,14 @@ bodies-up-to-requires : tie.Need-bodies-up-to-requires
 bodies-up-to-requires c κs = search rules
 
 returns-5 : tie.Need-returns-5
-unfolding chartShape
-returns-5 c = rest-fails _ _ (rest-fails _ _ (rest-fails _ _ (rest-fails _ _ (first-fails _ _ (ne_eqb _ _ (λ e. c.if5.true (e ∙ sym c.before.bodies-up-to.ensures)))))))
+unfolding chart_shape
+returns-5 c = rest_fails _ _ (rest_fails _ _ (rest_fails _ _ (rest_fails _ _ (first_fails_lem _ _ (ne_eqb _ _ (λ e. c.if5.true (e ∙ sym c.before.bodies-up-to.ensures)))))))
 
 zero-from-requires : tie.Need-zero-from-requires
 zero-from-requires c κs = search rules
 
 returns-6 : tie.Need-returns-6
-unfolding chartShape
+unfolding chart_shape
 returns-6 c =
     let at8 = c.before.before.before.before.before.before.before.before in
     let if4 = c.before.before.before.before.if4 in

@@ -1,11 +1,11 @@
 use borrow.Author.Rules.{rules}
 use native.Mathlib.Omega.{arith}
 use mathlib.Core.Path.{sym, ◌∙◌}
-use Rattle.sheet.proofs.All.{true-false}
-use Rattle.sheet.proofs.Sheet.{record-present, count-limit}
-use Rattle.sheet_rules.proofs.Fields.{holds-present, holds-absent}
+use Rattle.sheet.proofs.All.{true_false}
+use Rattle.sheet.proofs.Sheet.{record_present, count_limit}
+use Rattle.sheet_rules.proofs.Fields.{holds-present, holds_absent}
 use mathlib.Core.Bool.{true}
-use Rattle.checker_pass.proofs.Added.{few-added, many-added}
+use Rattle.checker_pass.proofs.Added.{few_added, many_added}
 use Rattle.checker_constant_marks.proofs.mark_binding.Statement.{statement}
 use Rattle.checker_constant_marks.proofs.mark_binding.Tie as tie
 
@@ -20,9 +20,9 @@ enum_told c = search rules
 
 never-taken-requires : tie.Need-never-taken-requires
 never-taken-requires c κs =
-    let there = record-present _ 7 _ c.before.before.before.before.before.requires.1.1 in
+    let there = record_present _ 7 _ c.before.before.before.before.before.requires.1.1 in
     let none = sym c.before.before.read.ensures ∙ c.enum_told.given.1 in
-    true-false (holds-present _ _ (λ b. true) there) (holds-absent _ (λ b. true) none)
+    true_false (holds-present _ _ (λ b. true) there) (holds_absent _ (λ b. true) none)
 
 returns : tie.Need-returns
 returns c = absurd c.never-taken.ensures
@@ -44,7 +44,7 @@ returns-2 c =
     let is = c.before.before.before.before.before.before.before.before.b.given.1 in
     let there = sym c.before.before.before.before.before.before.before.before.before.before.read.ensures ∙ is in
     let total = c.before.before.before.before.before.field_at.ensures.0 in
-    few-added _ _ _ there _ total _ _ _ c.before.before.before.before.if1.true c.before.before.mark-constants.ensures
+    few_added _ _ _ there _ total _ _ _ c.before.before.before.before.if1.true c.before.before.mark-constants.ensures
 
 mark-constants-requires-2 : tie.Need-mark-constants-requires-2
 mark-constants-requires-2 c κs = (c.before.before.before.before.before.before.before.before.before.before.requires.1.0, omega arith)
@@ -52,7 +52,7 @@ mark-constants-requires-2 c κs = (c.before.before.before.before.before.before.b
 add-mark-second : tie.Need-overflow-add-mark-second
 add-mark-second c =
     let start = c.before.before.before.before.before.before.before.before.before.before.before.before.before.before in
-    record { fits = omega (arith, start.requires.1.1, count-limit start.args.sheet.now 7) }
+    record { fits = omega (arith, start.requires.1.1, count_limit start.args.sheet.now 7) }
 
 sub-mark-second : tie.Need-overflow-sub-mark-second
 sub-mark-second c = search rules
@@ -77,7 +77,7 @@ returns-3 c =
     let many = c.before.before.before.before.before.before.before.before.if1.false in
     let first = c.before.before.before.before.before.before.mark-constants2.ensures in
     let second = c.before.before.mark-second.ensures in
-    many-added _ _ _ there _ total many _ _ _ _ _ second.0 second.1 first second.2
+    many_added _ _ _ there _ total many _ _ _ _ _ second.0 second.1 first second.2
 
 pub mark-binding-spec : {M : Type 1} → statement M
 mark-binding-spec =

@@ -3,15 +3,15 @@ use native.Mathlib.Omega.{arith}
 use Prim.Native.Nat.{ℕ, ◌-◌, ◌≤◌}
 use mathlib.Core.Path.{ap}
 use lib.Dec.{eqb}
-use Rattle.sheet_rules.specs.Fields.{oneIf, sumBelow, countBelow}
-use Rattle.checker_pass.specs.Marks.{Marked, constantsNamed}
-use Rattle.checker_pass.proofs.Marking.{marked-as, loop-start, loop-more, loop-end}
-use Rattle.checker_pass.proofs.Added.{constantTurn}
+use Rattle.sheet_rules.specs.Fields.{one_if, sum_below, count_below}
+use Rattle.checker_pass.specs.Marks.{Marked, constants_named}
+use Rattle.checker_pass.proofs.Marking.{marked_as, loop-start, loop_more, loop-end}
+use Rattle.checker_pass.proofs.Added.{constant_turn}
 use Rattle.checker_constant_marks.proofs.mark_constants.Statement.{statement}
 use Rattle.checker_constant_marks.proofs.mark_constants.Tie as tie
 
 abbrev invariant-loop : tie.invariant-loop
-invariant-loop marks₀ count b n j₀ marks j = (j ≤ n) × Marked count 0 marks₀ marks (λ m. sumBelow j (constantTurn b m))
+invariant-loop marks₀ count b n j₀ marks j = (j ≤ n) × Marked count 0 marks₀ marks (λ m. sum_below j (constant_turn b m))
 
 abbrev decreases-loop : tie.decreases-loop
 decreases-loop marks₀ count b n j₀ marks j = n - j
@@ -38,15 +38,15 @@ loop-again : tie.Need-loop-preserved invariant-loop decreases-loop
 loop-again c =
     let loop = c.before.before.before.before.before.before.loop in
     let field = c.before.before.before.field.ensures.0 in
-    let marked = marked-as _ _ _ _ _ _ (λ m l. ap (λ (x : ℕ). oneIf (eqb x m)) field) c.before.before.mark.ensures in
-    (omega arith, loop-more _ _ _ _ _ (constantTurn _) loop.j loop.invariant.1 marked)
+    let marked = marked_as _ _ _ _ _ _ (λ m l. ap (λ (x : ℕ). one_if (eqb x m)) field) c.before.before.mark.ensures in
+    (omega arith, loop_more _ _ _ _ _ (constant_turn _) loop.j loop.invariant.1 marked)
 
 same_length : tie.Need-same-length invariant-loop decreases-loop
 same_length c = c.before.loop.invariant.1.kept.long
 
 returns : tie.Need-returns invariant-loop decreases-loop
-unfolding constantsNamed countBelow
-returns c = loop-end _ _ _ _ (constantTurn _) c.before.loop.j _ (omega arith) c.before.loop.invariant.1
+unfolding constants_named count_below
+returns c = loop-end _ _ _ _ (constant_turn _) c.before.loop.j _ (omega arith) c.before.loop.invariant.1
 
 pub mark-constants-spec : {M : Type 1} → statement M
 mark-constants-spec =

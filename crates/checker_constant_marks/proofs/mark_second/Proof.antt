@@ -2,8 +2,8 @@ use borrow.Author.Rules.{rules}
 use Prim.Native.Nat.{ℕ}
 use mathlib.Core.Path.{sym, ◌∙◌}
 use Rattle.sheet.specs.declared.Record.{Record}
-use Rattle.checker_pass.specs.Marks.{constantsNamed}
-use Rattle.checker_pass.proofs.Added.{over-absent, over-present}
+use Rattle.checker_pass.specs.Marks.{constants_named}
+use Rattle.checker_pass.proofs.Added.{over_absent, over-present}
 use Rattle.checker_constant_marks.proofs.mark_second.Statement.{statement}
 use Rattle.checker_constant_marks.proofs.mark_second.Tie as tie
 
@@ -17,7 +17,7 @@ enum_told : tie.Need-enum-told
 enum_told c = search rules
 
 returns : tie.Need-returns
-returns c = over-absent _ _ _ _ (λ (b : Record) (m : ℕ). constantsNamed b c.before.before.before.before.before.args.n m) (sym c.before.before.read.ensures ∙ c.enum_told.given.1)
+returns c = over_absent _ _ _ _ (λ (b : Record) (m : ℕ). constants_named b c.before.before.before.before.before.args.n m) (sym c.before.before.read.ensures ∙ c.enum_told.given.1)
 
 mark-constants-requires : tie.Need-mark-constants-requires
 mark-constants-requires c κs = (c.before.before.before.before.before.before.before.requires.1.0, c.before.before.before.before.before.before.before.requires.1.1)
@@ -30,7 +30,7 @@ returns-2 c =
     let n = c.before.before.before.before.before.before.before.before.before.before.args.n in
     let is = c.before.before.before.before.before.b.given.1 in
     let there = sym c.before.before.before.before.before.before.before.read.ensures ∙ is in
-    over-present _ _ _ _ _ _ (λ (b : Record) (m : ℕ). constantsNamed b n m) there c.before.before.mark-constants.ensures
+    over-present _ _ _ _ _ _ (λ (b : Record) (m : ℕ). constants_named b n m) there c.before.before.mark-constants.ensures
 
 pub mark-second-spec : {M : Type 1} → statement M
 mark-second-spec =

@@ -8,20 +8,20 @@ use borrow.Author.Rules.{rules}
 use Rattle.sheet.specs.declared.Record.{Record}
 use Rattle.sheet.specs.declared.Found.TheVariants.{Present}
 use Rattle.sheet.specs.All.{all_below}
-use Rattle.sheet.specs.Sheet.{recordOf}
-use Rattle.sheet.proofs.All.{all_more, loop-fails, loop-ends}
+use Rattle.sheet.specs.Sheet.{record_of}
+use Rattle.sheet.proofs.All.{all_more, loop_fails, loop_ends}
 use Rattle.sheet_rules.specs.Fields.{field_of, holds, type_at}
-use Rattle.sheet_rules.specs.Bindings.{constantRecord, constantBinding, constantField, constant_of}
-use Rattle.sheet_rules.specs.Static.{constantStatic, constantsStatic}
-use Rattle.sheet_rules.proofs.Bindings.{constant-absent, constant-present}
+use Rattle.sheet_rules.specs.Bindings.{constant_record, constant_binding, constant_field, constant_of}
+use Rattle.sheet_rules.specs.Static.{constant_static, constants_static}
+use Rattle.sheet_rules.proofs.Bindings.{constant_absent, constant_present}
 use Rattle.checker_constants.proofs.constants_static.Statement.{statement}
 use Rattle.checker_constants.proofs.constants_static.Tie as tie
 
 abbrev constantFits : List ℕ → ℕ → ℕ → ℕ → Bool
-constantFits s k first j = holds (constantBinding s k j) (λ b. constantStatic s (constant_of b j) (type_at s (first + j)))
+constantFits s k first j = holds (constant_binding s k j) (λ b. constant_static s (constant_of b j) (type_at s (first + j)))
 
-of-type : (s : List ℕ) (k j first m f n t : ℕ) (b : Record) (x : Bool) → m ≡ constantRecord k j → recordOf s 7 m ≡ Present b → f ≡ constantField j → n ≡ field_of b f → t ≡ type_at s (first + j) → x ≡ constantStatic s n t → constantFits s k first j ≡ x
-of-type s k j first m f n t b x at e field node type is = constant-present s k j m at (λ n. constantStatic s n (type_at s (first + j))) b f n x e field node (is ∙ ap (constantStatic s n) type)
+of-type : (s : List ℕ) (k j first m f n t : ℕ) (b : Record) (x : Bool) → m ≡ constant_record k j → record_of s 7 m ≡ Present b → f ≡ constant_field j → n ≡ field_of b f → t ≡ type_at s (first + j) → x ≡ constant_static s n t → constantFits s k first j ≡ x
+of-type s k j first m f n t b x at e field node type is = constant_present s k j m at (λ n. constant_static s n (type_at s (first + j))) b f n x e field node (is ∙ ap (constant_static s n) type)
 
 abbrev invariant-loop : tie.invariant-loop
 invariant-loop sheet directory k first count j₀ j = (j ≤ count) × (count < 65536) × (all_below j (constantFits sheet k first) ≡ true)
@@ -58,8 +58,8 @@ enum_told : tie.Need-enum-told invariant-loop decreases-loop
 enum_told c = search rules
 
 returns : tie.Need-returns invariant-loop decreases-loop
-unfolding constantsStatic
-returns c = loop-fails _ _ _ _ refl c.before.before.before.before.before.loop-test.true (constant-absent _ _ _ _ c.before.before.before.constant-record.ensures _ (sym c.before.before.read.ensures ∙ c.enum_told.given.1))
+unfolding constants_static
+returns c = loop_fails _ _ _ _ refl c.before.before.before.before.before.loop-test.true (constant_absent _ _ _ _ c.before.before.before.constant-record.ensures _ (sym c.before.before.read.ensures ∙ c.enum_told.given.1))
 
 constant-field-requires : tie.Need-constant-field-requires invariant-loop decreases-loop
 constant-field-requires c κs = let l = c.before.before.before.before.before.before.loop-test.true in let m = c.before.before.before.before.before.before.before.loop.invariant.1 in omega arith
@@ -71,7 +71,7 @@ constant-static-requires : tie.Need-constant-static-requires invariant-loop decr
 constant-static-requires c κs = c.before.before.before.before.before.before.before.before.before.before.before.before.before.requires.0
 
 returns-2 : tie.Need-returns-2 invariant-loop decreases-loop
-unfolding constantsStatic
+unfolding constants_static
 returns-2 c =
     let at8 = c.before.before.before.before.before.before.before.before in
     let constant-field = c.before.before.before.constant-field in
@@ -81,7 +81,7 @@ returns-2 c =
     let type-at = at8.before.type-at in
     let loop-test = at8.before.before.loop-test in
     let b-is = sym read.ensures ∙ b.given.1 in
-    loop-fails _ _ _ _ refl loop-test.true
+    loop_fails _ _ _ _ refl loop-test.true
     (of-type _ _ _ _ _ _ _ _ _ _ constant-record.ensures b-is constant-field.ensures c.before.before.field.ensures.0 type-at.ensures
     c.before.constant-static.ensures
     ∙ not-true _ c.if1.true)
@@ -111,8 +111,8 @@ loop-again c =
     )
 
 returns-3 : tie.Need-returns-3 invariant-loop decreases-loop
-unfolding constantsStatic
-returns-3 c = loop-ends _ _ _ _ refl c.before.loop.invariant.0 c.loop-test.false c.before.loop.invariant.2
+unfolding constants_static
+returns-3 c = loop_ends _ _ _ _ refl c.before.loop.invariant.0 c.loop-test.false c.before.loop.invariant.2
 
 pub constants-static-spec : {M : Type 1} → statement M
 constants-static-spec =

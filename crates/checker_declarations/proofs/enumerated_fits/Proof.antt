@@ -1,27 +1,27 @@
 use borrow.Author.Tests.{lt-ltb, le-ltb, le-leb, lt-leb}
 use borrow.Author.Rules.{rules}
-use Rattle.sheet.proofs.All.{first-fails, rest-fails, first_holds}
-use Rattle.sheet_rules.specs.Shape.{enumeratedShape}
+use Rattle.sheet.proofs.All.{first_fails_lem, rest_fails, first_holds}
+use Rattle.sheet_rules.specs.Shape.{enumerated_shape}
 use Rattle.checker_declarations.proofs.enumerated_fits.Statement.{statement}
 use Rattle.checker_declarations.proofs.enumerated_fits.Tie as tie
 
 returns : tie.Need-returns
-unfolding enumeratedShape
-returns c = first-fails _ _ (lt-leb _ _ c.if1.true)
+unfolding enumerated_shape
+returns c = first_fails_lem _ _ (lt-leb _ _ c.if1.true)
 
 returns-2 : tie.Need-returns-2
-unfolding enumeratedShape
-returns-2 c = rest-fails _ _ (first-fails _ _ (lt-leb _ _ c.if2.true))
+unfolding enumerated_shape
+returns-2 c = rest_fails _ _ (first_fails_lem _ _ (lt-leb _ _ c.if2.true))
 
 returns-3 : tie.Need-returns-3
-unfolding enumeratedShape
-returns-3 c = rest-fails _ _ (rest-fails _ _ (first-fails _ _ (le-ltb _ _ c.if3.true)))
+unfolding enumerated_shape
+returns-3 c = rest_fails _ _ (rest_fails _ _ (first_fails_lem _ _ (le-ltb _ _ c.if3.true)))
 
 zero-from-requires : tie.Need-zero-from-requires
 zero-from-requires c κs = search rules
 
 returns-4 : tie.Need-returns-4
-unfolding enumeratedShape
+unfolding enumerated_shape
 returns-4 c = first_holds _ _ _ (le-leb _ _ c.before.before.before.before.before.if1.false) (first_holds _ _ _ (le-leb _ _ c.before.before.before.if2.false) (first_holds _ _ _ (lt-ltb _ _ c.before.if3.false) c.zero-from.ensures))
 
 pub enumerated-fits-spec : {M : Type 1} → statement M

@@ -5,13 +5,13 @@ use mathlib.Core.List.{List}
 use Prim.Native.Nat.{ℕ, ◌≤◌, ◌<◌}
 use native.Mathlib.Decide.{dec_lt}
 use borrow.Author.Rules.{rules}
-use Rattle.sheet.proofs.All.{from_next, below-is}
+use Rattle.sheet.proofs.All.{from_next, below_is_lem}
 use Rattle.sheet.specs.declared.Record.{Record}
-use Rattle.sheet_rules.specs.Fields.{zeroFrom}
-use Rattle.sheet.specs.Table.{lookUp}
-use Rattle.sheet_rules.specs.Forms.{Form, literal, binary, clock, arm, clockAct, unknown, form_of}
-use Rattle.sheet_rules.proofs.Forms.{form-literal, form-binary, form-clock, form-arm, form-clockAct, form-unknown}
-use Rattle.sheet_rules.specs.Shape.{fieldsShape}
+use Rattle.sheet_rules.specs.Fields.{zero_from}
+use Rattle.sheet.specs.Table.{look_up}
+use Rattle.sheet_rules.specs.Forms.{Form, literal, binary, clock, arm, clock_act, unknown, form_of}
+use Rattle.sheet_rules.proofs.Forms.{form-literal, form-binary, form-clock, form-arm, form-clock_act, form-unknown}
+use Rattle.sheet_rules.specs.Shape.{fields_shape}
 use Rattle.checker_fields.proofs.fields_fit.Statement.{statement}
 use Rattle.checker_fields.proofs.fields_fit.Tie as tie
 
@@ -26,14 +26,14 @@ module _ (op : ℕ) where
   unknown-high h = form-unknown op (λ a b. omega arith) (λ a b. omega arith)
 
 module _ (s : List ℕ) (c b r : Record) (x : Bool) where
-  of-form : (f : Form) → form_of r.f0 ≡ f → x ≡ fieldsShape s c b r f → x ≡ fieldsShape s c b r (form_of r.f0)
-  of-form f e p = p ∙ sym (ap (fieldsShape s c b r) e)
+  of-form : (f : Form) → form_of r.f0 ≡ f → x ≡ fields_shape s c b r f → x ≡ fields_shape s c b r (form_of r.f0)
+  of-form f e p = p ∙ sym (ap (fields_shape s c b r) e)
 
-  of-operator : (op : ℕ) → r.f0 ≡ op → x ≡ fieldsShape s c b r (form_of op) → x ≡ fieldsShape s c b r (form_of r.f0)
+  of-operator : (op : ℕ) → r.f0 ≡ op → x ≡ fields_shape s c b r (form_of op) → x ≡ fields_shape s c b r (form_of r.f0)
   of-operator op e p = of-form _ (ap form_of e) p
 
-  loop-or-sequence : 42 ≤ r.f0 → r.f0 ≤ 43 → x ≡ zeroFrom 3 r → x ≡ fieldsShape s c b r (form_of r.f0)
-  unfolding fieldsShape form_of lookUp
+  loop-or-sequence : 42 ≤ r.f0 → r.f0 ≤ 43 → x ≡ zero_from 3 r → x ≡ fields_shape s c b r (form_of r.f0)
+  unfolding fields_shape form_of look_up
   loop-or-sequence h k p = elim (dec_lt r.f0 43) [
     | yes l ↦ of-operator 42 (omega arith) p
     | no g ↦ of-operator 43 (omega arith) p
@@ -88,84 +88,84 @@ zero-from-requires-5 : tie.Need-zero-from-requires-5
 zero-from-requires-5 c κs = search rules
 
 returns : tie.Need-returns
-unfolding fieldsShape form_of lookUp
+unfolding fields_shape form_of look_up
 returns c = of-operator _ _ _ _ _ 7 c.before.match.keys1 c.variable-fits.ensures
 
 returns-2 : tie.Need-returns-2
-unfolding fieldsShape form_of lookUp
+unfolding fields_shape form_of look_up
 returns-2 c = of-operator _ _ _ _ _ 8 c.before.match.keys2 c.zero-from.ensures
 
 returns-3 : tie.Need-returns-3
-unfolding fieldsShape form_of lookUp
+unfolding fields_shape form_of look_up
 returns-3 c = of-operator _ _ _ _ _ 19 c.before.match.keys3 c.chart-variable-fits.ensures
 
 returns-4 : tie.Need-returns-4
-unfolding fieldsShape form_of lookUp
+unfolding fields_shape form_of look_up
 returns-4 c = of-operator _ _ _ _ _ 32 c.before.match.keys4 c.zero-from2.ensures
 
 returns-5 : tie.Need-returns-5
-unfolding fieldsShape form_of lookUp
+unfolding fields_shape form_of look_up
 returns-5 c = of-operator _ _ _ _ _ 33 c.before.match.keys5 c.variable-fits2.ensures
 
 returns-6 : tie.Need-returns-6
-unfolding fieldsShape form_of lookUp
+unfolding fields_shape form_of look_up
 returns-6 c = of-operator _ _ _ _ _ 34 c.before.match.keys6 c.send-fits.ensures
 
 returns-7 : tie.Need-returns-7
-unfolding fieldsShape form_of lookUp
+unfolding fields_shape form_of look_up
 returns-7 c = of-operator _ _ _ _ _ 35 c.before.match.keys7 c.internal-fits.ensures
 
 returns-8 : tie.Need-returns-8
-unfolding fieldsShape form_of lookUp
+unfolding fields_shape form_of look_up
 returns-8 c = of-operator _ _ _ _ _ 40 c.before.match.keys8 c.call-fits.ensures
 
 returns-9 : tie.Need-returns-9
-unfolding fieldsShape form_of lookUp
+unfolding fields_shape form_of look_up
 returns-9 c = of-operator _ _ _ _ _ 41 c.before.match.keys9 c.zero-from3.ensures
 
 returns-10 : tie.Need-returns-10
-unfolding fieldsShape form_of lookUp
+unfolding fields_shape form_of look_up
 returns-10 c = of-operator _ _ _ _ _ 44 c.before.match.keys10 c.chart-variable-fits2.ensures
 
 returns-11 : tie.Need-returns-11
-unfolding fieldsShape
-returns-11 c = of-form _ _ _ _ _ literal (form-literal _ c.before.before.if1.false (below-is _ _ c.before.if2.true)) c.literal-fits.ensures
+unfolding fields_shape
+returns-11 c = of-form _ _ _ _ _ literal (form-literal _ c.before.before.if1.false (below_is_lem _ _ c.before.if2.true)) c.literal-fits.ensures
 
 returns-12 : tie.Need-returns-12
-unfolding fieldsShape
-returns-12 c = of-form _ _ _ _ _ binary (form-binary _ (from_next 8 _ (from_next 7 _ c.before.before.if2.false c.before.before.before.before.match.rest.0.0.0.0.0.0.0.0.0.1) c.before.before.before.before.match.rest.0.0.0.0.0.0.0.0.1) (below-is _ _ c.before.if3.true)) c.zero-from4.ensures
+unfolding fields_shape
+returns-12 c = of-form _ _ _ _ _ binary (form-binary _ (from_next 8 _ (from_next 7 _ c.before.before.if2.false c.before.before.before.before.match.rest.0.0.0.0.0.0.0.0.0.1) c.before.before.before.before.match.rest.0.0.0.0.0.0.0.0.1) (below_is_lem _ _ c.before.if3.true)) c.zero-from4.ensures
 
 returns-13 : tie.Need-returns-13
-unfolding fieldsShape
-returns-13 c = of-form _ _ _ _ _ clock (form-clock _ c.before.before.if3.false (below-is _ _ c.before.if4.true)) c.chart-variable-fits3.ensures
+unfolding fields_shape
+returns-13 c = of-form _ _ _ _ _ clock (form-clock _ c.before.before.if3.false (below_is_lem _ _ c.before.if4.true)) c.chart-variable-fits3.ensures
 
 returns-14 : tie.Need-returns-14
-unfolding fieldsShape
+unfolding fields_shape
 returns-14 c =
     let match = c.before.before.before.before.before.before.before.match in
     let from-next-here = from_next 35 _
     (from_next 34 _ (from_next 33 _ (from_next 32 _ c.before.before.if5.false match.rest.0.0.0.0.0.0.1) match.rest.0.0.0.0.0.1)
     match.rest.0.0.0.0.1)
     match.rest.0.0.0.1 in
-    of-form _ _ _ _ _ arm (form-arm _ from-next-here (below-is _ _ c.before.if6.true)) c.arm-fits.ensures
+    of-form _ _ _ _ _ arm (form-arm _ from-next-here (below_is_lem _ _ c.before.if6.true)) c.arm-fits.ensures
 
 returns-15 : tie.Need-returns-15
-unfolding fieldsShape
-returns-15 c = of-form _ _ _ _ _ clockAct (form-clockAct _ c.before.before.if6.false (below-is _ _ c.before.if7.true)) c.chart-variable-fits4.ensures
+unfolding fields_shape
+returns-15 c = of-form _ _ _ _ _ clock_act (form-clock_act _ c.before.before.if6.false (below_is_lem _ _ c.before.if7.true)) c.chart-variable-fits4.ensures
 
 returns-16 : tie.Need-returns-16
-returns-16 c = loop-or-sequence _ _ _ _ _ (from_next 41 _ (from_next 40 _ c.before.before.if7.false c.before.before.before.before.before.before.before.before.before.match.rest.0.0.1) c.before.before.before.before.before.before.before.before.before.match.rest.0.1) (below-is _ _ c.before.if8.true) c.zero-from5.ensures
+returns-16 c = loop-or-sequence _ _ _ _ _ (from_next 41 _ (from_next 40 _ c.before.before.if7.false c.before.before.before.before.before.before.before.before.before.match.rest.0.0.1) c.before.before.before.before.before.before.before.before.before.match.rest.0.1) (below_is_lem _ _ c.before.if8.true) c.zero-from5.ensures
 
 returns-17 : tie.Need-returns-17
-unfolding fieldsShape
+unfolding fields_shape
 returns-17 c = of-form _ _ _ _ _ unknown (unknown-low _ c.if1.true) refl
 
 returns-18 : tie.Need-returns-18
-unfolding fieldsShape
+unfolding fields_shape
 returns-18 c = of-form _ _ _ _ _ unknown (unknown-between _ (from_next 19 _ c.before.if4.false c.before.before.before.before.before.match.rest.0.0.0.0.0.0.0.1) c.if5.true) refl
 
 returns-19 : tie.Need-returns-19
-unfolding fieldsShape
+unfolding fields_shape
 returns-19 c = of-form _ _ _ _ _ unknown (unknown-high _ (from_next 44 _ c.if8.false c.before.before.before.before.before.before.before.before.match.rest.1)) refl
 
 pub fields-fit-spec : {M : Type 1} → statement M

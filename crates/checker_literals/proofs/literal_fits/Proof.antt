@@ -4,44 +4,44 @@ use mathlib.Core.List.{List}
 use Prim.Native.Nat.{ℕ}
 use lib.Dec.{ltb, leb}
 use borrow.Author.Rules.{rules}
-use Rattle.sheet.proofs.All.{first-fails, first_holds}
+use Rattle.sheet.proofs.All.{first_fails_lem, first_holds}
 use Rattle.sheet.specs.declared.Record.{Record}
 use Rattle.sheet.specs.All.{◌and◌}
-use Rattle.sheet.specs.Table.{lookUp}
-use Rattle.sheet_rules.specs.Fields.{field_of, fieldAt, zeroFrom, componentsOf, portsOf, members_of}
-use Rattle.sheet_rules.specs.Forms.{literalOf}
-use Rattle.sheet_rules.specs.Shape.{literalFields, literalShape}
+use Rattle.sheet.specs.Table.{look_up}
+use Rattle.sheet_rules.specs.Fields.{field_of, field_at, zero_from, components_of, ports_of, members_of}
+use Rattle.sheet_rules.specs.Forms.{literal_of}
+use Rattle.sheet_rules.specs.Shape.{literal_fields, literal_shape}
 use Rattle.sheet_rules.proofs.Forms.{literal-self}
 use Rattle.checker_literals.proofs.literal_fits.Statement.{statement}
 use Rattle.checker_literals.proofs.literal_fits.Tie as tie
 
 module _ (s : List ℕ) (r : Record) where
-  bool-literal : r.f0 ≡ 1 → literalShape s r ≡ leb r.f1 1 and zeroFrom 2 r
-  unfolding literalShape literalFields literalOf lookUp
-  bool-literal e = ap (λ n. literalFields s r (literalOf n)) e
+  bool-literal : r.f0 ≡ 1 → literal_shape s r ≡ leb r.f1 1 and zero_from 2 r
+  unfolding literal_shape literal_fields literal_of look_up
+  bool-literal e = ap (λ n. literal_fields s r (literal_of n)) e
 
-  int-literal : r.f0 ≡ 2 → literalShape s r ≡ zeroFrom 3 r
-  unfolding literalShape literalFields literalOf lookUp
-  int-literal e = ap (λ n. literalFields s r (literalOf n)) e
+  int-literal : r.f0 ≡ 2 → literal_shape s r ≡ zero_from 3 r
+  unfolding literal_shape literal_fields literal_of look_up
+  int-literal e = ap (λ n. literal_fields s r (literal_of n)) e
 
-  member-literal : (x : ℕ) → r.f0 ≡ 3 → x ≡ fieldAt s 1 r.f1 0 → literalShape s r ≡ ltb r.f2 x and zeroFrom 3 r
-  unfolding literalShape literalFields literalOf lookUp fieldAt field_of members_of
-  member-literal x e p = rw p (ap (λ n. literalFields s r (literalOf n)) e)
+  member-literal : (x : ℕ) → r.f0 ≡ 3 → x ≡ field_at s 1 r.f1 0 → literal_shape s r ≡ ltb r.f2 x and zero_from 3 r
+  unfolding literal_shape literal_fields literal_of look_up field_at field_of members_of
+  member-literal x e p = rw p (ap (λ n. literal_fields s r (literal_of n)) e)
 
-  component-literal : (x : ℕ) → r.f0 ≡ 4 → x ≡ fieldAt s 0 0 0 → literalShape s r ≡ ltb r.f1 x and zeroFrom 2 r
-  unfolding literalShape literalFields literalOf lookUp fieldAt field_of componentsOf
-  component-literal x e p = rw p (ap (λ n. literalFields s r (literalOf n)) e)
+  component-literal : (x : ℕ) → r.f0 ≡ 4 → x ≡ field_at s 0 0 0 → literal_shape s r ≡ ltb r.f1 x and zero_from 2 r
+  unfolding literal_shape literal_fields literal_of look_up field_at field_of components_of
+  component-literal x e p = rw p (ap (λ n. literal_fields s r (literal_of n)) e)
 
-  port-literal : (x : ℕ) → r.f0 ≡ 5 → x ≡ fieldAt s 0 0 2 → literalShape s r ≡ ltb r.f1 x and zeroFrom 2 r
-  unfolding literalShape literalFields literalOf lookUp fieldAt field_of portsOf
-  port-literal x e p = rw p (ap (λ n. literalFields s r (literalOf n)) e)
+  port-literal : (x : ℕ) → r.f0 ≡ 5 → x ≡ field_at s 0 0 2 → literal_shape s r ≡ ltb r.f1 x and zero_from 2 r
+  unfolding literal_shape literal_fields literal_of look_up field_at field_of ports_of
+  port-literal x e p = rw p (ap (λ n. literal_fields s r (literal_of n)) e)
 
-  self-literal : (r.f0 ≡ 1 → ⊥) → (r.f0 ≡ 2 → ⊥) → (r.f0 ≡ 3 → ⊥) → (r.f0 ≡ 4 → ⊥) → (r.f0 ≡ 5 → ⊥) → literalShape s r ≡ zeroFrom 1 r
-  unfolding literalShape literalFields
-  self-literal a b d e f = ap (literalFields s r) (literal-self r.f0 a b d e f)
+  self-literal : (r.f0 ≡ 1 → ⊥) → (r.f0 ≡ 2 → ⊥) → (r.f0 ≡ 3 → ⊥) → (r.f0 ≡ 4 → ⊥) → (r.f0 ≡ 5 → ⊥) → literal_shape s r ≡ zero_from 1 r
+  unfolding literal_shape literal_fields
+  self-literal a b d e f = ap (literal_fields s r) (literal-self r.f0 a b d e f)
 
 returns : tie.Need-returns
-returns c = first-fails _ _ (lt-leb _ _ c.if1.true) ∙ sym (bool-literal _ _ c.before.before.match.keys1)
+returns c = first_fails_lem _ _ (lt-leb _ _ c.if1.true) ∙ sym (bool-literal _ _ c.before.before.match.keys1)
 
 zero-from-requires : tie.Need-zero-from-requires
 zero-from-requires c κs = search rules
@@ -59,7 +59,7 @@ cast-if2 : tie.Need-overflow-cast-if2
 cast-if2 c = search rules
 
 returns-2 : tie.Need-returns-2
-returns-2 c = first-fails _ _ (le-ltb _ _ c.if2.true) ∙ sym (member-literal _ _ _ c.before.before.before.before.match.keys3 c.before.before.field_at.ensures.0)
+returns-2 c = first_fails_lem _ _ (le-ltb _ _ c.if2.true) ∙ sym (member-literal _ _ _ c.before.before.before.before.match.keys3 c.before.before.field_at.ensures.0)
 
 zero-from-requires-3 : tie.Need-zero-from-requires-3
 zero-from-requires-3 c κs = search rules
@@ -71,7 +71,7 @@ cast-if3 : tie.Need-overflow-cast-if3
 cast-if3 c = search rules
 
 returns-3 : tie.Need-returns-3
-returns-3 c = first-fails _ _ (le-ltb _ _ c.if3.true) ∙ sym (component-literal _ _ _ c.before.before.before.match.keys4 c.before.before.field-at2.ensures.0)
+returns-3 c = first_fails_lem _ _ (le-ltb _ _ c.if3.true) ∙ sym (component-literal _ _ _ c.before.before.before.match.keys4 c.before.before.field-at2.ensures.0)
 
 zero-from-requires-4 : tie.Need-zero-from-requires-4
 zero-from-requires-4 c κs = search rules
@@ -83,7 +83,7 @@ cast-if4 : tie.Need-overflow-cast-if4
 cast-if4 c = search rules
 
 returns-4 : tie.Need-returns-4
-returns-4 c = first-fails _ _ (le-ltb _ _ c.if4.true) ∙ sym (port-literal _ _ _ c.before.before.before.match.keys5 c.before.before.field-at3.ensures.0)
+returns-4 c = first_fails_lem _ _ (le-ltb _ _ c.if4.true) ∙ sym (port-literal _ _ _ c.before.before.before.match.keys5 c.before.before.field-at3.ensures.0)
 
 zero-from-requires-5 : tie.Need-zero-from-requires-5
 zero-from-requires-5 c κs = search rules

@@ -1,5 +1,5 @@
 use native.Mathlib.Omega.{arith}
-use Rattle.checker_pass.proofs.Marking.{marked-outside, marked-node}
+use Rattle.checker_pass.proofs.Marking.{marked-outside, marked_node}
 use borrow.Author.Rules.{rules}
 use Rattle.checker_marks.proofs.mark.Statement.{statement}
 use Rattle.checker_marks.proofs.mark.Tie as tie
@@ -26,7 +26,7 @@ same_length : tie.Need-same-length
 same_length c = search rules
 
 returns-2 : tie.Need-returns-2
-returns-2 c = marked-node _ _ _ _ _ c.before.before.if1.false (omega arith) c.with-home.ensures
+returns-2 c = marked_node _ _ _ _ _ c.before.before.if1.false (omega arith) c.with-home.ensures
 
 pub mark_spec : {M : Type 1} → statement M
 mark_spec =

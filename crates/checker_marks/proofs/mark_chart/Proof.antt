@@ -2,16 +2,16 @@ use borrow.Author.Rules.{rules}
 use native.Mathlib.Omega.{arith}
 use Prim.Native.Nat.{◌-◌, ◌≤◌}
 use mathlib.Core.Path.{◌≡◌, sym, ◌∙◌}
-use Rattle.sheet_rules.specs.Fields.{sumBelow}
+use Rattle.sheet_rules.specs.Fields.{sum_below}
 use Rattle.checker_pass.specs.Marks.{Marked}
-use Rattle.checker_pass.proofs.Marking.{count-start, count-more, count-end, loop-start, loop-more, loop-end}
-use Rattle.sheet.proofs.Sheet.{count-limit, present-below}
-use Rattle.checker_pass.proofs.Added.{rootTurn, bodyTurn, chart-absent, chart-added}
+use Rattle.checker_pass.proofs.Marking.{count-start, count_more_lem, count-end, loop-start, loop_more, loop-end}
+use Rattle.sheet.proofs.Sheet.{count_limit, present-below}
+use Rattle.checker_pass.proofs.Added.{root_turn, body_turn, chart_absent, chart_added}
 use Rattle.checker_marks.proofs.mark_chart.Statement.{statement}
 use Rattle.checker_marks.proofs.mark_chart.Tie as tie
 
 abbrev invariant-loop : tie.invariant-loop
-invariant-loop sheet directory marks₀ count i k first total gone₀ j₀ marks gone j = (j ≤ total) × (gone ≤ j) × (gone ≡ sumBelow j (bodyTurn sheet first)) × Marked count k marks₀ marks (λ n. sumBelow j (rootTurn sheet first n))
+invariant-loop sheet directory marks₀ count i k first total gone₀ j₀ marks gone j = (j ≤ total) × (gone ≤ j) × (gone ≡ sum_below j (body_turn sheet first)) × Marked count k marks₀ marks (λ n. sum_below j (root_turn sheet first n))
 
 abbrev decreases-loop : tie.decreases-loop
 decreases-loop sheet directory marks₀ count i k first total gone₀ j₀ marks gone j = total - j
@@ -26,13 +26,13 @@ enum_told : tie.Need-enum-told invariant-loop decreases-loop
 enum_told c = search rules
 
 returns : tie.Need-returns invariant-loop decreases-loop
-returns c = chart-absent _ _ _ _ _ (sym c.before.before.read.ensures ∙ c.enum_told.given.1)
+returns c = chart_absent _ _ _ _ _ (sym c.before.before.read.ensures ∙ c.enum_told.given.1)
 
 add-k : tie.Need-overflow-add-k invariant-loop decreases-loop
-add-k c = omega (arith, count-limit c.before.before.before.before.before.before.args.sheet.now 4, present-below c.before.before.before.before.before.before.args.sheet.now 4 c.before.before.before.before.before.before.args.i _ (sym c.before.before.before.read.ensures ∙ c.before.c.given.1))
+add-k c = omega (arith, count_limit c.before.before.before.before.before.before.args.sheet.now 4, present-below c.before.before.before.before.before.before.args.sheet.now 4 c.before.before.before.before.before.before.args.i _ (sym c.before.before.before.read.ensures ∙ c.before.c.given.1))
 
 cast-k : tie.Need-overflow-cast-k invariant-loop decreases-loop
-cast-k c = omega (arith, count-limit c.before.before.before.before.before.before.args.sheet.now 4, present-below c.before.before.before.before.before.before.args.sheet.now 4 c.before.before.before.before.before.before.args.i _ (sym c.before.before.before.read.ensures ∙ c.before.c.given.1))
+cast-k c = omega (arith, count_limit c.before.before.before.before.before.before.args.sheet.now 4, present-below c.before.before.before.before.before.before.args.sheet.now 4 c.before.before.before.before.before.before.args.i _ (sym c.before.before.before.read.ensures ∙ c.before.c.given.1))
 
 cast-first : tie.Need-overflow-cast-first invariant-loop decreases-loop
 cast-first c = search rules
@@ -57,7 +57,7 @@ mark-root-requires c κs =
       pre.0,
       (
         omega (arith, c.before.before.loop.invariant.3.kept.long, pre.1),
-        omega (arith, count-limit args.sheet.now 4, present-below args.sheet.now 4 args.i _ c-here-is),
+        omega (arith, count_limit args.sheet.now 4, present-below args.sheet.now 4 args.i _ c-here-is),
       ),
     )
 
@@ -77,15 +77,15 @@ loop-again c =
     let args = c.before.before.before.before.before.before.before.before.before.before.before.before.before.before.args in (
       omega arith,
       omega (arith, loop.invariant.1, mark-root.ensures.1),
-      count-more _ loop.j _ _ loop.invariant.2 mark-root.ensures.0,
-      loop-more _ _ _ _ _ (rootTurn args.sheet.now _) loop.j loop.invariant.3 mark-root.ensures.2,
+      count_more_lem _ loop.j _ _ loop.invariant.2 mark-root.ensures.0,
+      loop_more _ _ _ _ _ (root_turn args.sheet.now _) loop.j loop.invariant.3 mark-root.ensures.2,
     )
 
 same_length : tie.Need-same-length invariant-loop decreases-loop
 same_length c = c.before.loop.invariant.3.kept.long
 
 returns-2 : tie.Need-returns-2 invariant-loop decreases-loop
-returns-2 c = chart-added _ _ _ _ _ _ _ _ (sym c.before.before.before.before.before.before.before.read.ensures ∙ c.before.before.before.before.before.c.given.1) (count-end _ c.before.loop.j _ _ (omega arith) c.before.loop.invariant.2) (omega (arith, c.before.loop.invariant.1)) (loop-end _ _ _ _ (rootTurn c.before.before.before.before.before.before.before.before.before.before.args.sheet.now _) c.before.loop.j _ (omega arith) c.before.loop.invariant.3)
+returns-2 c = chart_added _ _ _ _ _ _ _ _ (sym c.before.before.before.before.before.before.before.read.ensures ∙ c.before.before.before.before.before.c.given.1) (count-end _ c.before.loop.j _ _ (omega arith) c.before.loop.invariant.2) (omega (arith, c.before.loop.invariant.1)) (loop-end _ _ _ _ (root_turn c.before.before.before.before.before.before.before.before.before.before.args.sheet.now _) c.before.loop.j _ (omega arith) c.before.loop.invariant.3)
 
 pub mark-chart-spec : {M : Type 1} → statement M
 mark-chart-spec =

@@ -3,8 +3,8 @@ use Prim.Native.Nat.{ℕ}
 use lib.Dec.{eqb}
 use Rattle.sheet.specs.declared.Record.{Record}
 use Rattle.sheet.specs.Names.{root}
-use Rattle.sheet_rules.specs.Fields.{oneIf}
-use Rattle.checker_pass.proofs.Added.{over-absent, over-present}
+use Rattle.sheet_rules.specs.Fields.{one_if}
+use Rattle.checker_pass.proofs.Added.{over_absent, over-present}
 use borrow.Author.Rules.{rules}
 use Rattle.checker_marks.proofs.mark_root.Statement.{statement}
 use Rattle.checker_marks.proofs.mark_root.Tie as tie
@@ -19,7 +19,7 @@ enum_told : tie.Need-enum-told
 enum_told c = search rules
 
 returns : tie.Need-returns
-returns c = over-absent _ _ _ _ (λ (b : Record) (n : ℕ). oneIf (eqb (root b) n)) (sym c.before.before.read.ensures ∙ c.enum_told.given.1)
+returns c = over_absent _ _ _ _ (λ (b : Record) (n : ℕ). one_if (eqb (root b) n)) (sym c.before.before.read.ensures ∙ c.enum_told.given.1)
 
 cast-mark : tie.Need-overflow-cast-mark
 cast-mark c = search rules
@@ -31,7 +31,7 @@ same_length : tie.Need-same-length
 same_length c = search rules
 
 returns-2 : tie.Need-returns-2
-returns-2 c = over-present _ _ _ _ _ _ (λ (b : Record) (n : ℕ). oneIf (eqb (root b) n)) (sym c.before.before.before.before.before.before.before.before.read.ensures ∙ c.before.before.before.before.before.before.b.given.1) c.before.before.mark.ensures
+returns-2 c = over-present _ _ _ _ _ _ (λ (b : Record) (n : ℕ). one_if (eqb (root b) n)) (sym c.before.before.before.before.before.before.before.before.read.ensures ∙ c.before.before.before.before.before.before.b.given.1) c.before.before.mark.ensures
 
 pub mark-root-spec : {M : Type 1} → statement M
 mark-root-spec =

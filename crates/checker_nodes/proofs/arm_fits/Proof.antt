@@ -1,6 +1,6 @@
 use mathlib.Core.Path.{sym, ◌∙◌}
 use borrow.Author.Tests.{not-true, not-false}
-use Rattle.sheet.proofs.All.{first-fails, first_holds}
+use Rattle.sheet.proofs.All.{first_fails_lem, first_holds}
 use borrow.Author.Rules.{rules}
 use Rattle.checker_nodes.proofs.arm_fits.Statement.{statement}
 use Rattle.checker_nodes.proofs.arm_fits.Tie as tie
@@ -9,7 +9,7 @@ chart-variable-there-requires : tie.Need-chart-variable-there-requires
 chart-variable-there-requires c κs = search rules
 
 returns : tie.Need-returns
-returns c = first-fails _ _ (sym c.before.chart-variable-there.ensures ∙ not-true _ c.if1.true)
+returns c = first_fails_lem _ _ (sym c.before.chart-variable-there.ensures ∙ not-true _ c.if1.true)
 
 send-fits-requires : tie.Need-send-fits-requires
 send-fits-requires c κs = search rules

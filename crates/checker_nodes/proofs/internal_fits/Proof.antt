@@ -1,14 +1,14 @@
 use borrow.Author.Tests.{eq-eqb, ne_eqb}
-use Rattle.sheet.proofs.All.{first-fails, rest-fails, first_holds}
+use Rattle.sheet.proofs.All.{first_fails_lem, rest_fails, first_holds}
 use borrow.Author.Rules.{rules}
 use Rattle.checker_nodes.proofs.internal_fits.Statement.{statement}
 use Rattle.checker_nodes.proofs.internal_fits.Tie as tie
 
 returns : tie.Need-returns
-returns c = first-fails _ _ (ne_eqb _ _ c.if1.true)
+returns c = first_fails_lem _ _ (ne_eqb _ _ c.if1.true)
 
 returns-2 : tie.Need-returns-2
-returns-2 c = rest-fails _ _ (first-fails _ _ (ne_eqb _ _ c.if2.true))
+returns-2 c = rest_fails _ _ (first_fails_lem _ _ (ne_eqb _ _ c.if2.true))
 
 send-fits-requires : tie.Need-send-fits-requires
 send-fits-requires c κs = search rules

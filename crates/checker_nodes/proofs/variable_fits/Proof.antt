@@ -1,5 +1,5 @@
 use borrow.Author.Tests.{lt-ltb, le-ltb}
-use Rattle.sheet.proofs.All.{first-fails, first_holds}
+use Rattle.sheet.proofs.All.{first_fails_lem, first_holds}
 use borrow.Author.Rules.{rules}
 use Rattle.checker_nodes.proofs.variable_fits.Statement.{statement}
 use Rattle.checker_nodes.proofs.variable_fits.Tie as tie
@@ -11,7 +11,7 @@ cast-if1 : tie.Need-overflow-cast-if1
 cast-if1 c = search rules
 
 returns : tie.Need-returns
-returns c = first-fails _ _ (le-ltb _ _ (rw c.before.before.variables-at.ensures at c.if1.true))
+returns c = first_fails_lem _ _ (le-ltb _ _ (rw c.before.before.variables-at.ensures at c.if1.true))
 
 zero-from-requires : tie.Need-zero-from-requires
 zero-from-requires c κs = search rules

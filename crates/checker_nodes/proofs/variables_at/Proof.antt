@@ -3,13 +3,13 @@ use borrow.Author.Tests.{ne_eqb}
 use Prim.Native.Nat.{ℕ}
 use borrow.Author.Rules.{rules}
 use Rattle.sheet.specs.declared.Record.{Record}
-use Rattle.sheet_rules.specs.Shape.{variablesAt}
+use Rattle.sheet_rules.specs.Shape.{variables_at}
 use Rattle.checker_nodes.proofs.variables_at.Statement.{statement}
 use Rattle.checker_nodes.proofs.variables_at.Tie as tie
 
-other : (c b : Record) (place : ℕ) → (place ≡ 0 → ⊥) → (place ≡ 1 → ⊥) → (place ≡ 2 → ⊥) → 0 ≡ variablesAt c b place
-unfolding variablesAt
-other c b place x y z = rw (variablesAt, ne_eqb place 0 x, ne_eqb place 1 y, ne_eqb place 2 z) refl
+other : (c b : Record) (place : ℕ) → (place ≡ 0 → ⊥) → (place ≡ 1 → ⊥) → (place ≡ 2 → ⊥) → 0 ≡ variables_at c b place
+unfolding variables_at
+other c b place x y z = rw (variables_at, ne_eqb place 0 x, ne_eqb place 1 y, ne_eqb place 2 z) refl
 
 cast-result : tie.Need-overflow-cast-result
 cast-result c = search rules
@@ -27,16 +27,16 @@ add-result : tie.Need-overflow-add-result
 add-result c = search rules
 
 returns : tie.Need-returns
-unfolding variablesAt
-returns c = sym (ap (variablesAt c.before.before.args.c c.before.before.args.b) c.before.match.keys1)
+unfolding variables_at
+returns c = sym (ap (variables_at c.before.before.args.c c.before.before.args.b) c.before.match.keys1)
 
 returns-2 : tie.Need-returns-2
-unfolding variablesAt
-returns-2 c = sym (ap (variablesAt c.before.before.args.c c.before.before.args.b) c.before.match.keys2)
+unfolding variables_at
+returns-2 c = sym (ap (variables_at c.before.before.args.c c.before.before.args.b) c.before.match.keys2)
 
 returns-3 : tie.Need-returns-3
-unfolding variablesAt
-returns-3 c = sym (ap (variablesAt c.before.before.before.args.c c.before.before.before.args.b) c.before.before.match.keys3)
+unfolding variables_at
+returns-3 c = sym (ap (variables_at c.before.before.before.args.c c.before.before.before.args.b) c.before.before.match.keys3)
 
 returns-4 : tie.Need-returns-4
 returns-4 c = other _ _ _ c.match.rest.0.0.1 c.match.rest.0.1 c.match.rest.1

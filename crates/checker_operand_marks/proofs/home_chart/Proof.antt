@@ -1,5 +1,5 @@
 use mathlib.Core.Path.{sym, ◌∙◌}
-use Rattle.checker_pass.proofs.Added.{home-none, home-absent, home-there}
+use Rattle.checker_pass.proofs.Added.{home-none, home_absent, home-there}
 use borrow.Author.Rules.{rules}
 use Rattle.checker_operand_marks.proofs.home_chart.Statement.{statement}
 use Rattle.checker_operand_marks.proofs.home_chart.Tie as tie
@@ -20,7 +20,7 @@ enum_told : tie.Need-enum-told
 enum_told c = search rules
 
 returns-2 : tie.Need-returns-2
-returns-2 c = home-absent _ _ (sym c.before.before.read.ensures ∙ c.enum_told.given.1)
+returns-2 c = home_absent _ _ (sym c.before.before.read.ensures ∙ c.enum_told.given.1)
 
 returns-3 : tie.Need-returns-3
 returns-3 c = home-there _ _ _ c.before.before.before.before.if1.false (sym c.before.before.before.read.ensures ∙ c.before.c.given.1)

@@ -3,17 +3,17 @@ use native.Mathlib.Omega.{arith}
 use Prim.Native.Nat.{ℕ, ◌-◌, ◌≤◌}
 use mathlib.Core.Path.{sym, ◌∙◌}
 use mathlib.Core.Path.{ap}
-use Rattle.sheet_rules.specs.Fields.{sumBelow}
+use Rattle.sheet_rules.specs.Fields.{sum_below}
 use Rattle.checker_pass.specs.Marks.{Marked}
-use Rattle.checker_pass.proofs.Marking.{marked-as, loop-start, loop-more, loop-end}
+use Rattle.checker_pass.proofs.Marking.{marked_as, loop-start, loop_more, loop-end}
 use lib.Dec.{eqb}
-use Rattle.sheet_rules.specs.Fields.{oneIf}
-use Rattle.checker_pass.proofs.Added.{operandTurn, operands-absent, operands-added}
+use Rattle.sheet_rules.specs.Fields.{one_if}
+use Rattle.checker_pass.proofs.Added.{operand_turn, operands_absent, operands_added}
 use Rattle.checker_operand_marks.proofs.mark_operands.Statement.{statement}
 use Rattle.checker_operand_marks.proofs.mark_operands.Tie as tie
 
 abbrev invariant-loop : tie.invariant-loop
-invariant-loop sheet directory marks₀ m k r gone o total j₀ marks j = (j ≤ total) × Marked m k marks₀ marks (λ n. sumBelow j (operandTurn r o n))
+invariant-loop sheet directory marks₀ m k r gone o total j₀ marks j = (j ≤ total) × Marked m k marks₀ marks (λ n. sum_below j (operand_turn r o n))
 
 abbrev decreases-loop : tie.decreases-loop
 decreases-loop sheet directory marks₀ m k r gone o total j₀ marks j = total - j
@@ -28,7 +28,7 @@ enum_told : tie.Need-enum-told invariant-loop decreases-loop
 enum_told c = search rules
 
 returns : tie.Need-returns invariant-loop decreases-loop
-returns c = operands-absent _ _ _ _ _ (sym c.before.before.read.ensures ∙ c.enum_told.given.1)
+returns c = operands_absent _ _ _ _ _ (sym c.before.before.read.ensures ∙ c.enum_told.given.1)
 
 operands-at-requires : tie.Need-operands-at-requires invariant-loop decreases-loop
 operands-at-requires c κs = search rules
@@ -52,13 +52,13 @@ loop-less : tie.Need-loop-smaller invariant-loop decreases-loop
 loop-less c = search rules
 
 loop-again : tie.Need-loop-preserved invariant-loop decreases-loop
-loop-again c = (omega arith, loop-more _ _ _ _ _ (operandTurn _ _) c.before.before.before.before.before.before.loop.j c.before.before.before.before.before.before.loop.invariant.1 (marked-as _ _ _ _ _ _ (λ n l. ap (λ (x : ℕ). oneIf (eqb x n)) c.before.before.before.operand.ensures.0) c.before.before.mark.ensures))
+loop-again c = (omega arith, loop_more _ _ _ _ _ (operand_turn _ _) c.before.before.before.before.before.before.loop.j c.before.before.before.before.before.before.loop.invariant.1 (marked_as _ _ _ _ _ _ (λ n l. ap (λ (x : ℕ). one_if (eqb x n)) c.before.before.before.operand.ensures.0) c.before.before.mark.ensures))
 
 same_length : tie.Need-same-length invariant-loop decreases-loop
 same_length c = c.before.loop.invariant.1.kept.long
 
 returns-2 : tie.Need-returns-2 invariant-loop decreases-loop
-returns-2 c = operands-added _ _ _ _ _ _ _ _ (sym c.before.before.before.before.before.before.before.read.ensures ∙ c.before.before.before.before.before.r.given.1) c.before.before.before.operands-at.ensures.0 (loop-end _ _ _ _ (operandTurn _ _) c.before.loop.j _ (omega arith) c.before.loop.invariant.1)
+returns-2 c = operands_added _ _ _ _ _ _ _ _ (sym c.before.before.before.before.before.before.before.read.ensures ∙ c.before.before.before.before.before.r.given.1) c.before.before.before.operands-at.ensures.0 (loop-end _ _ _ _ (operand_turn _ _) c.before.loop.j _ (omega arith) c.before.loop.invariant.1)
 
 pub mark-operands-spec : {M : Type 1} → statement M
 mark-operands-spec =

@@ -1,5 +1,5 @@
 use mathlib.Core.Path.{ap, ◌∙◌}
-use Rattle.sheet_rules.specs.Forms.{operandsOf}
+use Rattle.sheet_rules.specs.Forms.{operands_of}
 use Rattle.sheet_rules.proofs.Forms.{operands-plain}
 use Rattle.sheet.specs.declared.Record.{Record}
 use borrow.Author.Rules.{rules}
@@ -13,7 +13,7 @@ operands-requires : tie.Need-operands-requires
 operands-requires c κs = search rules
 
 returns : tie.Need-returns
-returns c = (c.operands.ensures.0 ∙ ap (λ (x : Record). operandsOf c.before.before.before.before.before.args.sheet.now x c.before.before.before.before.before.args.r) c.before.home-chart.ensures, c.operands.ensures.1)
+returns c = (c.operands.ensures.0 ∙ ap (λ (x : Record). operands_of c.before.before.before.before.before.args.sheet.now x c.before.before.before.before.before.args.r) c.before.home-chart.ensures, c.operands.ensures.1)
 
 home-chart-requires-2 : tie.Need-home-chart-requires-2
 home-chart-requires-2 c κs = search rules

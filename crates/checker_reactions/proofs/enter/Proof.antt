@@ -1,7 +1,7 @@
 use native.Mathlib.Omega.{arith}
 use mathlib.Core.Path.{sym, ◌∙◌}
 use borrow.Author.Rules.{rules}
-use Rattle.checker_reactions.proofs.Entries.{body-small, enter-absent, enter-other, enter-past, enter-it}
+use Rattle.checker_reactions.proofs.Entries.{body-small, enter_absent, enter_other, enter_past, enter_it}
 use Rattle.checker_reactions.proofs.enter.Statement.{statement}
 use Rattle.checker_reactions.proofs.enter.Tie as tie
 
@@ -15,16 +15,16 @@ enum_told : tie.Need-enum-told
 enum_told c = search rules
 
 returns : tie.Need-returns
-returns c = enter-absent _ _ _ c.before.before.before.before.requires.1 (sym c.before.before.read.ensures ∙ c.enum_told.given.1)
+returns c = enter_absent _ _ _ c.before.before.before.before.requires.1 (sym c.before.before.read.ensures ∙ c.enum_told.given.1)
 
 returns-2 : tie.Need-returns-2
-returns-2 c = enter-other _ _ _ c.before.before.before.before.before.before.before.requires.1 _ (sym c.before.before.before.before.before.read.ensures ∙ c.before.before.before.b.given.1) c.if1.true
+returns-2 c = enter_other _ _ _ c.before.before.before.before.before.before.before.requires.1 _ (sym c.before.before.before.before.before.read.ensures ∙ c.before.before.before.b.given.1) c.if1.true
 
 cast-n : tie.Need-overflow-cast-n
 cast-n c = search rules
 
 returns-3 : tie.Need-returns-3
-returns-3 c = enter-past _ _ _ c.before.before.before.before.before.before.before.before.before.requires.1 _ (sym c.before.before.before.before.before.before.before.read.ensures ∙ c.before.before.before.before.before.b.given.1) c.before.before.if1.false c.if2.true
+returns-3 c = enter_past _ _ _ c.before.before.before.before.before.before.before.before.before.requires.1 _ (sym c.before.before.before.before.before.before.before.read.ensures ∙ c.before.before.before.before.before.b.given.1) c.before.before.if1.false c.if2.true
 
 add-table : tie.Need-overflow-add-table
 add-table c = omega (arith, body-small _ _ _ (sym c.before.before.before.before.before.before.before.read.ensures ∙ c.before.before.before.before.before.b.given.1))
@@ -39,7 +39,7 @@ element-write-table : tie.Need-element-write-table
 element-write-table c = search rules
 
 returns-4 : tie.Need-returns-4
-returns-4 c = enter-it _ _ _ c.before.before.before.before.before.before.before.before.before.requires.1 _ (sym c.before.before.before.before.before.before.before.read.ensures ∙ c.before.before.before.before.before.b.given.1) c.before.before.if1.false c.if2.false
+returns-4 c = enter_it _ _ _ c.before.before.before.before.before.before.before.before.before.requires.1 _ (sym c.before.before.before.before.before.before.before.read.ensures ∙ c.before.before.before.before.before.b.given.1) c.before.before.if1.false c.if2.false
 
 pub enter_spec : {M : Type 1} → statement M
 enter_spec =

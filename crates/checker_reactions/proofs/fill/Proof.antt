@@ -1,14 +1,14 @@
 use native.Mathlib.Omega.{arith}
 use Prim.Native.Nat.{◌-◌, ◌≤◌}
 use borrow.Author.Rules.{rules}
-use Rattle.sheet_rules.specs.Types.{reactsTo}
+use Rattle.sheet_rules.specs.Types.{reacts_to}
 use Rattle.checker_reactions.specs.Entries.{Entries}
-use Rattle.checker_reactions.proofs.Entries.{Filled, filled_none, filled_more, filled-table, entered-entries}
+use Rattle.checker_reactions.proofs.Entries.{Filled, filled_none, filled_more, filled_table, entered-entries}
 use Rattle.checker_reactions.proofs.fill.Statement.{statement}
 use Rattle.checker_reactions.proofs.fill.Tie as tie
 
 abbrev invariant-loop : tie.invariant-loop
-invariant-loop sheet directory table₀ first count j₀ table j = (j ≤ count) × Entries sheet reactsTo table × Filled sheet first j table
+invariant-loop sheet directory table₀ first count j₀ table j = (j ≤ count) × Entries sheet reacts_to table × Filled sheet first j table
 
 abbrev decreases-loop : tie.decreases-loop
 decreases-loop sheet directory table₀ first count j₀ table j = count - j
@@ -38,7 +38,7 @@ loop-again : tie.Need-loop-preserved invariant-loop decreases-loop
 loop-again c = (omega arith, entered-entries _ _ _ _ _ c.before.before.before.loop.invariant.1 c.enter.ensures, filled_more _ _ _ _ _ c.before.before.before.loop.invariant.2 c.enter.ensures)
 
 returns : tie.Need-returns invariant-loop decreases-loop
-returns c = (c.before.loop.invariant.1, filled-table _ _ _ _ c.before.loop.invariant.0 c.loop-test.false c.before.loop.invariant.1 c.before.loop.invariant.2)
+returns c = (c.before.loop.invariant.1, filled_table _ _ _ _ c.before.loop.invariant.0 c.loop-test.false c.before.loop.invariant.1 c.before.loop.invariant.2)
 
 pub fill_spec : {M : Type 1} → statement M
 fill_spec =

@@ -4,24 +4,24 @@ use mathlib.Core.List.{List}
 use Prim.Native.Nat.{ℕ, ◌+◌, ◌-◌, ◌≤◌, ◌<◌}
 use borrow.Author.Rules.{rules}
 use Rattle.sheet.specs.declared.Record.{Record}
-use Rattle.sheet_rules.specs.Fields.{oneIf, sumBelow, countBelow}
+use Rattle.sheet_rules.specs.Fields.{one_if, sum_below, count_below}
 use Rattle.sheet_rules.proofs.Fields.{sum_more}
-use Rattle.sheet_rules.specs.Static.{hasRole, bodiesWith}
+use Rattle.sheet_rules.specs.Static.{has_role, bodies_with}
 use Rattle.checker_roles.proofs.bodies_with.Statement.{statement}
 use Rattle.checker_roles.proofs.bodies_with.Tie as tie
 
 abbrev counts : List ℕ → ℕ → ℕ → ℕ → ℕ
-counts s first k j = oneIf (hasRole s (first + j) k)
+counts s first k j = one_if (has_role s (first + j) k)
 
-more : (s : List ℕ) (first k j n x : ℕ) → n ≡ sumBelow j (counts s first k) → x ≡ oneIf (hasRole s (first + j) k) → n + x ≡ sumBelow (j + 1) (counts s first k)
+more : (s : List ℕ) (first k j n x : ℕ) → n ≡ sum_below j (counts s first k) → x ≡ one_if (has_role s (first + j) k) → n + x ≡ sum_below (j + 1) (counts s first k)
 more s first k j n x p q = rw (p, q) (sym (sum_more j (counts s first k)))
 
-all-counted : (s : List ℕ) (c : Record) (k j n : ℕ) → j ≤ c.f5 → c.f5 ≤ j → n ≡ sumBelow j (counts s c.f4 k) → n ≡ bodiesWith s c k
-unfolding bodiesWith countBelow
-all-counted s c k j n a b p = let same : j ≡ c.f5 = omega arith in p ∙ ap (λ m. sumBelow m (counts s c.f4 k)) same
+all-counted : (s : List ℕ) (c : Record) (k j n : ℕ) → j ≤ c.f5 → c.f5 ≤ j → n ≡ sum_below j (counts s c.f4 k) → n ≡ bodies_with s c k
+unfolding bodies_with count_below
+all-counted s c k j n a b p = let same : j ≡ c.f5 = omega arith in p ∙ ap (λ m. sum_below m (counts s c.f4 k)) same
 
 abbrev invariant-loop : tie.invariant-loop
-invariant-loop sheet directory role first count n₀ j₀ n j = (j ≤ count) × (count < 65536) × (n ≤ j) × (n ≡ sumBelow j (counts sheet first role))
+invariant-loop sheet directory role first count n₀ j₀ n j = (j ≤ count) × (count < 65536) × (n ≤ j) × (n ≡ sum_below j (counts sheet first role))
 
 abbrev decreases-loop : tie.decreases-loop
 decreases-loop sheet directory role first count n₀ j₀ n j = count - j
@@ -33,7 +33,7 @@ cast-count : tie.Need-overflow-cast-count invariant-loop decreases-loop
 cast-count c = search rules
 
 loop-holds : tie.Need-loop-init invariant-loop decreases-loop
-unfolding sumBelow
+unfolding sum_below
 loop-holds c = (omega arith, omega arith, omega arith, refl)
 
 add-role-count : tie.Need-overflow-add-role-count invariant-loop decreases-loop

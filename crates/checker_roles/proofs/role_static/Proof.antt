@@ -6,25 +6,25 @@ use Prim.Native.Nat.{ℕ, ◌≤◌, ◌<◌}
 use borrow.Author.Tests.{le-leb, lt-leb}
 use lib.Dec.{leb, eqb}
 use borrow.Author.Rules.{rules}
-use Rattle.sheet.proofs.All.{and-true, and-false, false-and, below-is}
+use Rattle.sheet.proofs.All.{and-true, and-false, false-and, below_is_lem}
 use Rattle.sheet.specs.declared.Record.{Record}
-use Rattle.sheet_rules.specs.Shape.{isReaction}
-use Rattle.sheet_rules.specs.Static.{reactionStatic, roleStatic}
+use Rattle.sheet_rules.specs.Shape.{is_reaction}
+use Rattle.sheet_rules.specs.Static.{reaction_static, role_static}
 use Rattle.checker_roles.proofs.role_static.Statement.{statement}
 use Rattle.checker_roles.proofs.role_static.Tie as tie
 
 module _ (s : List ℕ) (b : Record) where
-  first_two : b.f0 < 2 → roleStatic s b ≡ eqb b.f4 0
-  unfolding roleStatic isReaction
-  first_two h = rw (roleStatic, false-and (leb 2 b.f0) (leb b.f0 3) (lt-leb 2 b.f0 h), le-leb b.f0 1 (omega arith)) refl
+  first_two : b.f0 < 2 → role_static s b ≡ eqb b.f4 0
+  unfolding role_static is_reaction
+  first_two h = rw (role_static, false-and (leb 2 b.f0) (leb b.f0 3) (lt-leb 2 b.f0 h), le-leb b.f0 1 (omega arith)) refl
 
-  a-reaction : 2 ≤ b.f0 → b.f0 ≤ 3 → roleStatic s b ≡ reactionStatic s b
-  unfolding roleStatic isReaction
-  a-reaction h k = rw (roleStatic, and-true (leb 2 b.f0) (leb b.f0 3) (le-leb 2 b.f0 h) (le-leb b.f0 3 k)) refl
+  a-reaction : 2 ≤ b.f0 → b.f0 ≤ 3 → role_static s b ≡ reaction_static s b
+  unfolding role_static is_reaction
+  a-reaction h k = rw (role_static, and-true (leb 2 b.f0) (leb b.f0 3) (le-leb 2 b.f0 h) (le-leb b.f0 3 k)) refl
 
-  another : 3 < b.f0 → roleStatic s b ≡ true
-  unfolding roleStatic isReaction
-  another h = rw (roleStatic, and-false (leb 2 b.f0) (leb b.f0 3) (lt-leb b.f0 3 h), lt-leb b.f0 1 (omega arith)) refl
+  another : 3 < b.f0 → role_static s b ≡ true
+  unfolding role_static is_reaction
+  another h = rw (role_static, and-false (leb 2 b.f0) (leb b.f0 3) (lt-leb b.f0 3 h), lt-leb b.f0 1 (omega arith)) refl
 
 reaction-static-requires : tie.Need-reaction-static-requires
 reaction-static-requires c κs = search rules
@@ -33,7 +33,7 @@ returns : tie.Need-returns
 returns c = sym (first_two _ _ c.before.if1.true)
 
 returns-2 : tie.Need-returns-2
-returns-2 c = c.reaction-static.ensures ∙ sym (a-reaction _ _ c.before.before.if1.false (below-is _ _ c.before.if2.true))
+returns-2 c = c.reaction-static.ensures ∙ sym (a-reaction _ _ c.before.before.if1.false (below_is_lem _ _ c.before.if2.true))
 
 returns-3 : tie.Need-returns-3
 returns-3 c = sym (another _ _ c.if2.false)

@@ -2,22 +2,22 @@ use Prim.Native.Nat.{ℕ}
 use mathlib.Core.Path.{◌≡◌, refl}
 use native.Mathlib.Omega.{arith}
 use borrow.Author.Tests.{eq-eqb, ne_eqb}
-use Rattle.sheet_rules.specs.Types.{clockOf}
+use Rattle.sheet_rules.specs.Types.{clock_of}
 use Rattle.checker_sends.proofs.clock_of.Statement.{statement}
 use Rattle.checker_sends.proofs.clock_of.Tie as tie
 
 module _ (op : ℕ) where
-  clock-36 : op ≡ 36 → 5 ≡ clockOf op
-  unfolding clockOf
-  clock-36 e = rw (clockOf, e) refl
+  clock-36 : op ≡ 36 → 5 ≡ clock_of op
+  unfolding clock_of
+  clock-36 e = rw (clock_of, e) refl
 
-  clock-37 : op ≡ 37 → 6 ≡ clockOf op
-  unfolding clockOf
-  clock-37 e = rw (clockOf, ne_eqb op 36 (λ z. omega arith), eq-eqb _ 37 e) refl
+  clock-37 : op ≡ 37 → 6 ≡ clock_of op
+  unfolding clock_of
+  clock-37 e = rw (clock_of, ne_eqb op 36 (λ z. omega arith), eq-eqb _ 37 e) refl
 
-  clock-rest : (op ≡ 36 → ⊥) → (op ≡ 37 → ⊥) → 4 ≡ clockOf op
-  unfolding clockOf
-  clock-rest a b = rw (clockOf, ne_eqb _ _ a, ne_eqb _ _ b) refl
+  clock-rest : (op ≡ 36 → ⊥) → (op ≡ 37 → ⊥) → 4 ≡ clock_of op
+  unfolding clock_of
+  clock-rest a b = rw (clock_of, ne_eqb _ _ a, ne_eqb _ _ b) refl
 
 returns : tie.Need-returns
 returns c = clock-36 _ c.match.keys1

@@ -3,22 +3,22 @@ use mathlib.Core.Path.{◌≡◌, sym, ap, ◌∙◌}
 use mathlib.Core.Bool.{true}
 use mathlib.Core.List.{List}
 use native.Mathlib.Omega.{arith}
-use Rattle.sheet.specs.Table.{lookUp}
+use Rattle.sheet.specs.Table.{look_up}
 use Rattle.sheet.proofs.All.{all_true}
-use Rattle.sheet.proofs.Sheet.{record-present}
+use Rattle.sheet.proofs.Sheet.{record_present}
 use Rattle.sheet_rules.proofs.Fields.{holds-present}
 use Rattle.sheet_rules.proofs.Shape.{section-each, section-bindings}
-use Rattle.sheet_rules.specs.Shape.{recordShape, eachShape, sectionShape}
+use Rattle.sheet_rules.specs.Shape.{record_shape, each_shape, section_shape}
 use borrow.Author.Rules.{rules}
 use Rattle.checker_shape.proofs.section_fits.Statement.{statement}
 use Rattle.checker_shape.proofs.section_fits.Tie as tie
 
-nodes-free : (s : List ℕ) → eachShape s 6 ≡ true
-unfolding eachShape recordShape lookUp
-nodes-free s = all_true _ _ (λ i l. holds-present _ _ (recordShape s 6 i) (record-present s 6 i l))
+nodes-free : (s : List ℕ) → each_shape s 6 ≡ true
+unfolding each_shape record_shape look_up
+nodes-free s = all_true _ _ (λ i l. holds-present _ _ (record_shape s 6 i) (record_present s 6 i l))
 
 returns : tie.Need-returns
-returns c = sym (ap (sectionShape c.before.before.args.sheet.now) c.if1.true ∙ section-each _ 6 (λ q. omega arith) ∙ nodes-free c.before.before.args.sheet.now)
+returns c = sym (ap (section_shape c.before.before.args.sheet.now) c.if1.true ∙ section-each _ 6 (λ q. omega arith) ∙ nodes-free c.before.before.args.sheet.now)
 
 bindings-fit-requires : tie.Need-bindings-fit-requires
 bindings-fit-requires c κs = search rules

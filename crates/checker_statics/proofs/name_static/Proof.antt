@@ -1,5 +1,5 @@
 use borrow.Author.Rules.{rules}
-use Rattle.sheet_rules.specs.Static.{nameStatic}
+use Rattle.sheet_rules.specs.Static.{name_static}
 use Rattle.checker_statics.proofs.name_static.Statement.{statement}
 use Rattle.checker_statics.proofs.name_static.Tie as tie
 
@@ -13,7 +13,7 @@ plain-data-requires : tie.Need-plain-data-requires
 plain-data-requires c κs = search rules
 
 returns : tie.Need-returns
-unfolding nameStatic
+unfolding name_static
 returns c = c.plain-data.ensures
 
 pub name-static-spec : {M : Type 1} → statement M

@@ -5,19 +5,19 @@ use mathlib.Core.List.{List}
 use Prim.Native.Nat.{ℕ, ◌-◌, ◌≤◌}
 use borrow.Author.Tests.{not-true, not-false}
 use borrow.Author.Rules.{rules}
-use Rattle.sheet.proofs.Sheet.{count-opened}
+use Rattle.sheet.proofs.Sheet.{count_opened}
 use Rattle.sheet.specs.All.{all_below}
-use Rattle.sheet.proofs.All.{all_more, loop-fails, loop-ends}
-use Rattle.sheet_rules.proofs.Fields.{holds-present, holds-absent}
-use Rattle.sheet.specs.Sheet.{recordOf}
+use Rattle.sheet.proofs.All.{all_more, loop_fails, loop_ends}
+use Rattle.sheet_rules.proofs.Fields.{holds-present, holds_absent}
+use Rattle.sheet.specs.Sheet.{record_of}
 use Rattle.sheet_rules.specs.Fields.{holds}
-use Rattle.sheet_rules.specs.Static.{recordStatic, eachStatic}
+use Rattle.sheet_rules.specs.Static.{record_static, each_static}
 use Rattle.checker_reactions.specs.Entries.{Ready}
 use Rattle.checker_statics.proofs.records_static.Statement.{statement}
 use Rattle.checker_statics.proofs.records_static.Tie as tie
 
 abbrev fits : List ℕ → ℕ → ℕ → Bool
-fits s k i = holds (recordOf s k i) (recordStatic s k)
+fits s k i = holds (record_of s k i) (record_static s k)
 
 abbrev invariant-loop : tie.invariant-loop
 invariant-loop sheet directory table₀ last₀ previous₀ k count i₀ table last previous i = (i ≤ count) × (all_below i (fits sheet k) ≡ true) × Ready sheet table last previous
@@ -42,14 +42,14 @@ enum_told : tie.Need-enum-told invariant-loop decreases-loop
 enum_told c = search rules
 
 returns : tie.Need-returns invariant-loop decreases-loop
-unfolding eachStatic
-returns c = (loop-fails _ _ _ _ (count-opened _ _ _ c.before.before.before.before.before.count-in.ensures _ c.before.before.before.before.before.before.before.requires.0) c.before.before.before.loop-test.true (holds-absent _ _ (sym c.before.before.read.ensures ∙ c.enum_told.given.1)), c.before.before.before.before.loop.invariant.2)
+unfolding each_static
+returns c = (loop_fails _ _ _ _ (count_opened _ _ _ c.before.before.before.before.before.count-in.ensures _ c.before.before.before.before.before.before.before.requires.0) c.before.before.before.loop-test.true (holds_absent _ _ (sym c.before.before.read.ensures ∙ c.enum_told.given.1)), c.before.before.before.before.loop.invariant.2)
 
 record-static-requires : tie.Need-record-static-requires invariant-loop decreases-loop
 record-static-requires c κs = (c.before.before.before.before.before.before.before.before.before.before.before.requires.0, c.before.before.before.before.before.before.before.before.loop.invariant.2)
 
 returns-2 : tie.Need-returns-2 invariant-loop decreases-loop
-unfolding eachStatic
+unfolding each_static
 returns-2 c =
     let at8 = c.before.before.before.before.before.before.before.before in
     let r = c.before.before.before.before.before.before.r in
@@ -58,7 +58,7 @@ returns-2 c =
     let count-in = at8.before.before.before.count-in in
     let pre = at8.before.before.before.before.before.requires in
     let r-is = sym read.ensures ∙ r.given.1 in (
-      loop-fails _ _ _ _ (count-opened _ _ _ count-in.ensures _ pre.0) loop-test.true
+      loop_fails _ _ _ _ (count_opened _ _ _ count-in.ensures _ pre.0) loop-test.true
           (holds-present _ _ _ r-is ∙ sym c.before.record-static.ensures.0 ∙ not-true _ c.if1.true),
       c.before.record-static.ensures.1,
     )
@@ -81,8 +81,8 @@ loop-again c =
     )
 
 returns-3 : tie.Need-returns-3 invariant-loop decreases-loop
-unfolding eachStatic
-returns-3 c = (loop-ends _ _ _ _ (count-opened _ _ _ c.before.before.count-in.ensures _ c.before.before.before.before.requires.0) c.before.loop.invariant.0 c.loop-test.false c.before.loop.invariant.1, c.before.loop.invariant.2)
+unfolding each_static
+returns-3 c = (loop_ends _ _ _ _ (count_opened _ _ _ c.before.before.count-in.ensures _ c.before.before.before.before.requires.0) c.before.loop.invariant.0 c.loop-test.false c.before.loop.invariant.1, c.before.loop.invariant.2)
 
 pub records-static-spec : {M : Type 1} → statement M
 records-static-spec =

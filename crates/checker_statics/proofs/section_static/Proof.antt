@@ -3,22 +3,22 @@ use mathlib.Core.Path.{◌≡◌, sym, ap, ◌∙◌}
 use mathlib.Core.Bool.{true}
 use mathlib.Core.List.{List}
 use native.Mathlib.Omega.{arith}
-use Rattle.sheet.specs.Table.{lookUp}
+use Rattle.sheet.specs.Table.{look_up}
 use Rattle.sheet.proofs.All.{all_true}
-use Rattle.sheet.proofs.Sheet.{record-present}
+use Rattle.sheet.proofs.Sheet.{record_present}
 use Rattle.sheet_rules.proofs.Fields.{holds-present}
 use Rattle.sheet_rules.proofs.Shape.{static-each, static-bindings}
-use Rattle.sheet_rules.specs.Static.{recordStatic, eachStatic, sectionStatic}
+use Rattle.sheet_rules.specs.Static.{record_static, each_static, section_static}
 use borrow.Author.Rules.{rules}
 use Rattle.checker_statics.proofs.section_static.Statement.{statement}
 use Rattle.checker_statics.proofs.section_static.Tie as tie
 
-nodes-free : (s : List ℕ) → eachStatic s 6 ≡ true
-unfolding eachStatic recordStatic lookUp
-nodes-free s = all_true _ _ (λ i l. holds-present _ _ (recordStatic s 6) (record-present s 6 i l))
+nodes-free : (s : List ℕ) → each_static s 6 ≡ true
+unfolding each_static record_static look_up
+nodes-free s = all_true _ _ (λ i l. holds-present _ _ (record_static s 6) (record_present s 6 i l))
 
 returns : tie.Need-returns
-returns c = (sym (ap (sectionStatic c.before.before.args.sheet.now) c.if1.true ∙ static-each _ 6 (λ q. omega arith) ∙ nodes-free c.before.before.args.sheet.now), c.before.before.requires.1)
+returns c = (sym (ap (section_static c.before.before.args.sheet.now) c.if1.true ∙ static-each _ 6 (λ q. omega arith) ∙ nodes-free c.before.before.args.sheet.now), c.before.before.requires.1)
 
 bindings-static-requires : tie.Need-bindings-static-requires
 bindings-static-requires c κs = search rules

@@ -11,16 +11,16 @@ use borrow.Author.Rules.{rules}
 use borrow.Fn.Kinds.{In}
 use borrow.Fn.PlainCycle.{Measures, is, falls, and as joined}
 use Rattle.sheet.specs.All.{◌and◌, all_below}
-use Rattle.sheet.proofs.All.{first-fails, rest-fails, first_holds, false-and, true-and, all_more, loop-fails, loop-ends}
+use Rattle.sheet.proofs.All.{first_fails_lem, rest_fails, first_holds, false-and, true-and, all_more, loop_fails, loop_ends}
 use Rattle.sheet.specs.declared.Record.{Record}
 use Rattle.sheet.specs.declared.Found.TheVariants.{Present, Absent}
-use Rattle.sheet.specs.Sheet.{recordOf}
+use Rattle.sheet.specs.Sheet.{record_of}
 use Rattle.sheet_rules.specs.declared.Operands.{Operands}
 use Rattle.sheet_rules.specs.Fields.{holds}
-use Rattle.sheet_rules.specs.Forms.{form_of, operandsOf, operandCount, operand_at}
-use Rattle.sheet_rules.proofs.Fields.{holds-present, holds-absent}
+use Rattle.sheet_rules.specs.Forms.{form_of, operands_of, operand_count, operand_at}
+use Rattle.sheet_rules.proofs.Fields.{holds-present, holds_absent}
 use Rattle.sheet_fields.specs.Small.{Small}
-use Rattle.sheet_rules.specs.Shape.{fieldsShape, treeShape}
+use Rattle.sheet_rules.specs.Shape.{fields_shape, tree_shape}
 use Rattle.checker_trees.proofs.tree_fits.Reads as tree-fits
 use Rattle.checker_trees.proofs.tree_fits.Kinds as tree-fits-kinds
 use Rattle.checker_trees.proofs.+tree_fits.Lts-tree_fits as tree-fits-lts
@@ -39,39 +39,39 @@ small-index o j h l = omega arith
 
 -- operand j of a node fits
 unfoldable operandFits : List ℕ → Record → Record → ℕ → ℕ → Record → ℕ → Bool
-operandFits s c b k n r j = ltb (operand_at r (operandsOf s c r) j) n and treeShape s c b k (operand_at r (operandsOf s c r) j)
+operandFits s c b k n r j = ltb (operand_at r (operands_of s c r) j) n and tree_shape s c b k (operand_at r (operands_of s c r) j)
 
-tree-none : (s : List ℕ) (c b : Record) (levels n : ℕ) → levels ≡ 0 → false ≡ treeShape s c b levels n
-unfolding treeShape
+tree-none : (s : List ℕ) (c b : Record) (levels n : ℕ) → levels ≡ 0 → false ≡ tree_shape s c b levels n
+unfolding tree_shape
 tree-none s c b levels n e = rw e refl
 
 module _ (s : List ℕ) (c b : Record) (levels n : ℕ) (some : levels ≡ 0 → ⊥) where
-  tree-step : treeShape s c b levels n ≡ holds (recordOf s 6 n) (λ r. fieldsShape s c b r (form_of r.f0) and all_below (operandCount (operandsOf s c r)) (operandFits s c b (levels - 1) n r))
-  unfolding treeShape operandFits
+  tree-step : tree_shape s c b levels n ≡ holds (record_of s 6 n) (λ r. fields_shape s c b r (form_of r.f0) and all_below (operand_count (operands_of s c r)) (operandFits s c b (levels - 1) n r))
+  unfolding tree_shape operandFits
   tree-step = let e : levels ≡ suc (levels - 1) = omega arith in go (levels - 1) e
     where
-      go : (k : ℕ) → levels ≡ suc k → treeShape s c b levels n ≡ holds (recordOf s 6 n) (λ r. fieldsShape s c b r (form_of r.f0) and all_below (operandCount (operandsOf s c r)) (operandFits s c b k n r))
+      go : (k : ℕ) → levels ≡ suc k → tree_shape s c b levels n ≡ holds (record_of s 6 n) (λ r. fields_shape s c b r (form_of r.f0) and all_below (operand_count (operands_of s c r)) (operandFits s c b k n r))
       go k e = rw e refl
 
-  tree-absent : recordOf s 6 n ≡ Absent → false ≡ treeShape s c b levels n
-  tree-absent e = sym (tree-step ∙ holds-absent _ _ e)
+  tree-absent : record_of s 6 n ≡ Absent → false ≡ tree_shape s c b levels n
+  tree-absent e = sym (tree-step ∙ holds_absent _ _ e)
 
-  module _ (r : Record) (here : recordOf s 6 n ≡ Present r) where
-    tree-at : treeShape s c b levels n ≡ fieldsShape s c b r (form_of r.f0) and all_below (operandCount (operandsOf s c r)) (operandFits s c b (levels - 1) n r)
+  module _ (r : Record) (here : record_of s 6 n ≡ Present r) where
+    tree-at : tree_shape s c b levels n ≡ fields_shape s c b r (form_of r.f0) and all_below (operand_count (operands_of s c r)) (operandFits s c b (levels - 1) n r)
     tree-at = tree-step ∙ holds-present _ _ _ here
 
-    module _ (o : Operands) (e : o ≡ operandsOf s c r) (j : ℕ) where
-      one-fails : j < o.count + o.tail → operandFits s c b (levels - 1) n r j ≡ false → false ≡ treeShape s c b levels n
-      one-fails l f = rest-fails _ _ (loop-fails _ _ _ _ (ap operandCount e) l f) ∙ sym tree-at
+    module _ (o : Operands) (e : o ≡ operands_of s c r) (j : ℕ) where
+      one-fails : j < o.count + o.tail → operandFits s c b (levels - 1) n r j ≡ false → false ≡ tree_shape s c b levels n
+      one-fails l f = rest_fails _ _ (loop_fails _ _ _ _ (ap operand_count e) l f) ∙ sym tree-at
 
-      all_fit : fieldsShape s c b r (form_of r.f0) ≡ true → j ≤ o.count + o.tail → o.count + o.tail ≤ j → all_below j (operandFits s c b (levels - 1) n r) ≡ true → true ≡ treeShape s c b levels n
-      all_fit p a d h = first_holds _ _ _ p (loop-ends _ _ _ _ (ap operandCount e) a d h) ∙ sym tree-at
+      all_fit : fields_shape s c b r (form_of r.f0) ≡ true → j ≤ o.count + o.tail → o.count + o.tail ≤ j → all_below j (operandFits s c b (levels - 1) n r) ≡ true → true ≡ tree_shape s c b levels n
+      all_fit p a d h = first_holds _ _ _ p (loop_ends _ _ _ _ (ap operand_count e) a d h) ∙ sym tree-at
 
-operand-high : (s : List ℕ) (c b : Record) (k n : ℕ) (r : Record) (o : Operands) (j : ℕ) {m : ℕ} → o ≡ operandsOf s c r → m ≡ operand_at r o j → n ≤ m → operandFits s c b k n r j ≡ false
+operand-high : (s : List ℕ) (c b : Record) (k n : ℕ) (r : Record) (o : Operands) (j : ℕ) {m : ℕ} → o ≡ operands_of s c r → m ≡ operand_at r o j → n ≤ m → operandFits s c b k n r j ≡ false
 unfolding operandFits
 operand-high s c b k n r o j {m} e p h = false-and _ _ (le-ltb _ _ (rw (p, e) at h))
 
-operand-tree : (s : List ℕ) (c b : Record) (k n : ℕ) (r : Record) (o : Operands) (j : ℕ) (x : Bool) {m : ℕ} → o ≡ operandsOf s c r → m ≡ operand_at r o j → m < n → x ≡ treeShape s c b k m → operandFits s c b k n r j ≡ x
+operand-tree : (s : List ℕ) (c b : Record) (k n : ℕ) (r : Record) (o : Operands) (j : ℕ) (x : Bool) {m : ℕ} → o ≡ operands_of s c r → m ≡ operand_at r o j → m < n → x ≡ tree_shape s c b k m → operandFits s c b k n r j ≡ x
 unfolding operandFits
 operand-tree s c b k n r o j x {m} e p h q = true-and _ _ (lt-ltb _ _ (rw (p, e) at h)) ∙ sym (rw (p, e) at q)
 
@@ -124,7 +124,7 @@ tree-fits-fields-fit-requires : (t : ℕ) → tree-fits-lts.Need-fields-fit-requ
 tree-fits-fields-fit-requires t c κs = search rules
 
 tree-fits-returns-3 : (t : ℕ) → tree-fits-lts.Need-returns-3 (tree-fits-callees t) (tree-fits-at t) tree-fits.Post tree-fits-Inv-loop tree-fits-μ-loop
-tree-fits-returns-3 t c = first-fails _ _ (sym c.before.fields_fit.ensures ∙ not-true _ c.if2.true) ∙ sym (tree-at _ _ _ _ _ c.before.before.before.before.before.before.if1.false _ (sym c.before.before.before.before.before.read.ensures ∙ c.before.before.before.r.given.1))
+tree-fits-returns-3 t c = first_fails_lem _ _ (sym c.before.fields_fit.ensures ∙ not-true _ c.if2.true) ∙ sym (tree-at _ _ _ _ _ c.before.before.before.before.before.before.if1.false _ (sym c.before.before.before.before.before.read.ensures ∙ c.before.before.before.r.given.1))
 
 tree-fits-operands-requires : (t : ℕ) → tree-fits-lts.Need-operands-requires (tree-fits-callees t) (tree-fits-at t) tree-fits.Post tree-fits-Inv-loop tree-fits-μ-loop
 tree-fits-operands-requires t c κs = search rules

@@ -2,7 +2,7 @@ use native.Mathlib.Omega.{arith}
 use mathlib.Core.Path.{sym, ◌∙◌}
 use borrow.Author.Tests.{not-true, not-false}
 use borrow.Author.Rules.{rules}
-use Rattle.checker_reactions.proofs.Entries.{not-linked, linked}
+use Rattle.checker_reactions.proofs.Entries.{not_linked, linked}
 use Rattle.checker_twins.proofs.link.Statement.{statement}
 use Rattle.checker_twins.proofs.link.Tie as tie
 
@@ -10,7 +10,7 @@ is-reaction-requires : tie.Need-is-reaction-requires
 is-reaction-requires c κs = search rules
 
 returns : tie.Need-returns
-returns c = not-linked _ _ _ _ c.before.before.requires.0.0 c.before.before.requires.0.1 (sym c.before.is-reaction.ensures ∙ not-true _ c.if1.true)
+returns c = not_linked _ _ _ _ c.before.before.requires.0.0 c.before.before.requires.0.1 (sym c.before.is-reaction.ensures ∙ not-true _ c.if1.true)
 
 cast-n : tie.Need-overflow-cast-n
 cast-n c = search rules

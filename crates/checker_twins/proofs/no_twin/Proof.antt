@@ -4,8 +4,8 @@ use Prim.Native.Nat.{◌+◌, ◌-◌}
 use borrow.Author.Tests.{not-true, not-false}
 use mathlib.Core.Bool.{not}
 use borrow.Author.Rules.{rules}
-use Rattle.sheet_rules.proofs.Fields.{holds-present, holds-absent}
-use Rattle.checker_reactions.proofs.Entries.{no-twins, a-twin, twin-less, Walked, walk_start, walk_more}
+use Rattle.sheet_rules.proofs.Fields.{holds-present, holds_absent}
+use Rattle.checker_reactions.proofs.Entries.{no_twins, a_twin, twin_less, Walked, walk_start, walk_more}
 use Rattle.checker_twins.proofs.no_twin.Statement.{statement}
 use Rattle.checker_twins.proofs.no_twin.Tie as tie
 
@@ -19,7 +19,7 @@ is-reaction-requires : tie.Need-is-reaction-requires invariant-loop decreases-lo
 is-reaction-requires c κs = search rules
 
 returns : tie.Need-returns invariant-loop decreases-loop
-returns c = twin-less _ _ _ _ _ _ c.before.before.before.requires.1.1.1.0 (sym c.before.is-reaction.ensures ∙ not-true _ c.if1.true)
+returns c = twin_less _ _ _ _ _ _ c.before.before.before.requires.1.1.1.0 (sym c.before.is-reaction.ensures ∙ not-true _ c.if1.true)
 
 cast-first : tie.Need-overflow-cast-first invariant-loop decreases-loop
 cast-first c = search rules
@@ -55,13 +55,13 @@ enum_told : tie.Need-enum-told invariant-loop decreases-loop
 enum_told c = search rules
 
 returns-2 : tie.Need-returns-2 invariant-loop decreases-loop
-returns-2 c = a-twin _ _ _ _ _ (omega arith) (omega (arith, c.before.before.before.before.loop.invariant.inside)) (holds-absent _ _ (sym c.before.before.read.ensures ∙ c.enum_told.given.1))
+returns-2 c = a_twin _ _ _ _ _ (omega arith) (omega (arith, c.before.before.before.before.loop.invariant.inside)) (holds_absent _ _ (sym c.before.before.read.ensures ∙ c.enum_told.given.1))
 
 same-reaction-requires : tie.Need-same-reaction-requires invariant-loop decreases-loop
 same-reaction-requires c κs = search rules
 
 returns-3 : tie.Need-returns-3 invariant-loop decreases-loop
-returns-3 c = a-twin _ _ _ _ _ (omega arith) (omega (arith, c.before.before.before.before.before.before.before.loop.invariant.inside)) (holds-present _ _ _ (sym c.before.before.before.before.before.read.ensures ∙ c.before.before.before.a.given.1) ∙ ap not (sym c.before.same-reaction.ensures ∙ c.if2.true))
+returns-3 c = a_twin _ _ _ _ _ (omega arith) (omega (arith, c.before.before.before.before.before.before.before.loop.invariant.inside)) (holds-present _ _ _ (sym c.before.before.before.before.before.read.ensures ∙ c.before.before.before.a.given.1) ∙ ap not (sym c.before.same-reaction.ensures ∙ c.if2.true))
 
 mul-earlier-2 : tie.Need-overflow-mul-earlier-2 invariant-loop decreases-loop
 mul-earlier-2 c = search rules
@@ -93,7 +93,7 @@ loop-again c =
     c.earlier2.ensures.0 c.earlier2.ensures.1
 
 returns-4 : tie.Need-returns-4 invariant-loop decreases-loop
-returns-4 c = no-twins _ _ _ _ (λ m a l. c.before.loop.invariant.seen m a (omega arith) l)
+returns-4 c = no_twins _ _ _ _ (λ m a l. c.before.loop.invariant.seen m a (omega arith) l)
 
 pub no-twin-spec : {M : Type 1} → statement M
 no-twin-spec =

@@ -7,10 +7,10 @@ use borrow.Fn.Kinds.{In}
 use borrow.Fn.PlainCycle.{Measures, is, falls, and as joined}
 use Rattle.sheet.specs.All.{all_below}
 use Rattle.sheet.proofs.All.{all_more}
-use Rattle.sheet_rules.specs.Types.{lowerType, type_of}
-use Rattle.sheet_rules.proofs.Types.{lower-type, not-lower-type}
+use Rattle.sheet_rules.specs.Types.{lower_type, type_of}
+use Rattle.sheet_rules.proofs.Types.{lower_type_lem, not_lower_type}
 use Rattle.sheet_types.proofs.Laws.{no, so}
-use Rattle.checker_typing.proofs.Laws.{datumMatches, datum, data-fail, data-all, typed-absent, typed-literal, typed-read, typed-not, typed-binary, typed-clock, typed-element, typed-skip, typed-assign, typed-external, typed-internal, typed-arm, typed-act, typed_call, typed-choice, typed-loop, typed-sequence, typed-assigned, typed-zero, typed-gap, typed-past}
+use Rattle.checker_typing.proofs.Laws.{datum_matches, datum, data_fail, data_all, typed_absent, typed-literal, typed-read, typed_not, typed-binary, typed-clock, typed-element, typed-skip, typed-assign, typed-external, typed-internal, typed-arm, typed_act, typed_call, typed-choice, typed-loop, typed-sequence, typed-assigned, typed_zero, typed_gap, typed_past}
 use Rattle.checker_typing.proofs.data_match.Reads as data-match
 use Rattle.checker_typing.proofs.data_match.Kinds as data-match-kinds
 use Rattle.checker_typing.proofs.+data_match_operand_type_type_of.Lts-data_match as data-match-lts
@@ -141,7 +141,7 @@ type-of-callees t = (
 )
 
 abbrev data-match-Inv-loop : data-match-lts.invariant-loop
-data-match-Inv-loop sheet directory table c b n r first count j₀ j = (j ≤ count) × (all_below j (datumMatches sheet (lowerType n (type_of sheet c b)) first r) ≡ true)
+data-match-Inv-loop sheet directory table c b n r first count j₀ j = (j ≤ count) × (all_below j (datum_matches sheet (lower_type n (type_of sheet c b)) first r) ≡ true)
 
 abbrev data-match-μ-loop : data-match-lts.decreases-loop
 data-match-μ-loop sheet directory table c b n r first count j₀ j = count - j
@@ -172,7 +172,7 @@ data-match-is-of-requires : (t : ℕ) → data-match-lts.Need-is-of-requires (da
 data-match-is-of-requires t c κs = search rules
 
 data-match-returns : (t : ℕ) → data-match-lts.Need-returns (data-match-callees t) (data-match-at t) data-match.Post data-match-Inv-loop data-match-μ-loop
-data-match-returns t c = data-fail _ _ _ _ c.before.before.before.before.before.before.loop.j c.before.before.before.before.before.loop-test.true (no (datum _ _ _ _ _ _ _ _ _ _ _ c.before.before.before.before.field.ensures.0 c.before.before.before.operand_type.ensures c.before.before.type-at.ensures c.before.is-of.ensures) c.if1.true)
+data-match-returns t c = data_fail _ _ _ _ c.before.before.before.before.before.before.loop.j c.before.before.before.before.before.loop-test.true (no (datum _ _ _ _ _ _ _ _ _ _ _ c.before.before.before.before.field.ensures.0 c.before.before.before.operand_type.ensures c.before.before.type-at.ensures c.before.is-of.ensures) c.if1.true)
 
 data-match-add-j : (t : ℕ) → data-match-lts.Need-overflow-add-j (data-match-callees t) (data-match-at t) data-match.Post data-match-Inv-loop data-match-μ-loop
 data-match-add-j t c = search rules
@@ -184,7 +184,7 @@ data-match-loop-again : (t : ℕ) → data-match-lts.Need-loop-preserved (data-m
 data-match-loop-again t c = (omega arith, all_more c.before.before.before.before.before.before.loop.j _ c.before.before.before.before.before.before.loop.invariant.1 (so (datum _ _ _ _ _ _ _ _ _ _ _ c.before.before.before.before.field.ensures.0 c.before.before.before.operand_type.ensures c.before.before.type-at.ensures c.before.is-of.ensures) c.if1.false))
 
 data-match-returns-2 : (t : ℕ) → data-match-lts.Need-returns-2 (data-match-callees t) (data-match-at t) data-match.Post data-match-Inv-loop data-match-μ-loop
-data-match-returns-2 t c = data-all _ _ _ _ c.before.loop.j (omega arith) c.before.loop.invariant.1
+data-match-returns-2 t c = data_all _ _ _ _ c.before.loop.j (omega arith) c.before.loop.invariant.1
 
 operand-type-type-of-requires : (t : ℕ) → operand-type-lts.Need-type-of-requires (operand-type-callees t) (operand-type-at t) operand_type.Post
 operand-type-type-of-requires t c κs = search rules
@@ -195,7 +195,7 @@ operand-type-returns :
     (operand-type-callees t)
     (operand-type-at t)
     operand_type.Post
-operand-type-returns t c = c.type-of.ensures ∙ sym (lower-type _ _ _ c.before.if1.true)
+operand-type-returns t c = c.type-of.ensures ∙ sym (lower_type_lem _ _ _ c.before.if1.true)
 
 operand-type-returns-2 :
     (t : ℕ) →
@@ -203,7 +203,7 @@ operand-type-returns-2 :
     (operand-type-callees t)
     (operand-type-at t)
     operand_type.Post
-operand-type-returns-2 t c = sym (not-lower-type _ _ _ c.if1.false)
+operand-type-returns-2 t c = sym (not_lower_type _ _ _ c.if1.false)
 
 type-of-read-requires : (t : ℕ) → type-of-lts.Need-read-requires (type-of-callees t) (type-of-at t) type-of.Post
 type-of-read-requires t c κs = search rules
@@ -215,7 +215,7 @@ type-of-enum-told : (t : ℕ) → type-of-lts.Need-enum-told (type-of-callees t)
 type-of-enum-told t c = search rules
 
 type-of-returns : (t : ℕ) → type-of-lts.Need-returns (type-of-callees t) (type-of-at t) type-of.Post
-type-of-returns t c = typed-absent _ _ _ _ (sym c.before.before.read.ensures ∙ c.enum_told.given.1)
+type-of-returns t c = typed_absent _ _ _ _ (sym c.before.before.read.ensures ∙ c.enum_told.given.1)
 
 type-of-read-type-requires : (t : ℕ) → type-of-lts.Need-read-type-requires (type-of-callees t) (type-of-at t) type-of.Post
 type-of-read-type-requires t c κs = search rules
@@ -355,7 +355,7 @@ type-of-returns-2 : (t : ℕ) → type-of-lts.Need-returns-2 (type-of-callees t)
 type-of-returns-2 t c = typed-read _ _ _ _ _ (sym c.before.before.before.before.before.read.ensures ∙ c.before.before.before.r.given.1) _ c.before.match2.keys1 c.read-type.ensures
 
 type-of-returns-3 : (t : ℕ) → type-of-lts.Need-returns-3 (type-of-callees t) (type-of-at t) type-of.Post
-type-of-returns-3 t c = typed-not _ _ _ _ _ (sym c.before.before.before.before.before.before.read.ensures ∙ c.before.before.before.before.r.given.1) _ _ c.before.before.match2.keys2 c.before.operand_type.ensures c.not-type.ensures
+type-of-returns-3 t c = typed_not _ _ _ _ _ (sym c.before.before.before.before.before.before.read.ensures ∙ c.before.before.before.before.r.given.1) _ _ c.before.before.match2.keys2 c.before.operand_type.ensures c.not-type.ensures
 
 type-of-returns-4 : (t : ℕ) → type-of-lts.Need-returns-4 (type-of-callees t) (type-of-at t) type-of.Post
 type-of-returns-4 t c = typed-element _ _ _ _ _ (sym c.before.before.before.before.before.before.read.ensures ∙ c.before.before.before.before.r.given.1) _ _ c.before.before.match2.keys3 c.before.operand-type2.ensures c.read-element-type.ensures
@@ -427,13 +427,13 @@ type-of-returns-17 t c =
     c.before.data-match4.ensures c.arm-type.ensures
 
 type-of-returns-18 : (t : ℕ) → type-of-lts.Need-returns-18 (type-of-callees t) (type-of-at t) type-of.Post
-type-of-returns-18 t c = typed-act _ _ _ _ _ (sym c.before.before.before.before.before.before.before.before.before.before.before.before.read.ensures ∙ c.before.before.before.before.before.before.before.before.before.before.r.given.1) _ c.before.before.if6.false c.before.if7.true c.clock-act-type.ensures
+type-of-returns-18 t c = typed_act _ _ _ _ _ (sym c.before.before.before.before.before.before.before.before.before.before.before.before.read.ensures ∙ c.before.before.before.before.before.before.before.before.before.before.r.given.1) _ c.before.before.if6.false c.before.if7.true c.clock-act-type.ensures
 
 type-of-returns-19 : (t : ℕ) → type-of-lts.Need-returns-19 (type-of-callees t) (type-of-at t) type-of.Post
-type-of-returns-19 t c = typed-zero _ _ _ _ _ (sym c.before.before.before.before.before.read.ensures ∙ c.before.before.before.r.given.1) c.if1.true
+type-of-returns-19 t c = typed_zero _ _ _ _ _ (sym c.before.before.before.before.before.read.ensures ∙ c.before.before.before.r.given.1) c.if1.true
 
 type-of-returns-20 : (t : ℕ) → type-of-lts.Need-returns-20 (type-of-callees t) (type-of-at t) type-of.Post
-type-of-returns-20 t c = typed-gap _ _ _ _ _ (sym c.before.before.before.before.before.before.before.before.before.read.ensures ∙ c.before.before.before.before.before.before.before.r.given.1) c.before.if4.false c.before.before.before.before.before.match2.rest.0.0.0.0.0.0.0.0.0.1 c.if5.true
+type-of-returns-20 t c = typed_gap _ _ _ _ _ (sym c.before.before.before.before.before.before.before.before.before.read.ensures ∙ c.before.before.before.before.before.before.before.r.given.1) c.before.if4.false c.before.before.before.before.before.match2.rest.0.0.0.0.0.0.0.0.0.1 c.if5.true
 
 type-of-returns-21 : (t : ℕ) → type-of-lts.Need-returns-21 (type-of-callees t) (type-of-at t) type-of.Post
 type-of-returns-21 t c =
@@ -442,7 +442,7 @@ type-of-returns-21 t c =
     let r = at8.before.r in
     let read_here = at8.before.before.before.read in
     let r-is = sym read_here.ensures ∙ r.given.1 in
-    typed-past _ _ _ _ _ r-is c.if7.false match2.rest.0.0.0.0.1 match2.rest.0.0.0.1 match2.rest.0.0.1 match2.rest.0.1
+    typed_past _ _ _ _ _ r-is c.if7.false match2.rest.0.0.0.0.1 match2.rest.0.0.0.1 match2.rest.0.0.1 match2.rest.0.1
     match2.rest.1
 
 pub +data-match-operand-type-type-of-spec : {M : Type 1} → statement M

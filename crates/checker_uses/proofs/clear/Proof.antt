@@ -2,7 +2,7 @@ use borrow.Author.Rules.{rules}
 use native.Mathlib.Omega.{arith}
 use Prim.Native.Nat.{◌-◌, ◌≤◌}
 use Rattle.checker_pass.specs.Marks.{Cleared}
-use Rattle.checker_pass.proofs.Marking.{clear-start, clear-more, clear-end}
+use Rattle.checker_pass.proofs.Marking.{clear_start, clear_more, clear_end}
 use Rattle.checker_uses.proofs.clear.Statement.{statement}
 use Rattle.checker_uses.proofs.clear.Tie as tie
 
@@ -13,7 +13,7 @@ abbrev decreases-loop : tie.decreases-loop
 decreases-loop marks₀ count i₀ marks i = count - i
 
 loop-holds : tie.Need-loop-init invariant-loop decreases-loop
-loop-holds c = (omega arith, clear-start _)
+loop-holds c = (omega arith, clear_start _)
 
 mul-marks : tie.Need-overflow-mul-marks invariant-loop decreases-loop
 mul-marks c = omega (arith, c.before.loop.invariant.1.kept.long)
@@ -28,13 +28,13 @@ loop-less : tie.Need-loop-smaller invariant-loop decreases-loop
 loop-less c = search rules
 
 loop-again : tie.Need-loop-preserved invariant-loop decreases-loop
-loop-again c = (omega arith, clear-more _ _ _ (omega (arith, c.before.loop.invariant.1.kept.long)) c.before.loop.invariant.1)
+loop-again c = (omega arith, clear_more _ _ _ (omega (arith, c.before.loop.invariant.1.kept.long)) c.before.loop.invariant.1)
 
 same_length : tie.Need-same-length invariant-loop decreases-loop
 same_length c = c.before.loop.invariant.1.kept.long
 
 returns : tie.Need-returns invariant-loop decreases-loop
-returns c = clear-end _ _ _ _ (omega arith) c.before.loop.invariant.1
+returns c = clear_end _ _ _ _ (omega arith) c.before.loop.invariant.1
 
 pub clear_spec : {M : Type 1} → statement M
 clear_spec =

@@ -1,5 +1,5 @@
 use borrow.Author.Rules.{rules}
-use Rattle.checker_variables.proofs.Laws.{not-timer, timer-starts, not_stopped, stops}
+use Rattle.checker_variables.proofs.Laws.{not_timer, timer_starts, not_stopped, stops}
 use Rattle.checker_variables.proofs.clock_act_type.Statement.{statement}
 use Rattle.checker_variables.proofs.clock_act_type.Tie as tie
 
@@ -7,10 +7,10 @@ chart-variable-type-requires : tie.Need-chart-variable-type-requires
 chart-variable-type-requires c κs = search rules
 
 returns : tie.Need-returns
-returns c = not-timer _ _ _ _ c.before.before.before.chart-variable-type.ensures c.before.if1.true c.if2.true
+returns c = not_timer _ _ _ _ c.before.before.before.chart-variable-type.ensures c.before.if1.true c.if2.true
 
 returns-2 : tie.Need-returns-2
-returns-2 c = timer-starts _ _ _ _ c.before.before.before.chart-variable-type.ensures c.before.if1.true c.if2.false
+returns-2 c = timer_starts _ _ _ _ c.before.before.before.chart-variable-type.ensures c.before.if1.true c.if2.false
 
 is-clock-requires : tie.Need-is-clock-requires
 is-clock-requires c κs = search rules

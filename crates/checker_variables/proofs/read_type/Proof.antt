@@ -1,5 +1,5 @@
 use borrow.Author.Rules.{rules}
-use Rattle.checker_variables.proofs.Laws.{array-read, clock-read, is_read}
+use Rattle.checker_variables.proofs.Laws.{array_read, clock-read, is_read}
 use Rattle.checker_variables.proofs.read_type.Statement.{statement}
 use Rattle.checker_variables.proofs.read_type.Tie as tie
 
@@ -19,7 +19,7 @@ is-plain-requires : tie.Need-is-plain-requires
 is-plain-requires c κs = search rules
 
 returns-2 : tie.Need-returns-2
-returns-2 c = array-read _ _ _ _ _ c.before.before.before.before.before.variable-at.ensures _ c.before.is_plain.ensures c.if2.true
+returns-2 c = array_read _ _ _ _ _ c.before.before.before.before.before.variable-at.ensures _ c.before.is_plain.ensures c.if2.true
 
 returns-3 : tie.Need-returns-3
 returns-3 c = is_read _ _ _ _ _ _ _ c.before.before.before.before.before.variable-at.ensures c.before.before.before.before.type-at.ensures c.before.before.before.is-clock.ensures _ c.before.is_plain.ensures c.before.before.if1.false c.if2.false

@@ -1,6 +1,6 @@
 use lib.IntN.{pos}
 use borrow.Author.Rules.{rules}
-use Rattle.program_text.proofs.Parts.{fresh-front, front-whole, front_fits, front_length}
+use Rattle.program_text.proofs.Parts.{fresh_front, front_whole, front_fits, front_length}
 use Rattle.conformance.proofs.replay_start.Statement.{statement}
 use Rattle.conformance.proofs.replay_start.Tie as tie
 
@@ -14,7 +14,7 @@ array-borrow-prefix-result : tie.Need-array-borrow-prefix-result
 array-borrow-prefix-result c = search rules
 
 slice-aggregate-start : tie.Need-slice-aggregate-start
-slice-aggregate-start c = fresh-front c.before.before.read_number.result 6000 (pos 777) c.before.if1.false
+slice-aggregate-start c = fresh_front c.before.before.read_number.result 6000 (pos 777) c.before.if1.false
 
 start-requires : tie.Need-start-requires
 start-requires c κs = search rules
@@ -23,14 +23,14 @@ array-share-prefix-result : tie.Need-array-share-prefix-result
 array-share-prefix-result c =
     let read_number = c.before.before.before.before.read_number in
     let if1 = c.before.before.before.if1 in
-    front_fits c.before.start.new.1.0 _ read_number.result (front-whole read_number.result 6000 (pos 777) if1.false c.before.start.new.1.0 c.before.start.auto.1.0)
+    front_fits c.before.start.new.1.0 _ read_number.result (front_whole read_number.result 6000 (pos 777) if1.false c.before.start.new.1.0 c.before.start.auto.1.0)
 
 slice-aggregate-print-start : tie.Need-slice-aggregate-print-start
 slice-aggregate-print-start c =
     let read_number = c.before.before.before.before.before.read_number in
     let if1 = c.before.before.before.before.if1 in
     let start = c.before.before.start in
-    front_length start.new.1.0 _ read_number.result (front-whole read_number.result 6000 (pos 777) if1.false start.new.1.0 start.auto.1.0)
+    front_length start.new.1.0 _ read_number.result (front_whole read_number.result 6000 (pos 777) if1.false start.new.1.0 start.auto.1.0)
 
 print-start-requires : tie.Need-print-start-requires
 print-start-requires c κs = search rules

@@ -1,11 +1,11 @@
 use mathlib.Core.Path.{sym, ap, ◌∙◌}
 use mathlib.Core.Logic.{⊎_elim}
 use lib.ListN.{length}
-use Rattle.sheet.proofs.All.{true-false}
-use Rattle.machine_events.specs.Sought.{receiverBound}
+use Rattle.sheet.proofs.All.{true_false}
+use Rattle.machine_events.specs.Sought.{receiver_bound}
 use Rattle.machine_events.proofs.Apart.{receiver-bound}
 use Rattle.engine_queue.proofs.Laws.{laid}
-use Rattle.engine.proofs.Calls.{next-gives}
+use Rattle.engine.proofs.Calls.{next_gives_lem}
 use borrow.Author.Rules.{rules}
 use Rattle.engine.proofs.next.Statement.{statement}
 use Rattle.engine.proofs.next.Tie as tie
@@ -28,10 +28,10 @@ happened-requires c κs =
     let came = c.before.before.if1.branch in
     record {
       playing = start.requires.0;
-      bound = ap (receiverBound start.args.sheet.now) c.before.before.before.before.before.before.before.event-of.ensures ∙ receiver-bound start.args.sheet.now start.args.ev.now;
+      bound = ap (receiver_bound start.args.sheet.now) c.before.before.before.before.before.before.before.event-of.ensures ∙ receiver-bound start.args.sheet.now start.args.ev.now;
       sought = c.before.before.before.before.before.sought.ensures _ start.requires.0.state.whole;
       long = ⊎_elim (λ w. ap length (w.5 ∙ w.3.ensures)) (λ w. ap length w.1 ∙ start.requires.1) came;
-      copied = λ u. ⊎_elim (λ w. w.5 ∙ w.3.ensures) (λ w. absurd (true-false u (sym c.before.before.before.may-undo.ensures ∙ w.0.left))) came;
+      copied = λ u. ⊎_elim (λ w. w.5 ∙ w.3.ensures) (λ w. absurd (true_false u (sym c.before.before.before.may-undo.ensures ∙ w.0.left))) came;
     }
 
 same_length : tie.Need-same-length
@@ -41,7 +41,7 @@ same-length-2 : tie.Need-same-length-2
 same-length-2 c = ⊎_elim (λ w. ap length (w.5 ∙ w.3.ensures) ∙ sym c.before.before.before.before.before.before.before.before.before.before.before.requires.1) (λ w. ap length w.1) c.before.before.before.before.if1.branch
 
 returns : tie.Need-returns
-returns c = next-gives _ _ _ _ _ c.before.before.before.before.before.before.before.before.before.before.before.requires.0 _ c.before.before.before.before.before.before.before.before.before.event-of.ensures _ _ c.before.happened.ensures
+returns c = next_gives_lem _ _ _ _ _ c.before.before.before.before.before.before.before.before.before.before.before.requires.0 _ c.before.before.before.before.before.before.before.before.before.event-of.ensures _ _ c.before.happened.ensures
 
 pub next-spec : {M : Type 1} → statement M
 next-spec =

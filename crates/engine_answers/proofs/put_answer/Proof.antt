@@ -3,7 +3,7 @@ use native.Mathlib.Omega.{arith}
 use lib.ListN.{length-set}
 use borrow.Author.Rules.{rules}
 use Rattle.engine_rows.proofs.Laws.{given}
-use Rattle.engine_answers.proofs.Laws.{answer-put, nothing-words, outside-words}
+use Rattle.engine_answers.proofs.Laws.{answer_put, nothing_words, outside-words}
 use Rattle.engine_answers.proofs.put_answer.Statement.{statement}
 use Rattle.engine_answers.proofs.put_answer.Tie as tie
 
@@ -66,7 +66,7 @@ returns c =
     let start = c.before.before.before.before.before.before.before.before in
     let number = c.before.before.before.before.before.before.before.struct_known.given in
     let dropped = c.before.before.before.before.before.struct-known3.given in
-    answer-put start.args.answers.now start.args.at start.args.a start.requires.0 (omega (arith, number)) start.requires.1 (omega (arith, dropped)) _ _ c.before.put-words.ensures (nothing-words _ c.before.before.before.enum_told.given.1)
+    answer_put start.args.answers.now start.args.at start.args.a start.requires.0 (omega (arith, number)) start.requires.1 (omega (arith, dropped)) _ _ c.before.put-words.ensures (nothing_words _ c.before.before.before.enum_told.given.1)
 
 same-length-2 : tie.Need-same-length-2
 same-length-2 c = c.before.put-words2.auto.0 ∙ simp length-set
@@ -79,7 +79,7 @@ returns-2 c =
     let t = c.before.before.before.before.before.before.before.before.before.before.before.handed.given.0.0 in
     let told = c.before.before.struct-told7.given in
     let put = rw (given t.receiver told.1.0.1, given t.port told.1.1.0.1, given t.name told.1.1.1.0.1, given t.d0 told.1.1.1.1.0.1, given t.d1 told.1.1.1.1.1.0.1, given t.d2 told.1.1.1.1.1.1.0.1, given t.d3 told.1.1.1.1.1.1.1.0.1) at c.before.put-words2.ensures in
-    answer-put start.args.answers.now start.args.at start.args.a start.requires.0 (omega (arith, number)) start.requires.1 (omega (arith, dropped)) _ _ put (outside-words _ t c.before.before.before.before.before.before.before.before.before.before.before.handed.given.1)
+    answer_put start.args.answers.now start.args.at start.args.a start.requires.0 (omega (arith, number)) start.requires.1 (omega (arith, dropped)) _ _ put (outside-words _ t c.before.before.before.before.before.before.before.before.before.before.before.handed.given.1)
 
 pub put-answer-spec : {M : Type 1} → statement M
 put-answer-spec =

@@ -1,7 +1,7 @@
 use mathlib.Core.Path.{sym, ◌∙◌}
 use borrow.Author.Rules.{rules}
 use Rattle.engine_rows.proofs.Laws.{given}
-use Rattle.engine_ready.proofs.Statements.{period-operand, arm-name, arm-word}
+use Rattle.engine_ready.proofs.Statements.{period_operand, arm-name, arm_word}
 use Rattle.engine_data.proofs.Data.{on_word, on-refused, on-stuck, no_record}
 use Rattle.engine_arming.proofs.arming.Statement.{statement}
 use Rattle.engine_arming.proofs.arming.Tie as tie
@@ -27,7 +27,7 @@ cast-eval c = search rules
 eval-requires : tie.Need-eval-requires
 eval-requires c κs =
     let pre = c.before.before.before.before.before.before.before.before.requires in
-    (pre.0, pre.1.ready, period-operand _ _ _ _ pre.1.ready _ _ pre.1.there pre.1.statement pre.1.form)
+    (pre.0, pre.1.ready, period_operand _ _ _ _ pre.1.ready _ _ pre.1.there pre.1.statement pre.1.form)
 
 enum-known-x : tie.Need-enum-known-x
 enum-known-x c = search rules
@@ -57,7 +57,7 @@ returns-2 c =
     let x-is = sym x.given.1 ∙ eval.ensures in
     λ depth. (rw (given x.given.0.0 known-told2.given.0.1) at c.before.arm-with.ensures)
     ∙ on_word _ _ _ _ _ _ x-is
-    ∙ sym (arm-word _ _ _ _ pre.1.ready _ _ pre.1.there pre.1.statement pre.1.form _ a-is depth _)
+    ∙ sym (arm_word _ _ _ _ pre.1.ready _ _ pre.1.there pre.1.statement pre.1.form _ a-is depth _)
 
 same-length-2 : tie.Need-same-length-2
 same-length-2 c = search rules
@@ -71,7 +71,7 @@ returns-3 c =
     let pre = at8.before.before.before.before.requires in
     let a-is = sym read.ensures ∙ a.given.1 in
     let x2-is = sym c.before.x2.given.1 ∙ eval.ensures in
-    λ depth. on-refused _ _ _ _ _ _ x2-is ∙ sym (arm-word _ _ _ _ pre.1.ready _ _ pre.1.there pre.1.statement pre.1.form _ a-is depth _)
+    λ depth. on-refused _ _ _ _ _ _ x2-is ∙ sym (arm_word _ _ _ _ pre.1.ready _ _ pre.1.there pre.1.statement pre.1.form _ a-is depth _)
 
 same-length-3 : tie.Need-same-length-3
 same-length-3 c = search rules
@@ -83,7 +83,7 @@ returns-4 c =
     let pre = c.before.before.before.before.before.before.before.before.before.before.before.requires in
     let a-is = sym read.ensures ∙ a.given.1 in
     let enum-told2-is = sym c.enum-told2.given.1 ∙ c.before.before.eval.ensures in
-    λ depth. on-stuck _ _ _ _ enum-told2-is ∙ sym (arm-word _ _ _ _ pre.1.ready _ _ pre.1.there pre.1.statement pre.1.form _ a-is depth _)
+    λ depth. on-stuck _ _ _ _ enum-told2-is ∙ sym (arm_word _ _ _ _ pre.1.ready _ _ pre.1.there pre.1.statement pre.1.form _ a-is depth _)
 
 pub arming-spec : {M : Type 1} → statement M
 arming-spec =

@@ -1,10 +1,10 @@
 use mathlib.Core.Path.{sym, ◌∙◌}
 use borrow.Author.Rules.{rules}
 use Rattle.engine_rows.proofs.Laws.{given}
-use Rattle.engine_ready.specs.Ready.{contextAt}
-use Rattle.engine_ready.proofs.Statements.{assign-operand, assign_word}
+use Rattle.engine_ready.specs.Ready.{context_at}
+use Rattle.engine_ready.proofs.Statements.{assign_operand, assign_word}
 use Rattle.engine_data.proofs.Data.{on_word, on-refused, on-stuck}
-use Rattle.engine_assigning.proofs.Acts.{assign-lies, assign-at, assign_local}
+use Rattle.engine_assigning.proofs.Acts.{assign_lies, assign_at, assign_local}
 use Rattle.engine_assigning.proofs.assign.Statement.{statement}
 use Rattle.engine_assigning.proofs.assign.Tie as tie
 
@@ -12,13 +12,13 @@ cast-eval : tie.Need-overflow-cast-eval
 cast-eval c = search rules
 
 eval-requires : tie.Need-eval-requires
-eval-requires c κs = (c.before.before.before.before.requires.0, c.before.before.before.before.requires.1.ready, assign-operand _ _ _ _ c.before.before.before.before.requires.1.ready _ _ c.before.before.before.before.requires.1.there c.before.before.before.before.requires.1.statement c.before.before.before.before.requires.1.form)
+eval-requires c κs = (c.before.before.before.before.requires.0, c.before.before.before.before.requires.1.ready, assign_operand _ _ _ _ c.before.before.before.before.requires.1.ready _ _ c.before.before.before.before.requires.1.there c.before.before.before.before.requires.1.statement c.before.before.before.before.requires.1.form)
 
 enum-known-x : tie.Need-enum-known-x
 enum-known-x c = search rules
 
 put-requires : tie.Need-put-requires
-put-requires c κs = (c.before.before.before.before.before.before.before.before.before.before.requires.1.ready.locals.sixteen, assign-lies _ _ _ _ _ _ c.before.before.before.before.before.before.before.before.before.before.requires.1, assign_local _ _ _ _ _ _ c.before.before.before.before.before.before.before.before.before.before.requires.1)
+put-requires c κs = (c.before.before.before.before.before.before.before.before.before.before.requires.1.ready.locals.sixteen, assign_lies _ _ _ _ _ _ c.before.before.before.before.before.before.before.before.before.before.requires.1, assign_local _ _ _ _ _ _ c.before.before.before.before.before.before.before.before.before.before.requires.1)
 
 enum-known-x-2 : tie.Need-enum-known-x-2
 enum-known-x-2 c = search rules
@@ -38,7 +38,7 @@ returns c =
     let args = at8.before.before.before.before.args in
     let pre = at8.before.before.before.before.requires in
     let x-is = sym x.given.1 ∙ eval.ensures in
-    let put-here = c.before.put.ensures.1 args.sheet.now (contextAt args.sheet.now args.context.now) (assign-at _ _ _ _ _ _ pre.1) in (
+    let put-here = c.before.put.ensures.1 args.sheet.now (context_at args.sheet.now args.context.now) (assign_at _ _ _ _ _ _ pre.1) in (
       c.before.put.ensures.0,
       λ depth. (rw (given x.given.0.0 known-told.given.0.1) at put-here)
           ∙ on_word _ _ _ _ _ _ x-is

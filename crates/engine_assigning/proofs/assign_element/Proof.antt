@@ -1,8 +1,8 @@
 use mathlib.Core.Path.{sym, ◌∙◌}
 use Rattle.engine_rows.proofs.Laws.{given}
-use Rattle.engine_ready.proofs.Statements.{element-word}
+use Rattle.engine_ready.proofs.Statements.{element_word_lem}
 use Rattle.engine_data.proofs.Data.{on_word, on-refused, on-stuck}
-use Rattle.engine_assigning.proofs.Acts.{element-operands, element-reaches}
+use Rattle.engine_assigning.proofs.Acts.{element-operands, element_reaches}
 use borrow.Author.Rules.{rules}
 use Rattle.engine_assigning.proofs.assign_element.Statement.{statement}
 use Rattle.engine_assigning.proofs.assign_element.Tie as tie
@@ -29,7 +29,7 @@ cast-put-element : tie.Need-overflow-cast-put-element
 cast-put-element c = search rules
 
 put-element-requires : tie.Need-put-element-requires
-put-element-requires c κs = element-reaches _ _ _ _ _ _ c.before.before.before.before.before.before.before.before.before.before.before.before.before.before.before.requires.1
+put-element-requires c κs = element_reaches _ _ _ _ _ _ c.before.before.before.before.before.before.before.before.before.before.before.before.before.before.before.requires.1
 
 enum-known-value-2 : tie.Need-enum-known-value-2
 enum-known-value-2 c = search rules
@@ -64,7 +64,7 @@ returns c =
     (c.before.put-element.ensures args.lo.now))
     ∙ on_word _ _ _ _ _ _ value-is
     ∙ on_word _ _ _ _ _ _ index_is
-    ∙ sym (element-word _ _ _ _ pre.1.ready _ _ pre.1.there pre.1.statement pre.1.form depth _)
+    ∙ sym (element_word_lem _ _ _ _ pre.1.ready _ _ pre.1.there pre.1.statement pre.1.form depth _)
 
 same-length-2 : tie.Need-same-length-2
 same-length-2 c = search rules
@@ -80,7 +80,7 @@ returns-2 c =
     let value2-is = sym c.before.value2.given.1 ∙ eval2.ensures in
     λ depth. on-refused _ _ _ _ _ _ value2-is
     ∙ on_word _ _ _ _ _ _ index_is
-    ∙ sym (element-word _ _ _ _ pre.1.ready _ _ pre.1.there pre.1.statement pre.1.form depth _)
+    ∙ sym (element_word_lem _ _ _ _ pre.1.ready _ _ pre.1.there pre.1.statement pre.1.form depth _)
 
 same-length-3 : tie.Need-same-length-3
 same-length-3 c = search rules
@@ -94,19 +94,19 @@ returns-3 c =
     let enum-told-is = sym c.enum_told.given.1 ∙ c.before.before.eval2.ensures in
     λ depth. on-stuck _ _ _ _ enum-told-is
     ∙ on_word _ _ _ _ _ _ index_is
-    ∙ sym (element-word _ _ _ _ pre.1.ready _ _ pre.1.there pre.1.statement pre.1.form depth _)
+    ∙ sym (element_word_lem _ _ _ _ pre.1.ready _ _ pre.1.there pre.1.statement pre.1.form depth _)
 
 same-length-4 : tie.Need-same-length-4
 same-length-4 c = search rules
 
 returns-4 : tie.Need-returns-4
-returns-4 c = λ depth. on-refused _ _ _ _ _ _ (sym c.before.index2.given.1 ∙ c.before.before.before.eval.ensures) ∙ sym (element-word _ _ _ _ c.before.before.before.before.before.before.before.requires.1.ready _ _ c.before.before.before.before.before.before.before.requires.1.there c.before.before.before.before.before.before.before.requires.1.statement c.before.before.before.before.before.before.before.requires.1.form depth _)
+returns-4 c = λ depth. on-refused _ _ _ _ _ _ (sym c.before.index2.given.1 ∙ c.before.before.before.eval.ensures) ∙ sym (element_word_lem _ _ _ _ c.before.before.before.before.before.before.before.requires.1.ready _ _ c.before.before.before.before.before.before.before.requires.1.there c.before.before.before.before.before.before.before.requires.1.statement c.before.before.before.before.before.before.before.requires.1.form depth _)
 
 same-length-5 : tie.Need-same-length-5
 same-length-5 c = search rules
 
 returns-5 : tie.Need-returns-5
-returns-5 c = λ depth. on-stuck _ _ _ _ (sym c.enum-told2.given.1 ∙ c.before.before.eval.ensures) ∙ sym (element-word _ _ _ _ c.before.before.before.before.before.before.requires.1.ready _ _ c.before.before.before.before.before.before.requires.1.there c.before.before.before.before.before.before.requires.1.statement c.before.before.before.before.before.before.requires.1.form depth _)
+returns-5 c = λ depth. on-stuck _ _ _ _ (sym c.enum-told2.given.1 ∙ c.before.before.eval.ensures) ∙ sym (element_word_lem _ _ _ _ c.before.before.before.before.before.before.requires.1.ready _ _ c.before.before.before.before.before.before.requires.1.there c.before.before.before.before.before.before.requires.1.statement c.before.before.before.before.before.before.requires.1.form depth _)
 
 pub assign-element-spec : {M : Type 1} → statement M
 assign-element-spec =

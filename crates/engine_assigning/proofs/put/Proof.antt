@@ -1,7 +1,7 @@
 use native.Mathlib.Omega.{arith}
 use lib.ListN.{length-set}
 use Rattle.engine_ints.proofs.Range.{back}
-use Rattle.engine_assigning.proofs.Acts.{to-chart, to-body, to_none}
+use Rattle.engine_assigning.proofs.Acts.{to_chart, to_body, to_none}
 use borrow.Author.Rules.{rules}
 use Rattle.engine_assigning.proofs.put.Statement.{statement}
 use Rattle.engine_assigning.proofs.put.Tie as tie
@@ -25,10 +25,10 @@ same_length : tie.Need-same-length
 same_length c = search rules
 
 returns : tie.Need-returns
-returns c = (c.before.before.requires.0, λ s x e. rw (back c.before.before.ranges.z) (to-chart s x _ _ _ _ _ _ c.before.match.keys1 _ _ c.first_word.ensures e))
+returns c = (c.before.before.requires.0, λ s x e. rw (back c.before.before.ranges.z) (to_chart s x _ _ _ _ _ _ c.before.match.keys1 _ _ c.first_word.ensures e))
 
 returns-2 : tie.Need-returns-2
-returns-2 c = (simp length-set c.before.requires.0, λ s x e. rw (back c.before.ranges.z) (to-body s x _ _ _ _ _ _ c.match.keys2))
+returns-2 c = (simp length-set c.before.requires.0, λ s x e. rw (back c.before.ranges.z) (to_body s x _ _ _ _ _ _ c.match.keys2))
 
 returns-3 : tie.Need-returns-3
 returns-3 c = (c.before.requires.0, λ s x e. to_none s x _ _ _ _ _ _ c.match.rest.0.1 c.match.rest.1)

@@ -1,7 +1,7 @@
 use mathlib.Core.Path.{refl, sym, ◌∙◌}
 use native.Mathlib.Omega.{arith}
 use borrow.Author.Rules.{rules}
-use Rattle.engine_bodies.proofs.Laws.{not_stuck, done-left, refused-left, refused-some, done-event, refused-event}
+use Rattle.engine_bodies.proofs.Laws.{not_stuck, done_left, refused-left, refused_some, done_event, refused-event}
 use Rattle.engine_bodies.proofs.event_body.Statement.{statement}
 use Rattle.engine_bodies.proofs.event_body.Tie as tie
 
@@ -18,7 +18,7 @@ sub-answer : tie.Need-overflow-sub-answer
 sub-answer c =
     let m = c.before.before.before.before.before.before.before.limit.ensures.0 in
     let h = c.before.before.before.before.before.before.before.before.before.requires.0 in
-    let l = done-left h _ (sym c.before.before.before.before.before.run-body.ensures.0 ∙ c.before.before.r.given.1) in
+    let l = done_left h _ (sym c.before.before.before.before.before.run-body.ensures.0 ∙ c.before.before.r.given.1) in
     omega arith
 
 answer-requires : tie.Need-answer-requires
@@ -55,7 +55,7 @@ returns c =
     let ran = c.before.before.before.before.before.before.before.run-body.ensures in
     let m = c.before.before.before.before.before.before.before.before.before.limit.ensures.0 in
     let end = sym ran.0 ∙ c.before.before.before.before.r.given.1 in
-    done-event h _ _ _ _ _ m c.before.answer.ensures.0 end (c.before.answer.ensures.1 refl ∙ ran.1)
+    done_event h _ _ _ _ _ m c.before.answer.ensures.0 end (c.before.answer.ensures.1 refl ∙ ran.1)
 
 same-length-2 : tie.Need-same-length-2
 same-length-2 c = search rules
@@ -65,7 +65,7 @@ returns-2 c =
     let h = c.before.before.before.before.before.before.before.before.before.before.before.requires.0 in
     let m = c.before.before.before.before.before.before.before.before.before.limit.ensures.0 in
     let ran = sym c.before.before.before.before.before.before.before.run-body.ensures.0 ∙ c.before.before.before.before.r2.given.1 in
-    refused-event h _ _ _ _ _ m _ c.before.answer2.ensures.0 ran (c.before.answer2.ensures.2 (refused-some h _ _ ran))
+    refused-event h _ _ _ _ _ m _ c.before.answer2.ensures.0 ran (c.before.answer2.ensures.2 (refused_some h _ _ ran))
 
 same-length-3 : tie.Need-same-length-3
 same-length-3 c = search rules

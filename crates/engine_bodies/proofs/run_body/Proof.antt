@@ -2,9 +2,9 @@ use Prim.Native.Nat.{◌-◌}
 use mathlib.Core.Path.{sym, ap, ◌∙◌}
 use native.Mathlib.Omega.{arith}
 use borrow.Author.Rules.{rules}
-use Rattle.engine_expressions.proofs.Places.{not-absent}
-use Rattle.engine_cells.proofs.Laws.{externals-by}
-use Rattle.engine_bodies.proofs.Laws.{not-external, few-elements, few-cells, body-there, few-parameters, few-variables, ready, root-statement, body-ran}
+use Rattle.engine_expressions.proofs.Places.{not_absent}
+use Rattle.engine_cells.proofs.Laws.{externals_by}
+use Rattle.engine_bodies.proofs.Laws.{not_external, few-elements, few-cells, body-there, few-parameters, few_variables, ready, root-statement, body-ran}
 use Rattle.engine_bodies.proofs.run_body.Statement.{statement}
 use Rattle.engine_bodies.proofs.run_body.Tie as tie
 
@@ -13,8 +13,8 @@ field-at-requires c κs = c.before.requires.0.playing.directory
 
 sub-i : tie.Need-overflow-sub-i
 sub-i c =
-    let x = externals-by _ _ c.field_at.ensures.0 in
-    let l = not-external c.before.before.requires.0 in
+    let x = externals_by _ _ c.field_at.ensures.0 in
+    let l = not_external c.before.before.requires.0 in
     omega arith
 
 mul-k : tie.Need-overflow-mul-k
@@ -39,7 +39,7 @@ enum_told : tie.Need-enum-told
 enum_told c = search rules
 
 never-taken-requires : tie.Need-never-taken-requires
-never-taken-requires c κs = not-absent _ _ (body-there c.before.before.before.before.before.before.requires.0) (sym c.before.before.read.ensures ∙ c.enum_told.given.1)
+never-taken-requires c κs = not_absent _ _ (body-there c.before.before.before.before.before.before.requires.0) (sym c.before.before.read.ensures ∙ c.enum_told.given.1)
 
 returns : tie.Need-returns
 returns c = absurd c.never-taken.ensures
@@ -60,7 +60,7 @@ fresh-locals-requires c κs =
     let h = c.before.before.before.before.before.before.before.before.before.before.requires.0 in
     let is = c.before.before.before.before.body.given.1 in
     let body = sym c.before.before.before.before.before.before.read.ensures ∙ is in
-    (h.playing.directory, few-parameters h _ body, few-variables h _ body)
+    (h.playing.directory, few-parameters h _ body, few_variables h _ body)
 
 cast-run : tie.Need-overflow-cast-run
 cast-run c = search rules
@@ -71,7 +71,7 @@ run-requires c κs =
     let h = start.requires.0 in
     let is = c.before.before.before.before.before.before.before.before.before.body.given.1 in
     let body = sym c.before.before.before.before.before.before.before.before.before.before.before.read.ensures ∙ is in
-    let first = externals-by _ _ c.before.before.before.before.before.before.before.before.before.before.before.before.before.field_at.ensures.0 in
+    let first = externals_by _ _ c.before.before.before.before.before.before.before.before.before.before.before.before.before.field_at.ensures.0 in
     let row = ap (λ x. start.args.e - x) first in
     let numbers = c.before.before.before.before.before.context.ensures in
     let ready-now = ready h _ body _ row _ numbers _ c.before.before.before.before.fresh-locals.ensures in
@@ -86,7 +86,7 @@ returns-2 c =
     let h = start.requires.0 in
     let is = c.before.before.before.before.before.before.before.before.before.before.before.body.given.1 in
     let body = sym c.before.before.before.before.before.before.before.before.before.before.before.before.before.read.ensures ∙ is in
-    let first = externals-by _ _ c.before.before.before.before.before.before.before.before.before.before.before.before.before.before.before.field_at.ensures.0 in
+    let first = externals_by _ _ c.before.before.before.before.before.before.before.before.before.before.before.before.before.before.before.field_at.ensures.0 in
     let row = ap (λ x. start.args.e - x) first in
     let numbers = c.before.before.before.before.before.before.before.context.ensures in
     let locals = c.before.before.before.before.before.before.fresh-locals.ensures in

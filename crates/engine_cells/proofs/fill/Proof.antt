@@ -2,18 +2,18 @@ use Prim.Native.Nat.{◌-◌, ◌<◌, ◌≤◌}
 use mathlib.Core.Path.{◌≡◌, refl, sym, ◌∙◌}
 use native.Mathlib.Omega.{arith}
 use borrow.Author.Rules.{rules}
-use Rattle.sheet_rules.specs.Fields.{sumBelow, elementsOf}
-use Rattle.sheet_rules.specs.Bindings.{firstBinding}
-use Rattle.sheet_rules.specs.Shape.{cellsBound}
-use Rattle.sheet_rules.proofs.Bindings.{first-most}
-use Rattle.machine_passed.proofs.Records.{cells-limit}
-use Rattle.engine_cells.proofs.Laws.{bound-there, bound-chart, chart-variables, bound-inside, bound-next, binding-next, bound_all, Rows, rows_none, rows_more, rows_all}
+use Rattle.sheet_rules.specs.Fields.{sum_below, elements_of}
+use Rattle.sheet_rules.specs.Bindings.{first_binding}
+use Rattle.sheet_rules.specs.Shape.{cells_bound}
+use Rattle.sheet_rules.proofs.Bindings.{first_most}
+use Rattle.machine_passed.proofs.Records.{cells_limit}
+use Rattle.engine_cells.proofs.Laws.{bound-there, bound-chart, chart_variables_lem, bound-inside, bound_next, binding_next, bound_all, Rows, rows_none, rows_more, rows_all}
 use Rattle.engine_cells.proofs.fill.Statement.{statement}
 use Rattle.engine_cells.proofs.fill.Tie as tie
 
 abbrev invariant-loop : tie.invariant-loop
 invariant-loop sheet directory cells₀ count cell₀ k₀ i₀ cells cell k i =
-    (i ≤ count) × (cell ≡ sumBelow i (cellsBound sheet)) × (k ≡ firstBinding sheet i) × Rows sheet i cells
+    (i ≤ count) × (cell ≡ sum_below i (cells_bound sheet)) × (k ≡ first_binding sheet i) × Rows sheet i cells
 
 abbrev decreases-loop : tie.decreases-loop
 decreases-loop sheet directory cells₀ count cell₀ k₀ i₀ cells cell k i = count - i
@@ -22,7 +22,7 @@ elements-requires : tie.Need-elements-requires invariant-loop decreases-loop
 elements-requires c κs = search rules
 
 loop-holds : tie.Need-loop-init invariant-loop decreases-loop
-unfolding sumBelow firstBinding
+unfolding sum_below first_binding
 loop-holds c = (omega arith, refl, refl, rows_none _ _ c.before.before.requires.2)
 
 chart-bound-requires : tie.Need-chart-bound-requires invariant-loop decreases-loop
@@ -40,7 +40,7 @@ never-taken-requires c κs =
     let l = c.before.before.before.loop-test.true in
     let s = c.before.before.before.before.before.before.before.args.sheet.now in
     let j = c.before.before.before.before.loop.i in
-    let m : j < elementsOf s = omega (arith, c.before.before.before.before.before.elements.ensures.0) in
+    let m : j < elements_of s = omega (arith, c.before.before.before.before.before.elements.ensures.0) in
     bound-there _ ok _ _ m c.before.before.before.before.loop.invariant.2 (sym c.before.before.chart-bound.ensures ∙ c.enum_told.given.1)
 
 returns : tie.Need-returns invariant-loop decreases-loop
@@ -61,10 +61,10 @@ fill-row-requires c κs =
     let p = sym c.before.before.before.before.chart-bound.ensures ∙ c.before.before.c.given.1 in
     let s = c.before.before.before.before.before.before.before.before.before.args.sheet.now in
     let j = c.before.before.before.before.before.before.loop.i in
-    let m : j < elementsOf s = omega (arith, n.0) in
-    let few = chart-variables _ ok _ _ (bound-chart _ ok _ _ m i.2 _ p) in
+    let m : j < elements_of s = omega (arith, n.0) in
+    let few = chart_variables_lem _ ok _ _ (bound-chart _ ok _ _ m i.2 _ p) in
     let inside = bound-inside _ ok _ _ m i.2 _ p _ i.1 in
-    (pre.0, i.3.size, few, omega (arith, n.1), omega (arith, inside, cells-limit _ ok))
+    (pre.0, i.3.size, few, omega (arith, n.1), omega (arith, inside, cells_limit _ ok))
 
 mul-cells : tie.Need-overflow-mul-cells invariant-loop decreases-loop
 mul-cells c =
@@ -93,7 +93,7 @@ add-k : tie.Need-overflow-add-k invariant-loop decreases-loop
 add-k c =
     let l = c.before.before.before.before.before.before.before.loop-test.true in
     let loop = c.before.before.before.before.before.before.before.before.loop in
-    let most = (first-most c.before.before.before.before.before.before.before.before.before.before.before.args.sheet.now loop.i).1 in
+    let most = (first_most c.before.before.before.before.before.before.before.before.before.before.before.args.sheet.now loop.i).1 in
     record { fits = omega (arith, loop.invariant.2, most, c.before.before.before.before.before.before.before.before.before.elements.ensures.1, c.records-for.ensures.1) }
 
 add-i : tie.Need-overflow-add-i invariant-loop decreases-loop
@@ -110,10 +110,10 @@ loop-again c =
     let p = sym c.before.before.before.before.before.before.chart-bound.ensures ∙ c.before.before.before.before.c.given.1 in
     let s = c.before.before.before.before.before.before.before.before.before.before.before.args.sheet.now in
     let j = c.before.before.before.before.before.before.before.before.loop.i in
-    let m : j < elementsOf s = omega (arith, c.before.before.before.before.before.before.before.before.before.elements.ensures.0) in
-    let cell = c.before.fill-row.ensures.0 ∙ bound-next _ ok _ _ m i.2 _ p _ i.1 in
+    let m : j < elements_of s = omega (arith, c.before.before.before.before.before.before.before.before.before.elements.ensures.0) in
+    let cell = c.before.fill-row.ensures.0 ∙ bound_next _ ok _ _ m i.2 _ p _ i.1 in
     let rows = rows_more _ ok _ _ _ _ _ _ m i.2 p i.1 c.before.fill-row.ensures.1 i.3 in
-    (omega arith, cell, binding-next _ ok _ _ m i.2 _ p _ c.records-for.ensures.0, rows)
+    (omega arith, cell, binding_next _ ok _ _ m i.2 _ p _ c.records-for.ensures.0, rows)
 
 returns-2 : tie.Need-returns-2 invariant-loop decreases-loop
 returns-2 c =

@@ -2,15 +2,15 @@ use Prim.Native.Nat.{◌+◌, ◌-◌, ◌≤◌}
 use mathlib.Core.Path.{◌≡◌}
 use native.Mathlib.Omega.{arith}
 use borrow.Author.Rules.{rules}
-use Rattle.sheet_rules.specs.Indices.{cellsBefore}
+use Rattle.sheet_rules.specs.Indices.{cells_before}
 use Rattle.machine_states.proofs.Elements.{variable-cells}
 use Rattle.engine_cells.specs.Cells.{Row}
-use Rattle.engine_cells.proofs.Laws.{row-none, row_more, row-whole, next-cell, no_cells}
+use Rattle.engine_cells.proofs.Laws.{row-none, row_more, row_whole, next_cell, no_cells}
 use Rattle.engine_cells.proofs.fill_row.Statement.{statement}
 use Rattle.engine_cells.proofs.fill_row.Tie as tie
 
 abbrev invariant-loop : tie.invariant-loop
-invariant-loop sheet directory cells₀ c at cell count next₀ n₀ cells next n = (n ≤ count) × (next ≡ cell + cellsBefore sheet c n) × Row sheet c at cell n cells₀ cells
+invariant-loop sheet directory cells₀ c at cell count next₀ n₀ cells next n = (n ≤ count) × (next ≡ cell + cells_before sheet c n) × Row sheet c at cell n cells₀ cells
 
 abbrev decreases-loop : tie.decreases-loop
 decreases-loop sheet directory cells₀ c at cell count next₀ n₀ cells next n = count - n
@@ -59,7 +59,7 @@ loop-again c =
     let b = c.before.before.before.before.before.before.requires.2 in
     let k = c.before.before.before.before.before.before.requires.3 in
     let e = c.before.before.before.loop.invariant.1 in
-    let next = next-cell _ c.before.before.before.before.before.before.args.c _ _ _ _ e c.cells-taken.ensures.0 in
+    let next = next_cell _ c.before.before.before.before.before.before.args.c _ _ _ _ e c.cells-taken.ensures.0 in
     (omega arith, next, row_more _ _ _ _ _ _ _ _ (omega arith) e c.before.before.before.loop.invariant.2)
 
 add-cells-2 : tie.Need-overflow-add-cells-2 invariant-loop decreases-loop
@@ -77,7 +77,7 @@ returns c =
     let b = c.before.before.before.before.requires.2 in
     let k = c.before.before.before.before.requires.3 in
     let m = c.before.loop.invariant.0 in
-    row-whole _ c.before.before.before.before.args.c _ _ _ _ _ _ (omega arith) (omega arith) c.before.loop.invariant.1 c.before.loop.invariant.2
+    row_whole _ c.before.before.before.before.args.c _ _ _ _ _ _ (omega arith) (omega arith) c.before.loop.invariant.1 c.before.loop.invariant.2
 
 pub fill-row-spec : {M : Type 1} → statement M
 fill-row-spec =

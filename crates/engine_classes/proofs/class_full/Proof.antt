@@ -3,7 +3,7 @@ use mathlib.Core.Path.{sym, subst, ◌∙◌}
 use mathlib.Core.Logic.{⊎_elim}
 use native.Mathlib.Omega.{arith}
 use borrow.Author.Rules.{rules}
-use Rattle.engine_classes.proofs.Laws.{Looked, looked-none, end-inside, class-few, looked-few, looked-inside, looked-found, looked-full, looked-passed}
+use Rattle.engine_classes.proofs.Laws.{Looked, looked_none, end-inside, class-few, looked_few, looked_inside, looked_found, looked_full, looked_passed}
 use Rattle.engine_classes.proofs.class_full.Statement.{statement}
 use Rattle.engine_classes.proofs.class_full.Tie as tie
 
@@ -26,7 +26,7 @@ place-at-requires-3 : tie.Need-place-at-requires-3 invariant-loop decreases-loop
 place-at-requires-3 c κs = search rules
 
 loop-holds : tie.Need-loop-init invariant-loop decreases-loop
-loop-holds c = looked-none _ _ c.before.before.before.before.requires.0 c.before.before.before.before.requires.1 c.before.before.before.before.requires.2 _ (let h = c.before.before.before.if1.false in omega arith) _ _ c.place-at3.ensures c.before.before.place_at.ensures
+loop-holds c = looked_none _ _ c.before.before.before.before.requires.0 c.before.before.before.before.requires.1 c.before.before.before.before.requires.2 _ (let h = c.before.before.before.if1.false in omega arith) _ _ c.place-at3.ensures c.before.before.place_at.ensures
 
 same-class-requires : tie.Need-same-class-requires invariant-loop decreases-loop
 same-class-requires c κs =
@@ -36,7 +36,7 @@ same-class-requires c κs =
     let pre = c.before.before.before.before.before.before.requires in
     omega (
       arith,
-      looked-inside _ _ pre.0 pre.1 pre.2 _ _ _ loop.invariant c.loop-test.true,
+      looked_inside _ _ pre.0 pre.1 pre.2 _ _ _ loop.invariant c.loop-test.true,
       end-inside _ _ pre.0 pre.1 pre.2 args.t,
     )
 
@@ -54,7 +54,7 @@ returns-2 c =
     let end = c.before.before.before.before.before.before.place-at2.ensures in
     let args = c.before.before.before.before.before.before.before.before.before.args in
     let pre = c.before.before.before.before.before.before.before.before.before.requires in
-    looked-full _ _ pre.0 pre.1 pre.2 _ _ _ loop.invariant c.before.before.before.loop-test.true (sym c.before.before.same_Class.ensures ∙ c.before.if2.true) (c.if3.true ∙ end)
+    looked_full _ _ pre.0 pre.1 pre.2 _ _ _ loop.invariant c.before.before.before.loop-test.true (sym c.before.before.same_Class.ensures ∙ c.before.if2.true) (c.if3.true ∙ end)
 
 add_at : tie.Need-overflow-add-at invariant-loop decreases-loop
 add_at c =
@@ -65,7 +65,7 @@ add_at c =
     record {
       fits = omega (
         arith,
-        looked-inside _ _ pre.0 pre.1 pre.2 _ _ _ loop.invariant c.before.before.loop-test.true,
+        looked_inside _ _ pre.0 pre.1 pre.2 _ _ _ loop.invariant c.before.before.loop-test.true,
         end-inside _ _ pre.0 pre.1 pre.2 args.t,
       );
     }
@@ -76,7 +76,7 @@ loop-less c =
     let end = c.before.before.before.before.before.place-at2.ensures in
     let args = c.before.before.before.before.before.before.before.before.args in
     let pre = c.before.before.before.before.before.before.before.before.requires in
-    omega (arith, looked-inside _ _ pre.0 pre.1 pre.2 _ _ _ loop.invariant c.before.before.loop-test.true)
+    omega (arith, looked_inside _ _ pre.0 pre.1 pre.2 _ _ _ loop.invariant c.before.before.loop-test.true)
 
 loop-again : tie.Need-loop-preserved invariant-loop decreases-loop
 loop-again c =
@@ -88,13 +88,13 @@ loop-again c =
     let same-class-here = c.before.same_Class.ensures in
     ⊎_elim
     (λ w. subst (λ last. Looked args.st.now args.n args.t last (loop.at + 8)) (sym w.2)
-    (looked-found _ _ pre.0 pre.1 pre.2 _ _ _ loop.invariant loop-test.true (sym same-class-here ∙ w.0.taken) (λ q. w.1.left (q ∙ sym end))))
+    (looked_found _ _ pre.0 pre.1 pre.2 _ _ _ loop.invariant loop-test.true (sym same-class-here ∙ w.0.taken) (λ q. w.1.left (q ∙ sym end))))
     (λ w. subst (λ last. Looked args.st.now args.n args.t last (loop.at + 8)) (sym w.1)
-    (looked-passed _ _ pre.0 pre.1 pre.2 _ _ _ loop.invariant loop-test.true (sym same-class-here ∙ w.0.left)))
+    (looked_passed _ _ pre.0 pre.1 pre.2 _ _ _ loop.invariant loop-test.true (sym same-class-here ∙ w.0.left)))
     c.if2.branch
 
 returns-3 : tie.Need-returns-3 invariant-loop decreases-loop
-returns-3 c = looked-few _ _ c.before.before.before.before.before.before.requires.0 c.before.before.before.before.before.before.requires.1 c.before.before.before.before.before.before.requires.2 _ _ _ c.before.loop.invariant (let h = c.loop-test.false in omega arith)
+returns-3 c = looked_few _ _ c.before.before.before.before.before.before.requires.0 c.before.before.before.before.before.before.requires.1 c.before.before.before.before.before.before.requires.2 _ _ _ c.before.loop.invariant (let h = c.loop-test.false in omega arith)
 
 pub class-full-spec : {M : Type 1} → statement M
 class-full-spec =

@@ -4,7 +4,7 @@ use mir.Syntax.{w32}
 use mir.Val.{of_z, to_z}
 use Rattle.machine.specs.State.{cell_at}
 use Rattle.engine_valid_words.proofs.Laws.{below-from}
-use Rattle.engine_context.proofs.Laws.{goes-outside, goes-below, goes-inside, goes-few}
+use Rattle.engine_context.proofs.Laws.{goes_outside, goes_below, goes_inside, goes_few}
 use borrow.Author.Rules.{rules}
 use Rattle.engine_context.proofs.element_word.Statement.{statement}
 use Rattle.engine_context.proofs.element_word.Tie as tie
@@ -37,16 +37,16 @@ is-below-requires : tie.Need-is-below-requires
 is-below-requires c κs = search rules
 
 returns : tie.Need-returns
-returns c = let h : to_z w32 (of_z w32 c.before.before.before.before.args.i) ≡ c.before.before.before.before.args.i = search rules in goes-outside c.before.before.before.before.args.context.now c.before.before.before.before.args.n c.before.before.before.before.args.i _ (rw h at c.before.is_below.ensures) c.if1.true
+returns c = let h : to_z w32 (of_z w32 c.before.before.before.before.args.i) ≡ c.before.before.before.before.args.i = search rules in goes_outside c.before.before.before.before.args.context.now c.before.before.before.before.args.n c.before.before.before.before.args.i _ (rw h at c.before.is_below.ensures) c.if1.true
 
 number-requires : tie.Need-number-requires
-number-requires c κs = let h : to_z w32 (of_z w32 c.before.before.before.before.args.i) ≡ c.before.before.before.before.args.i = search rules in rw h (below-from _ _ (goes-below c.before.before.before.before.args.context.now c.before.before.before.before.args.n c.before.before.before.before.args.i _ (rw h at c.before.is_below.ensures) c.if1.false))
+number-requires c κs = let h : to_z w32 (of_z w32 c.before.before.before.before.args.i) ≡ c.before.before.before.before.args.i = search rules in rw h (below-from _ _ (goes_below c.before.before.before.before.args.context.now c.before.before.before.before.args.n c.before.before.before.before.args.i _ (rw h at c.before.is_below.ensures) c.if1.false))
 
 add-cell-at : tie.Need-overflow-add-cell-at
 add-cell-at c =
     let args = c.before.before.before.before.before.args in
     let h : to_z w32 (of_z w32 args.i) ≡ args.i = search rules in
-    let few = goes-few args.context.now args.n args.i _ (rw h at c.before.before.is_below.ensures) c.before.if1.false _ (rw h at c.number.ensures) c.before.before.before.before.before.requires in
+    let few = goes_few args.context.now args.n args.i _ (rw h at c.before.before.is_below.ensures) c.before.if1.false _ (rw h at c.number.ensures) c.before.before.before.before.before.requires in
     record { fits = omega arith }
 
 cell-at-requires : tie.Need-cell-at-requires
@@ -54,14 +54,14 @@ unfolding cell_at
 cell-at-requires c κs =
     let args = c.before.before.before.before.before.args in
     let h : to_z w32 (of_z w32 args.i) ≡ args.i = search rules in
-    let few = goes-few args.context.now args.n args.i _ (rw h at c.before.before.is_below.ensures) c.before.if1.false _ (rw h at c.number.ensures) c.before.before.before.before.before.requires in
+    let few = goes_few args.context.now args.n args.i _ (rw h at c.before.before.is_below.ensures) c.before.if1.false _ (rw h at c.number.ensures) c.before.before.before.before.before.requires in
     omega arith
 
 returns-2 : tie.Need-returns-2
 returns-2 c =
     let args = c.before.before.before.before.before.before.args in
     let h : to_z w32 (of_z w32 args.i) ≡ args.i = search rules in
-    goes-inside args.context.now args.n args.i _ (rw h at c.before.before.before.is_below.ensures) c.before.before.if1.false _ (rw h at c.before.number.ensures) _ c.Cell-at.ensures
+    goes_inside args.context.now args.n args.i _ (rw h at c.before.before.before.is_below.ensures) c.before.before.if1.false _ (rw h at c.before.number.ensures) _ c.Cell-at.ensures
 
 pub element-word-spec : {M : Type 1} → statement M
 element-word-spec =

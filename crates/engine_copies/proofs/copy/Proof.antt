@@ -6,7 +6,7 @@ use lib.ListN.{length, get_or, length-set}
 use borrow.Author.Rules.{rules}
 use Rattle.machine.specs.State.{word_of}
 use Rattle.engine_rows.proofs.Laws.{given}
-use Rattle.engine_copies.proofs.Alike.{Alike, alike-more, alike_all}
+use Rattle.engine_copies.proofs.Alike.{Alike, alike_more, alike_all}
 use Rattle.engine_copies.proofs.copy.Statement.{statement}
 use Rattle.engine_copies.proofs.copy.Tie as tie
 
@@ -39,7 +39,7 @@ loop-less c = search rules
 
 loop-again : tie.Need-loop-preserved invariant-loop decreases-loop
 unfolding word_of
-loop-again c = let e = c.before.before.loop.invariant.1 in let q = c.before.before.before.requires in let l = c.before.loop-test.true in (omega arith, simp length-set e, alike-more c.before.before.loop.to c.before.before.before.args.from.now c.before.before.loop.i _ (omega arith) (given (get_or c.before.before.before.args.from.now c.before.before.loop.i (pos 0)) c.z.given) c.before.before.loop.invariant.2)
+loop-again c = let e = c.before.before.loop.invariant.1 in let q = c.before.before.before.requires in let l = c.before.loop-test.true in (omega arith, simp length-set e, alike_more c.before.before.loop.to c.before.before.before.args.from.now c.before.before.loop.i _ (omega arith) (given (get_or c.before.before.before.args.from.now c.before.before.loop.i (pos 0)) c.z.given) c.before.before.loop.invariant.2)
 
 same_length : tie.Need-same-length invariant-loop decreases-loop
 same_length c = search rules

@@ -4,8 +4,8 @@ use native.Mathlib.Omega.{arith}
 use lib.IntN.{pos}
 use lib.ListN.{length, replicate, length-set, length-replicate}
 use borrow.Author.Rules.{rules}
-use Rattle.engine_rows.proofs.Laws.{word-zeros}
-use Rattle.engine_copies.proofs.Alike.{Alike, alike-more, alike_all}
+use Rattle.engine_rows.proofs.Laws.{word_zeros}
+use Rattle.engine_copies.proofs.Alike.{Alike, alike_more, alike_all}
 use Rattle.engine_copies.proofs.zero.Statement.{statement}
 use Rattle.engine_copies.proofs.zero.Tie as tie
 
@@ -31,7 +31,7 @@ loop-less : tie.Need-loop-smaller invariant-loop decreases-loop
 loop-less c = let l = c.loop-test.true in simp length-set (omega arith)
 
 loop-again : tie.Need-loop-preserved invariant-loop decreases-loop
-loop-again c = let e = c.before.loop.invariant.1 in let l = c.loop-test.true in (omega arith, simp length-set e, alike-more c.before.loop.to _ c.before.loop.i (pos 0) l (sym (word-zeros (length c.before.before.args.to.now) c.before.loop.i (omega arith))) c.before.loop.invariant.2)
+loop-again c = let e = c.before.loop.invariant.1 in let l = c.loop-test.true in (omega arith, simp length-set e, alike_more c.before.loop.to _ c.before.loop.i (pos 0) l (sym (word_zeros (length c.before.before.args.to.now) c.before.loop.i (omega arith))) c.before.loop.invariant.2)
 
 same_length : tie.Need-same-length invariant-loop decreases-loop
 same_length c = search rules

@@ -5,15 +5,15 @@ use lib.ListN.{length}
 use mir.Syntax.{w32}
 use mir.Val.{to_z}
 use borrow.Author.Rules.{rules}
-use Rattle.machine.specs.State.{cell_at, putWords}
+use Rattle.machine.specs.State.{cell_at, put_words}
 use Rattle.machine.specs.Play.{alike}
 use Rattle.engine_rows.proofs.Laws.{given}
-use Rattle.engine_defaults.proofs.State.{cellOfWord, alike-none, alike_next, alike_all}
+use Rattle.engine_defaults.proofs.State.{cell_of_word, alike-none, alike_next, alike_all}
 use Rattle.engine_defaults.proofs.cells_alike.Statement.{statement}
 use Rattle.engine_defaults.proofs.cells_alike.Tie as tie
 
 abbrev invariant-loop : tie.invariant-loop
-invariant-loop st₀ cell n z k₀ st k = (k ≤ n) × (length st ≡ length st₀) × (st ≡ putWords st₀ (cell_at cell) (alike k (cellOfWord (to_z w32 z))))
+invariant-loop st₀ cell n z k₀ st k = (k ≤ n) × (length st ≡ length st₀) × (st ≡ put_words st₀ (cell_at cell) (alike k (cell_of_word (to_z w32 z))))
 
 abbrev decreases-loop : tie.decreases-loop
 decreases-loop st₀ cell n z k₀ st k = n - k

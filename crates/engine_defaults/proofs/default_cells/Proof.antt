@@ -3,17 +3,17 @@ use mathlib.Core.Path.{◌≡◌, refl, ◌∙◌}
 use native.Mathlib.Omega.{arith}
 use lib.ListN.{length}
 use borrow.Author.Rules.{rules}
-use Rattle.sheet_rules.specs.Indices.{cellsBefore}
+use Rattle.sheet_rules.specs.Indices.{cells_before}
 use Rattle.machine.specs.State.{cell_at}
 use Rattle.machine_states.proofs.Elements.{variable-cells}
 use Rattle.engine_rows.proofs.Laws.{given}
-use Rattle.engine_cells.proofs.Laws.{no_cells, next-cell}
-use Rattle.engine_defaults.proofs.State.{Written, written_none, written-more, written_all}
+use Rattle.engine_cells.proofs.Laws.{no_cells, next_cell}
+use Rattle.engine_defaults.proofs.State.{Written, written_none, written_more_lem, written_all}
 use Rattle.engine_defaults.proofs.default_cells.Statement.{statement}
 use Rattle.engine_defaults.proofs.default_cells.Tie as tie
 
 abbrev invariant-loop : tie.invariant-loop
-invariant-loop sheet directory st₀ c cell count next₀ j₀ st next j = (j ≤ count) × (length st ≡ length st₀) × (next ≡ cell + cellsBefore sheet c j) × Written sheet c st₀ cell st j
+invariant-loop sheet directory st₀ c cell count next₀ j₀ st next j = (j ≤ count) × (length st ≡ length st₀) × (next ≡ cell + cells_before sheet c j) × Written sheet c st₀ cell st j
 
 abbrev decreases-loop : tie.decreases-loop
 decreases-loop sheet directory st₀ c cell count next₀ j₀ st next j = count - j
@@ -85,8 +85,8 @@ loop-again c =
     let z = given default-of.result default-of.type-inv ∙ default-of.ensures in (
       omega arith,
       c.st.given ∙ loop.invariant.1,
-      next-cell _ args.c _ _ _ _ e x,
-      written-more _ args.c _ _ loop.st _ _ type-at.result _ _ _ (omega arith) type-at.ensures z x e c.before.cells-alike.ensures loop.invariant.3,
+      next_cell _ args.c _ _ _ _ e x,
+      written_more_lem _ args.c _ _ loop.st _ _ type-at.result _ _ _ (omega arith) type-at.ensures z x e c.before.cells-alike.ensures loop.invariant.3,
     )
 
 same_length : tie.Need-same-length invariant-loop decreases-loop

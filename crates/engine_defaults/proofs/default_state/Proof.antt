@@ -4,19 +4,19 @@ use native.Mathlib.Omega.{arith}
 use lib.ListN.{length, length-replicate}
 use lib.IntN.{pos}
 use borrow.Author.Rules.{rules}
-use Rattle.sheet_rules.specs.Fields.{sumBelow, elementsOf}
-use Rattle.sheet_rules.specs.Bindings.{firstBinding}
-use Rattle.sheet_rules.specs.Shape.{cellsBound}
-use Rattle.sheet_rules.proofs.Bindings.{first-most}
-use Rattle.machine.specs.State.{cell_at, placeAt, stateLength}
-use Rattle.machine_passed.proofs.Records.{cells-limit}
-use Rattle.engine_cells.proofs.Laws.{bound-there, bound-inside, bound-next, binding-next}
-use Rattle.engine_defaults.proofs.State.{Filled, filled_none, filled_more, filled-all}
+use Rattle.sheet_rules.specs.Fields.{sum_below, elements_of}
+use Rattle.sheet_rules.specs.Bindings.{first_binding}
+use Rattle.sheet_rules.specs.Shape.{cells_bound}
+use Rattle.sheet_rules.proofs.Bindings.{first_most}
+use Rattle.machine.specs.State.{cell_at, place_at, state_length}
+use Rattle.machine_passed.proofs.Records.{cells_limit}
+use Rattle.engine_cells.proofs.Laws.{bound-there, bound-inside, bound_next, binding_next}
+use Rattle.engine_defaults.proofs.State.{Filled, filled_none, filled_more, filled_all}
 use Rattle.engine_defaults.proofs.default_state.Statement.{statement}
 use Rattle.engine_defaults.proofs.default_state.Tie as tie
 
 abbrev invariant-loop : tie.invariant-loop
-invariant-loop sheet directory st₀ count cell₀ k₀ i₀ st cell k i = (i ≤ count) × (count ≡ elementsOf sheet) × (length st ≡ stateLength sheet) × (cell ≡ sumBelow i (cellsBound sheet)) × Filled sheet st₀ st cell i × (k ≡ firstBinding sheet i)
+invariant-loop sheet directory st₀ count cell₀ k₀ i₀ st cell k i = (i ≤ count) × (count ≡ elements_of sheet) × (length st ≡ state_length sheet) × (cell ≡ sum_below i (cells_bound sheet)) × Filled sheet st₀ st cell i × (k ≡ first_binding sheet i)
 
 abbrev decreases-loop : tie.decreases-loop
 decreases-loop sheet directory st₀ count cell₀ k₀ i₀ st cell k i = count - i
@@ -28,7 +28,7 @@ elements-requires : tie.Need-elements-requires invariant-loop decreases-loop
 elements-requires c κs = search rules
 
 loop-holds : tie.Need-loop-init invariant-loop decreases-loop
-unfolding sumBelow firstBinding
+unfolding sum_below first_binding
 loop-holds c =
     let start = c.before.before.before.before.before in
     let whole = ap length c.before.before.zero.ensures ∙ length-replicate _ (pos 0) ∙ start.requires.2 in
@@ -58,13 +58,13 @@ returns : tie.Need-returns invariant-loop decreases-loop
 returns c = absurd c.never-taken.ensures
 
 default-cells-requires : tie.Need-default-cells-requires invariant-loop decreases-loop
-unfolding cell_at placeAt stateLength
+unfolding cell_at place_at state_length
 default-cells-requires c κs =
     let pre = c.before.before.before.before.before.before.before.before.before.before.before.before.requires in
     let l = c.before.before.before.before.before.loop-test.true in
     let e = c.before.before.before.before.before.before.loop.invariant.1 in
     let i = bound-inside _ pre.1 _ _ (omega arith) c.before.before.before.before.before.before.loop.invariant.5 _ (sym c.before.before.before.before.chart-bound.ensures ∙ c.before.before.c.given.1) _ c.before.before.before.before.before.before.loop.invariant.3 in
-    let v = cells-limit _ pre.1 in
+    let v = cells_limit _ pre.1 in
     let w = c.before.before.before.before.before.before.loop.invariant.2 in
     (pre.0, record { few = omega arith; inside = omega arith })
 
@@ -74,7 +74,7 @@ records-for-requires c κs = search rules
 add-k : tie.Need-overflow-add-k invariant-loop decreases-loop
 add-k c =
     let l = c.before.before.before.before.before.before.before.before.loop-test.true in
-    record { fits = omega (arith, c.before.before.before.before.before.before.before.before.before.loop.invariant.5, (first-most c.before.before.before.before.before.before.before.before.before.before.before.before.before.before.before.args.sheet.now c.before.before.before.before.before.before.before.before.before.loop.i).1, c.before.before.before.before.before.before.before.before.before.before.elements.ensures.1, c.records-for.ensures.1) }
+    record { fits = omega (arith, c.before.before.before.before.before.before.before.before.before.loop.invariant.5, (first_most c.before.before.before.before.before.before.before.before.before.before.before.before.before.before.before.args.sheet.now c.before.before.before.before.before.before.before.before.before.loop.i).1, c.before.before.before.before.before.before.before.before.before.before.elements.ensures.1, c.records-for.ensures.1) }
 
 add-i : tie.Need-overflow-add-i invariant-loop decreases-loop
 add-i c = search rules
@@ -90,7 +90,7 @@ loop-again c =
     let e = i.1 in
     let p = sym c.before.before.before.before.before.before.before.chart-bound.ensures ∙ c.before.before.before.before.before.c.given.1 in
     let x = c.before.before.default-cells.ensures in
-    (omega arith, e, c.before.st2.given ∙ i.2, x.0 ∙ bound-next _ pre.1 _ _ (omega arith) i.5 _ p _ i.3, filled_more _ pre.1 _ _ _ _ _ _ _ _ (omega arith) i.5 p i.3 x.1 x.0 i.4, binding-next _ pre.1 _ _ (omega arith) i.5 _ p _ c.records-for.ensures.0)
+    (omega arith, e, c.before.st2.given ∙ i.2, x.0 ∙ bound_next _ pre.1 _ _ (omega arith) i.5 _ p _ i.3, filled_more _ pre.1 _ _ _ _ _ _ _ _ (omega arith) i.5 p i.3 x.1 x.0 i.4, binding_next _ pre.1 _ _ (omega arith) i.5 _ p _ c.records-for.ensures.0)
 
 same-length-2 : tie.Need-same-length-2 invariant-loop decreases-loop
 same-length-2 c = c.before.loop.invariant.2 ∙ sym c.before.before.before.before.before.before.before.requires.2
@@ -103,7 +103,7 @@ returns-2 c =
     let e = inv.1 in
     let l = inv.0 in
     let m = c.loop-test.false in
-    filled-all _ start.requires.1 _ _ _ _ _ start.requires.2 zeros (omega arith) (omega arith) inv.3 inv.4
+    filled_all _ start.requires.1 _ _ _ _ _ start.requires.2 zeros (omega arith) (omega arith) inv.3 inv.4
 
 pub default-state-spec : {M : Type 1} → statement M
 default-state-spec =

@@ -3,7 +3,7 @@ use mathlib.Core.Path.{◌∙◌}
 use native.Mathlib.Omega.{arith}
 use borrow.Author.Rules.{rules}
 use Rattle.engine_rows.proofs.Laws.{given}
-use Rattle.engine_defaults.proofs.Laws.{Begun, begun-none, begun_more, begun_all}
+use Rattle.engine_defaults.proofs.Laws.{Begun, begun_none, begun_more, begun_all}
 use Rattle.engine_defaults.proofs.fresh_locals.Statement.{statement}
 use Rattle.engine_defaults.proofs.fresh_locals.Tie as tie
 
@@ -23,7 +23,7 @@ add-count : tie.Need-overflow-add-count invariant-loop decreases-loop
 add-count c = search rules
 
 loop-holds : tie.Need-loop-init invariant-loop decreases-loop
-loop-holds c = (omega arith, begun-none _ _ _)
+loop-holds c = (omega arith, begun_none _ _ _)
 
 local-at-requires : tie.Need-local-at-requires invariant-loop decreases-loop
 local-at-requires c κs = (c.before.before.before.before.before.requires.0, c.before.before.before.before.before.requires.1, c.loop-test.true)

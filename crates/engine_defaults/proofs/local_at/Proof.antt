@@ -1,8 +1,8 @@
 use mathlib.Core.Path.{ap, ◌∙◌}
 use borrow.Author.Rules.{rules}
-use Rattle.machine.specs.Values.{defaultOf}
+use Rattle.machine.specs.Values.{default_of}
 use Rattle.engine_rows.proofs.Laws.{given}
-use Rattle.engine_defaults.proofs.Laws.{local-parameter, local-default}
+use Rattle.engine_defaults.proofs.Laws.{local_parameter, local_default}
 use Rattle.engine_defaults.proofs.local_at.Statement.{statement}
 use Rattle.engine_defaults.proofs.local_at.Tie as tie
 
@@ -16,7 +16,7 @@ element-copy-out-result : tie.Need-element-copy-out-result
 element-copy-out-result c = search rules
 
 returns : tie.Need-returns
-returns c = given _ c.result.given ∙ local-parameter c.before.before.before.before.args.sheet.now c.before.before.before.before.args.b c.before.before.before.before.args.d.now _ c.before.if1.true
+returns c = given _ c.result.given ∙ local_parameter c.before.before.before.before.args.sheet.now c.before.before.before.before.args.b c.before.before.before.before.args.d.now _ c.before.if1.true
 
 cast-type-at : tie.Need-overflow-cast-type-at
 cast-type-at c = search rules
@@ -31,7 +31,7 @@ default-of-requires : tie.Need-default-of-requires
 default-of-requires c κs = search rules
 
 returns-2 : tie.Need-returns-2
-returns-2 c = given c.default-of.result c.default-of.type-inv ∙ c.default-of.ensures ∙ ap (defaultOf c.before.before.before.before.before.before.args.sheet.now) c.before.type-at.ensures ∙ local-default c.before.before.before.before.before.before.args.sheet.now c.before.before.before.before.before.before.args.b _ _ c.before.before.before.if1.false c.before.before.before.before.before.before.requires.2
+returns-2 c = given c.default-of.result c.default-of.type-inv ∙ c.default-of.ensures ∙ ap (default_of c.before.before.before.before.before.before.args.sheet.now) c.before.type-at.ensures ∙ local_default c.before.before.before.before.before.before.args.sheet.now c.before.before.before.before.before.before.args.b _ _ c.before.before.before.if1.false c.before.before.before.before.before.before.requires.2
 
 pub local-at-spec : {M : Type 1} → statement M
 local-at-spec =

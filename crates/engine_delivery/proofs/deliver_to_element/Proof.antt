@@ -2,10 +2,10 @@ use mathlib.Core.Path.{sym, ap, ◌∙◌}
 use lib.IntN.{pos}
 use lib.Signed.{le_z}
 use borrow.Author.Rules.{rules}
-use Rattle.machine_events.proofs.Called.{has-chart}
-use Rattle.machine_events.proofs.Received.{receiver-number, port-number, name-number, receiver-bound, reaction-called, as-delivered, none-delivered}
+use Rattle.machine_events.proofs.Called.{has_chart}
+use Rattle.machine_events.proofs.Received.{receiver-number, port-number, name-number, receiver-bound, reaction_called, as_delivered, none-delivered}
 use Rattle.engine_rows.proofs.Laws.{given}
-use Rattle.engine_delivery.proofs.Laws.{number_read, data-read}
+use Rattle.engine_delivery.proofs.Laws.{number_read, data_read}
 use Rattle.engine_delivery.proofs.deliver_to_element.Statement.{statement}
 use Rattle.engine_delivery.proofs.deliver_to_element.Tie as tie
 
@@ -37,7 +37,7 @@ never-taken-requires c κs =
     let receiver = number_read word c.before.before.before.before.before.struct_told.given.1.0.1 _ c.before.before.before.before.number.ensures in
     let bound = receiver-bound _ pre.0.beside.playing.passed _ pre.0.fits pre.0.class pre.1 _ receiver in
     let none = sym c.before.before.read.ensures ∙ c.enum_told.given.1 in
-    has-chart _ pre.0.beside.playing.passed _ bound (sym c.before.before.before.chart-number.ensures ∙ none)
+    has_chart _ pre.0.beside.playing.passed _ bound (sym c.before.before.before.chart-number.ensures ∙ none)
 
 answered-requires : tie.Need-answered-requires
 answered-requires c κs = search rules
@@ -79,13 +79,13 @@ event-body-requires c κs =
     let port = number_read t.port told.1.0.1 _ c.before.before.before.before.before.before.before.before.before.number2.ensures in
     let name = number_read t.name told.1.1.0.1 _ c.before.before.before.before.before.before.before.number3.ensures in
     let words = told.1.1.1 in
-    let brought = data-read t words.0.1 words.1.0.1 words.1.1.0.1 words.1.1.1.0.1 in
+    let brought = data_read t words.0.1 words.1.0.1 words.1.1.0.1 words.1.1.1.0.1 in
     let is = c.before.before.before.before.before.before.before.before.before.before.before.before.c.given.1 in
     let there = sym c.before.before.before.before.before.before.before.before.before.before.before.before.before.before.read.ensures ∙ is in
     let bound = sym c.before.before.before.before.before.before.before.before.before.before.before.before.before.before.before.chart-number.ensures ∙ there in
     let found = c.before.before.before.before.before.before.reaction-on.ensures in
     let ok = pre.0.beside.playing.passed in
-    let called = reaction-called _ ok t pre.0.fits pre.0.class pre.1 _ receiver _ bound _ _ _ port name found c.before.before.before.before.if1.true _ brought in
+    let called = reaction_called _ ok t pre.0.fits pre.0.class pre.1 _ receiver _ bound _ _ _ port name found c.before.before.before.before.if1.true _ brought in
     (record { playing = pre.0.beside.playing; chart = record { there = there; bound = bound }; called = called }, pre.0.beside.long)
 
 same_length : tie.Need-same-length
@@ -101,14 +101,14 @@ returns-2 c =
     let port = number_read t.port told.1.0.1 _ c.before.before.before.before.before.before.before.before.before.before.before.number2.ensures in
     let name = number_read t.name told.1.1.0.1 _ c.before.before.before.before.before.before.before.before.before.number3.ensures in
     let words = told.1.1.1 in
-    let brought = data-read t words.0.1 words.1.0.1 words.1.1.0.1 words.1.1.1.0.1 in
+    let brought = data_read t words.0.1 words.1.0.1 words.1.1.0.1 words.1.1.1.0.1 in
     let is = c.before.before.before.before.before.before.before.before.before.before.before.before.before.before.c.given.1 in
     let there = sym c.before.before.before.before.before.before.before.before.before.before.before.before.before.before.before.before.read.ensures ∙ is in
     let bound = sym c.before.before.before.before.before.before.before.before.before.before.before.before.before.before.before.before.before.chart-number.ensures ∙ there in
     let found = c.before.before.before.before.before.before.before.before.reaction-on.ensures in
     let below = c.before.before.before.before.before.before.if1.true in
     let ok = pre.0.beside.playing.passed in
-    as-delivered _ ok t pre.0.fits pre.0.class pre.1 _ receiver _ bound _ _ _ port name found below _ brought _ _ _ c.before.event-body.ensures
+    as_delivered _ ok t pre.0.fits pre.0.class pre.1 _ receiver _ bound _ _ _ port name found below _ brought _ _ _ c.before.event-body.ensures
 
 run-panic-body-requires : tie.Need-run-panic-body-requires
 run-panic-body-requires c κs =

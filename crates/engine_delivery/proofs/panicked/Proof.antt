@@ -1,6 +1,6 @@
 use mathlib.Core.Path.{sym, ◌∙◌}
 use borrow.Author.Rules.{rules}
-use Rattle.machine_events.proofs.Called.{has-chart}
+use Rattle.machine_events.proofs.Called.{has_chart}
 use Rattle.engine_delivery.proofs.panicked.Statement.{statement}
 use Rattle.engine_delivery.proofs.panicked.Tie as tie
 
@@ -19,7 +19,7 @@ enum_told c = search rules
 never-taken-requires : tie.Need-never-taken-requires
 never-taken-requires c κs =
     let pre = c.before.before.before.before.before.requires in
-    has-chart _ pre.0.playing.passed _ pre.1 (sym c.before.before.before.chart-number.ensures ∙ sym c.before.before.read.ensures ∙ c.enum_told.given.1)
+    has_chart _ pre.0.playing.passed _ pre.1 (sym c.before.before.before.chart-number.ensures ∙ sym c.before.before.read.ensures ∙ c.enum_told.given.1)
 
 answered-requires : tie.Need-answered-requires
 answered-requires c κs = search rules

@@ -2,10 +2,10 @@ use mathlib.Core.Path.{sym, ap, ◌∙◌}
 use lib.IntN.{pos}
 use lib.Signed.{le_z}
 use borrow.Author.Rules.{rules}
-use Rattle.machine_events.proofs.Called.{has-chart}
-use Rattle.machine_events.proofs.Received.{receiver-number, inner_name, inner_bound, inner-asked, as-reacting}
+use Rattle.machine_events.proofs.Called.{has_chart}
+use Rattle.machine_events.proofs.Received.{receiver-number, inner_name, inner_bound, inner_asked, as_reacting}
 use Rattle.engine_rows.proofs.Laws.{given}
-use Rattle.engine_delivery.proofs.Laws.{number_read, data-read}
+use Rattle.engine_delivery.proofs.Laws.{number_read, data_read}
 use Rattle.engine_delivery.proofs.reacts.Statement.{statement}
 use Rattle.engine_delivery.proofs.reacts.Tie as tie
 
@@ -37,7 +37,7 @@ never-taken-requires c κs =
     let receiver = number_read word c.before.before.before.before.before.struct_told.given.1.0.1 _ c.before.before.before.before.number.ensures in
     let bound = inner_bound _ pre.beside.playing.passed _ pre.fits pre.class _ receiver in
     let none = sym c.before.before.read.ensures ∙ c.enum_told.given.1 in
-    has-chart _ pre.beside.playing.passed _ bound (sym c.before.before.before.chart-number.ensures ∙ none)
+    has_chart _ pre.beside.playing.passed _ bound (sym c.before.before.before.chart-number.ensures ∙ none)
 
 answered-requires : tie.Need-answered-requires
 answered-requires c κs = search rules
@@ -69,12 +69,12 @@ event-body-requires c κs =
     let receiver = number_read t.receiver told.0.1 _ number in
     let name = number_read t.name told.1.1.0.1 _ c.before.before.before.before.before.number2.ensures in
     let words = told.1.1.1 in
-    let brought = data-read t words.0.1 words.1.0.1 words.1.1.0.1 words.1.1.1.0.1 in
+    let brought = data_read t words.0.1 words.1.0.1 words.1.1.0.1 words.1.1.1.0.1 in
     let is = c.before.before.before.before.before.before.before.before.c.given.1 in
     let there = sym c.before.before.before.before.before.before.before.before.before.before.read.ensures ∙ is in
     let bound = sym c.before.before.before.before.before.before.before.before.before.before.before.chart-number.ensures ∙ there in
     let found = c.before.before.before.before.reaction-to.ensures in
-    let called = inner-asked _ pre.beside.playing.passed t pre.fits pre.class _ receiver _ bound _ _ name found _ brought in
+    let called = inner_asked _ pre.beside.playing.passed t pre.fits pre.class _ receiver _ bound _ _ name found _ brought in
     (record { playing = pre.beside.playing; chart = record { there = there; bound = bound }; called = called }, pre.beside.long)
 
 same_length : tie.Need-same-length
@@ -89,12 +89,12 @@ returns-2 c =
     let receiver = number_read t.receiver told.0.1 _ number in
     let name = number_read t.name told.1.1.0.1 _ c.before.before.before.before.before.before.before.number2.ensures in
     let words = told.1.1.1 in
-    let brought = data-read t words.0.1 words.1.0.1 words.1.1.0.1 words.1.1.1.0.1 in
+    let brought = data_read t words.0.1 words.1.0.1 words.1.1.0.1 words.1.1.1.0.1 in
     let is = c.before.before.before.before.before.before.before.before.before.before.c.given.1 in
     let there = sym c.before.before.before.before.before.before.before.before.before.before.before.before.read.ensures ∙ is in
     let bound = sym c.before.before.before.before.before.before.before.before.before.before.before.before.before.chart-number.ensures ∙ there in
     let found = c.before.before.before.before.before.before.reaction-to.ensures in
-    as-reacting _ pre.beside.playing.passed t pre.fits pre.class _ receiver _ bound _ _ name found _ brought _ _ _ c.before.event-body.ensures
+    as_reacting _ pre.beside.playing.passed t pre.fits pre.class _ receiver _ bound _ _ name found _ brought _ _ _ c.before.event-body.ensures
 
 pub reacts-spec : {M : Type 1} → statement M
 reacts-spec =

@@ -1,5 +1,5 @@
 use borrow.Author.Rules.{rules}
-use Rattle.machine_events.proofs.Received.{panic-asked, as-panicking}
+use Rattle.machine_events.proofs.Received.{panic_asked, as_panicking}
 use Rattle.engine_delivery.proofs.run_panic_body.Statement.{statement}
 use Rattle.engine_delivery.proofs.run_panic_body.Tie as tie
 
@@ -15,7 +15,7 @@ add-event-body c = search rules
 event-body-requires : tie.Need-event-body-requires
 event-body-requires c κs =
     let pre = c.before.before.before.before.before.requires in
-    let called = panic-asked _ pre.0.playing.passed _ _ pre.1.bound _ c.before.before.before.with-role.ensures in
+    let called = panic_asked _ pre.0.playing.passed _ _ pre.1.bound _ c.before.before.before.with-role.ensures in
     (record { playing = pre.0.playing; chart = pre.1; called = called }, pre.0.long)
 
 same_length : tie.Need-same-length
@@ -24,7 +24,7 @@ same_length c = search rules
 returns : tie.Need-returns
 returns c =
     let pre = c.before.before.before.before.before.before.before.requires in
-    as-panicking _ pre.0.playing.passed _ _ pre.1.bound _ c.before.before.before.before.before.with-role.ensures _ _ _ c.before.event-body.ensures
+    as_panicking _ pre.0.playing.passed _ _ pre.1.bound _ c.before.before.before.before.before.with-role.ensures _ _ _ c.before.event-body.ensures
 
 pub run-panic-body-spec : {M : Type 1} → statement M
 run-panic-body-spec =

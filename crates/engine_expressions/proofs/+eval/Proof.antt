@@ -7,12 +7,12 @@ use mir.Val.{of_z, to_z}
 use borrow.Author.Rules.{rules}
 use borrow.Fn.Kinds.{In}
 use borrow.Fn.PlainCycle.{Measures, is, falls, and as joined}
-use Rattle.sheet_rules.proofs.Forms.{form-literal, form-binary, form-clock, form-expression}
+use Rattle.sheet_rules.proofs.Forms.{form-literal, form-binary, form-clock, form_expression}
 use Rattle.engine_ints.specs.declared.Work.TheVariants.{Word}
-use Rattle.engine_ready.proofs.Expressions.{absent_stuck, other_stuck, unary-low, unary-operand}
-use Rattle.engine_ready.proofs.Expressions.{clock-lies}
-use Rattle.engine_leaves.proofs.Places.{element-low}
-use Rattle.engine_expressions.proofs.Places.{form-read, from-9, form-element, form-unary, visit, refused-at, literal-at, running-at, value-at, index-at, reaches-at, element-at, not_at, operands-at, two_at, first-refused, first-stuck}
+use Rattle.engine_ready.proofs.Expressions.{absent_stuck, other_stuck, unary_low, unary_operand}
+use Rattle.engine_ready.proofs.Expressions.{clock_lies}
+use Rattle.engine_leaves.proofs.Places.{element_low}
+use Rattle.engine_expressions.proofs.Places.{form-read, from_9, form-element, form-unary, visit, refused_at_lem, literal-at, running_at_lem, value_at_lem, index_at_lem, reaches_at, element_at, not_at, operands_at, two_at, first-refused, first-stuck}
 use Rattle.engine_expressions.proofs.eval.Reads as eval
 use Rattle.engine_expressions.proofs.eval.Kinds as eval-kinds
 use Rattle.engine_expressions.proofs.+eval.Lts-eval as eval-lts
@@ -56,7 +56,7 @@ callees t = (
 )
 
 eval-returns : (t : ℕ) → eval-lts.Need-returns (callees t) (eval-at t) eval.Post
-eval-returns t c = refused-at _ _ _ _ c.before.before.requires.1.1 _ _ c.if1.true
+eval-returns t c = refused_at_lem _ _ _ _ c.before.before.requires.1.1 _ _ c.if1.true
 
 eval-sub-rest : (t : ℕ) → eval-lts.Need-overflow-sub-rest (callees t) (eval-at t) eval.Post
 eval-sub-rest t c = search rules
@@ -86,8 +86,8 @@ eval-eval-requires t c κs =
     let pre = c.before.before.before.before.before.before.before.before.requires in
     let r-is = sym read_here.ensures ∙ r.given.1 in
     let form-unary-here = form-unary _ c.before.match2.keys2 in (
-      omega (arith, pre.0, unary-low _ _ _ _ pre.1.1 _ _ r-is pre.1.2 form-unary-here),
-      (pre.1.0, pre.1.1, unary-operand _ _ _ _ pre.1.1 _ _ r-is pre.1.2 form-unary-here),
+      omega (arith, pre.0, unary_low _ _ _ _ pre.1.1 _ _ r-is pre.1.2 form-unary-here),
+      (pre.1.0, pre.1.1, unary_operand _ _ _ _ pre.1.1 _ _ r-is pre.1.2 form-unary-here),
     )
 
 eval-negated-requires : (t : ℕ) → eval-lts.Need-negated-requires (callees t) (eval-at t) eval.Post
@@ -97,13 +97,13 @@ eval-cast-cell-word : (t : ℕ) → eval-lts.Need-overflow-cast-cell-word (calle
 eval-cast-cell-word t c = search rules
 
 eval-cell-word-requires : (t : ℕ) → eval-lts.Need-cell-word-requires (callees t) (eval-at t) eval.Post
-eval-cell-word-requires t c κs = (clock-lies _ _ _ _ c.before.before.before.before.before.before.before.before.requires.1.1 _ _ (sym c.before.before.before.before.before.read.ensures ∙ c.before.before.before.r.given.1) c.before.before.before.before.before.before.before.before.requires.1.2 (form-clock _ (let e = c.before.match2.keys3 in omega arith) (let e = c.before.match2.keys3 in omega arith)), omega arith)
+eval-cell-word-requires t c κs = (clock_lies _ _ _ _ c.before.before.before.before.before.before.before.before.requires.1.1 _ _ (sym c.before.before.before.before.before.read.ensures ∙ c.before.before.before.r.given.1) c.before.before.before.before.before.before.before.before.requires.1.2 (form-clock _ (let e = c.before.match2.keys3 in omega arith) (let e = c.before.match2.keys3 in omega arith)), omega arith)
 
 eval-cast-cell-word-2 : (t : ℕ) → eval-lts.Need-overflow-cast-cell-word-2 (callees t) (eval-at t) eval.Post
 eval-cast-cell-word-2 t c = search rules
 
 eval-cell-word-requires-2 : (t : ℕ) → eval-lts.Need-cell-word-requires-2 (callees t) (eval-at t) eval.Post
-eval-cell-word-requires-2 t c κs = (clock-lies _ _ _ _ c.before.before.before.before.before.before.before.before.requires.1.1 _ _ (sym c.before.before.before.before.before.read.ensures ∙ c.before.before.before.r.given.1) c.before.before.before.before.before.before.before.before.requires.1.2 (form-clock _ (let e = c.before.match2.keys4 in omega arith) (let e = c.before.match2.keys4 in omega arith)), omega arith)
+eval-cell-word-requires-2 t c κs = (clock_lies _ _ _ _ c.before.before.before.before.before.before.before.before.requires.1.1 _ _ (sym c.before.before.before.before.before.read.ensures ∙ c.before.before.before.r.given.1) c.before.before.before.before.before.before.before.before.requires.1.2 (form-clock _ (let e = c.before.match2.keys4 in omega arith) (let e = c.before.match2.keys4 in omega arith)), omega arith)
 
 eval-cast-element : (t : ℕ) → eval-lts.Need-overflow-cast-element (callees t) (eval-at t) eval.Post
 eval-cast-element t c = search rules
@@ -116,17 +116,17 @@ eval-eval-requires-2 t c κs =
     let r = c.before.before.before.before.r in
     let read_here = c.before.before.before.before.before.before.read in
     let pre = c.before.before.before.before.before.before.before.before.before.requires in
-    let o = index-at _ _ _ _ pre.1.1 _ _ (sym read_here.ensures ∙ r.given.1) pre.1.2 (form-element _ c.before.before.match2.keys5) in
+    let o = index_at_lem _ _ _ _ pre.1.1 _ _ (sym read_here.ensures ∙ r.given.1) pre.1.2 (form-element _ c.before.before.match2.keys5) in
     (omega (arith, pre.0, o.0), (pre.1.0, pre.1.1, o.1))
 
 eval-element-requires : (t : ℕ) → eval-lts.Need-element-requires (callees t) (eval-at t) eval.Post
-eval-element-requires t c κs = reaches-at _ _ _ _ c.before.before.before.before.before.before.before.before.before.before.requires.1.1 _ _ (sym c.before.before.before.before.before.before.before.read.ensures ∙ c.before.before.before.before.before.r.given.1) c.before.before.before.before.before.before.before.before.before.before.requires.1.2 (form-element _ c.before.before.before.match2.keys5)
+eval-element-requires t c κs = reaches_at _ _ _ _ c.before.before.before.before.before.before.before.before.before.before.requires.1.1 _ _ (sym c.before.before.before.before.before.before.before.read.ensures ∙ c.before.before.before.before.before.r.given.1) c.before.before.before.before.before.before.before.before.before.before.requires.1.2 (form-element _ c.before.before.before.match2.keys5)
 
 eval-element-copy-out-literal : (t : ℕ) → eval-lts.Need-element-copy-out-literal (callees t) (eval-at t) eval.Post
 eval-element-copy-out-literal t c = search rules
 
 eval-literal-requires : (t : ℕ) → eval-lts.Need-literal-requires (callees t) (eval-at t) eval.Post
-eval-literal-requires t c κs = element-low _ _ _ _ c.before.before.before.before.before.before.before.before.before.before.requires.1.1
+eval-literal-requires t c κs = element_low _ _ _ _ c.before.before.before.before.before.before.before.before.before.before.requires.1.1
 
 eval-cast-eval-3 : (t : ℕ) → eval-lts.Need-overflow-cast-eval-3 (callees t) (eval-at t) eval.Post
 eval-cast-eval-3 t c = search rules
@@ -137,8 +137,8 @@ eval-eval-requires-3 t c κs =
     let r = c.before.before.before.before.before.before.r in
     let read_here = c.before.before.before.before.before.before.before.before.read in
     let pre = c.before.before.before.before.before.before.before.before.before.before.before.requires in
-    let from-9-here = from-9 c.before.before.if3.false match2.rest.0.0.0.0.1 match2.rest.0.0.0.1 in
-    let o = operands-at _ _ _ _ pre.1.1 _ _ (sym read_here.ensures ∙ r.given.1) pre.1.2 (form-binary _ from-9-here (omega arith)) in
+    let from-9-here = from_9 c.before.before.if3.false match2.rest.0.0.0.0.1 match2.rest.0.0.0.1 in
+    let o = operands_at _ _ _ _ pre.1.1 _ _ (sym read_here.ensures ∙ r.given.1) pre.1.2 (form-binary _ from-9-here (omega arith)) in
     (omega (arith, pre.0, o.0, o.1), (pre.1.0, pre.1.1, search (o.2, o.3)))
 
 eval-enum-known-x : (t : ℕ) → eval-lts.Need-enum-known-x (callees t) (eval-at t) eval.Post
@@ -155,8 +155,8 @@ eval-eval-requires-4 t c κs =
     let r = at8.before.before.before.r in
     let read_here = at8.before.before.before.before.before.read in
     let pre = at8.before.before.before.before.before.before.before.before.requires in
-    let from-9-here = from-9 if3.false match2.rest.0.0.0.0.1 match2.rest.0.0.0.1 in
-    let o = operands-at _ _ _ _ pre.1.1 _ _ (sym read_here.ensures ∙ r.given.1) pre.1.2 (form-binary _ from-9-here (omega arith)) in
+    let from-9-here = from_9 if3.false match2.rest.0.0.0.0.1 match2.rest.0.0.0.1 in
+    let o = operands_at _ _ _ _ pre.1.1 _ _ (sym read_here.ensures ∙ r.given.1) pre.1.2 (form-binary _ from-9-here (omega arith)) in
     (omega (arith, pre.0, o.0, o.1), (pre.1.0, pre.1.1, search (o.2, o.3)))
 
 eval-combined-requires : (t : ℕ) → eval-lts.Need-combined-requires (callees t) (eval-at t) eval.Post
@@ -195,7 +195,7 @@ eval-returns-5 t c =
     let h : to_z w32 (of_z w32 c.cell-word.result) ≡ c.cell-word.result = search rules in
     visit _ _ _ _ _ _ if1.false _
     (ap (λ (z : ℤ). Word z (args.left - 1)) (h ∙ c.cell-word.ensures)
-    ∙ running-at _ _ _ _ pre.1.1 _ _ r-is pre.1.2 (form-clock _ (let e = match2.keys3 in omega arith) (let e = match2.keys3 in omega arith))
+    ∙ running_at_lem _ _ _ _ pre.1.1 _ _ r-is pre.1.2 (form-clock _ (let e = match2.keys3 in omega arith) (let e = match2.keys3 in omega arith))
     match2.keys3 _)
 
 eval-returns-6 : (t : ℕ) → eval-lts.Need-returns-6 (callees t) (eval-at t) eval.Post
@@ -211,7 +211,7 @@ eval-returns-6 t c =
     let h : to_z w32 (of_z w32 c.cell-word2.result) ≡ c.cell-word2.result = search rules in
     visit _ _ _ _ _ _ if1.false _
     (ap (λ (z : ℤ). Word z (args.left - 1)) (h ∙ c.cell-word2.ensures)
-    ∙ value-at _ _ _ _ pre.1.1 _ _ r-is pre.1.2 (form-clock _ (let e = match2.keys4 in omega arith) (let e = match2.keys4 in omega arith))
+    ∙ value_at_lem _ _ _ _ pre.1.1 _ _ r-is pre.1.2 (form-clock _ (let e = match2.keys4 in omega arith) (let e = match2.keys4 in omega arith))
     match2.keys4 _)
 
 eval-returns-7 : (t : ℕ) → eval-lts.Need-returns-7 (callees t) (eval-at t) eval.Post
@@ -224,7 +224,7 @@ eval-returns-7 t c =
     let pre = at8.before.before.before.requires in
     let r-is = sym read_here.ensures ∙ r.given.1 in
     visit _ _ _ _ _ _ if1.false _
-    (c.element.ensures ∙ element-at _ _ _ _ pre.1.1 _ _ r-is pre.1.2 (form-element _ match2.keys5) _ _ c.before.eval2.ensures)
+    (c.element.ensures ∙ element_at _ _ _ _ pre.1.1 _ _ r-is pre.1.2 (form-element _ match2.keys5) _ _ c.before.eval2.ensures)
 
 eval-returns-8 : (t : ℕ) → eval-lts.Need-returns-8 (callees t) (eval-at t) eval.Post
 eval-returns-8 t c =
@@ -252,7 +252,7 @@ eval-returns-9 t c =
     let if1 = at8.before.before.before.before.before.before.before.before.if1 in
     let pre = at8.before.before.before.before.before.before.before.before.before.before.requires in
     let r-is = sym read_here.ensures ∙ r.given.1 in
-    let from-9-here = from-9 if3.false match2.rest.0.0.0.0.1 match2.rest.0.0.0.1 in
+    let from-9-here = from_9 if3.false match2.rest.0.0.0.0.1 match2.rest.0.0.0.1 in
     let h : to_z w32 (of_z w32 x.given.0.0) ≡ x.given.0.0 = search rules in
     visit _ _ _ _ _ _ if1.false _
     ((rw h at c.combined.ensures)
@@ -270,7 +270,7 @@ eval-returns-10 t c =
     let if1 = at8.before.before.before.before.before.if1 in
     let pre = at8.before.before.before.before.before.before.before.requires in
     let r-is = sym read_here.ensures ∙ r.given.1 in
-    let from-9-here = from-9 if3.false match2.rest.0.0.0.0.1 match2.rest.0.0.0.1 in
+    let from-9-here = from_9 if3.false match2.rest.0.0.0.0.1 match2.rest.0.0.0.1 in
     let first-refused-here = first-refused _ _ _ _ pre.1.1 _ _ r-is pre.1.2 (form-binary _ from-9-here (omega arith)) _ _ eval3.ensures _ _
     c.before.x2.given.1 in
     visit _ _ _ _ _ _ if1.false _ first-refused-here
@@ -285,13 +285,13 @@ eval-returns-11 t c =
     let if1 = at8.before.before.before.before.if1 in
     let pre = at8.before.before.before.before.before.before.requires in
     let r-is = sym read_here.ensures ∙ r.given.1 in
-    let from-9-here = from-9 if3.false match2.rest.0.0.0.0.1 match2.rest.0.0.0.1 in
+    let from-9-here = from_9 if3.false match2.rest.0.0.0.0.1 match2.rest.0.0.0.1 in
     let first-stuck-here = first-stuck _ _ _ _ pre.1.1 _ _ r-is pre.1.2 (form-binary _ from-9-here (omega arith)) _ _
     c.before.before.eval3.ensures c.enum-told2.given.1 in
     visit _ _ _ _ _ _ if1.false _ first-stuck-here
 
 eval-returns-12 : (t : ℕ) → eval-lts.Need-returns-12 (callees t) (eval-at t) eval.Post
-eval-returns-12 t c = absurd (other_stuck _ _ _ _ c.before.before.before.before.before.before.before.before.requires.1.1 _ _ (sym c.before.before.before.before.before.read.ensures ∙ c.before.before.before.r.given.1) c.before.before.before.before.before.before.before.before.requires.1.2 (form-expression _ (λ u v. let k = c.if2.true in omega arith)))
+eval-returns-12 t c = absurd (other_stuck _ _ _ _ c.before.before.before.before.before.before.before.before.requires.1.1 _ _ (sym c.before.before.before.before.before.read.ensures ∙ c.before.before.before.r.given.1) c.before.before.before.before.before.before.before.before.requires.1.2 (form_expression _ (λ u v. let k = c.if2.true in omega arith)))
 
 eval-returns-13 : (t : ℕ) → eval-lts.Need-returns-13 (callees t) (eval-at t) eval.Post
 eval-returns-13 t c =
@@ -302,7 +302,7 @@ eval-returns-13 t c =
     let r-is = sym read_here.ensures ∙ r.given.1 in
     absurd
     (other_stuck _ _ _ _ pre.1.1 _ _ r-is pre.1.2
-    (form-expression _ (λ u v. let k = c.if4.false in omega (arith, match2.rest.0.0.1, match2.rest.0.1, match2.rest.1))))
+    (form_expression _ (λ u v. let k = c.if4.false in omega (arith, match2.rest.0.0.1, match2.rest.0.1, match2.rest.1))))
 
 pub +eval-spec : {M : Type 1} → statement M
 +eval-spec = close μ-eval λ t. eval-lts.spec (callees t)

@@ -1,13 +1,13 @@
 use mathlib.Core.Path.{refl, sym, ◌∙◌}
 use Prim.Native.Nat.{◌-◌}
 use borrow.Author.Rules.{rules}
-use Rattle.machine.specs.Play.{reactsOn}
+use Rattle.machine.specs.Play.{reacts_on}
 use Rattle.engine_finders.proofs.Laws.{Searched, none_yet, misses, hits, no_body}
 use Rattle.engine_finders.proofs.reaction_on.Statement.{statement}
 use Rattle.engine_finders.proofs.reaction_on.Tie as tie
 
 abbrev invariant-loop : tie.invariant-loop
-invariant-loop sheet directory port name first count j₀ j = Searched sheet (reactsOn port name) first count j
+invariant-loop sheet directory port name first count j₀ j = Searched sheet (reacts_on port name) first count j
 
 abbrev decreases-loop : tie.decreases-loop
 decreases-loop sheet directory port name first count j₀ j = count - j

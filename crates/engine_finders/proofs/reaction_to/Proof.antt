@@ -1,13 +1,13 @@
 use mathlib.Core.Path.{refl, sym, ◌∙◌}
 use Prim.Native.Nat.{◌-◌}
 use borrow.Author.Rules.{rules}
-use Rattle.sheet_rules.specs.Types.{reactsTo}
+use Rattle.sheet_rules.specs.Types.{reacts_to}
 use Rattle.engine_finders.proofs.Laws.{Searched, none_yet, misses, hits, no_body}
 use Rattle.engine_finders.proofs.reaction_to.Statement.{statement}
 use Rattle.engine_finders.proofs.reaction_to.Tie as tie
 
 abbrev invariant-loop : tie.invariant-loop
-invariant-loop sheet directory name first count j₀ j = Searched sheet (reactsTo name) first count j
+invariant-loop sheet directory name first count j₀ j = Searched sheet (reacts_to name) first count j
 
 abbrev decreases-loop : tie.decreases-loop
 decreases-loop sheet directory name first count j₀ j = count - j

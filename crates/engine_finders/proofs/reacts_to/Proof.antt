@@ -1,8 +1,8 @@
 use mathlib.Core.Path.{refl, sym, ◌∙◌}
 use borrow.Author.Tests.{eq-eqb, ne_eqb}
 use borrow.Author.Rules.{rules}
-use Rattle.sheet.proofs.All.{first-fails, first_holds}
-use Rattle.sheet_rules.proofs.Fields.{holds-present, holds-absent}
+use Rattle.sheet.proofs.All.{first_fails_lem, first_holds}
+use Rattle.sheet_rules.proofs.Fields.{holds-present, holds_absent}
 use Rattle.engine_finders.proofs.reacts_to.Statement.{statement}
 use Rattle.engine_finders.proofs.reacts_to.Tie as tie
 
@@ -16,10 +16,10 @@ enum_told : tie.Need-enum-told
 enum_told c = search rules
 
 returns : tie.Need-returns
-returns c = sym (holds-absent _ _ (sym c.before.before.read.ensures ∙ c.enum_told.given.1))
+returns c = sym (holds_absent _ _ (sym c.before.before.read.ensures ∙ c.enum_told.given.1))
 
 returns-2 : tie.Need-returns-2
-returns-2 c = first-fails _ _ (ne_eqb _ _ c.if1.true) ∙ sym (holds-present _ _ _ (sym c.before.before.before.before.before.read.ensures ∙ c.before.before.before.b.given.1))
+returns-2 c = first_fails_lem _ _ (ne_eqb _ _ c.if1.true) ∙ sym (holds-present _ _ _ (sym c.before.before.before.before.before.read.ensures ∙ c.before.before.before.b.given.1))
 
 cast-result : tie.Need-overflow-cast-result
 cast-result c = search rules

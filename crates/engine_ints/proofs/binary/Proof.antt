@@ -2,11 +2,11 @@ use mathlib.Core.Path.{ap, ◌∙◌}
 use lib.Signed.{lt_z}
 use borrow.Author.Rules.{rules}
 use Rattle.sheet.specs.All.{◌and◌}
-use Rattle.machine.specs.Values.{sameWord}
-use Rattle.machine.specs.Eval.{isOne}
+use Rattle.machine.specs.Values.{same_word_lem}
+use Rattle.machine.specs.Eval.{is_one}
 use Rattle.engine_ints.specs.declared.Work.TheVariants.{Word}
 use Rattle.engine_ints.proofs.Range.{back}
-use Rattle.engine_ints.proofs.Words.{word_back, binary-9, binary-10, binary-11, binary-12, binary-13, binary-14, binary-15, binary-rest}
+use Rattle.engine_ints.proofs.Words.{word_back, binary_9, binary_10, binary_11, binary_12, binary_13, binary_14, binary_15, binary-rest}
 use Rattle.engine_ints.proofs.binary.Statement.{statement}
 use Rattle.engine_ints.proofs.binary.Tie as tie
 
@@ -35,25 +35,25 @@ modulo-requires : tie.Need-modulo-requires
 modulo-requires c κs = search rules
 
 returns : tie.Need-returns
-returns c = let x = c.before.before.args in ap (λ z. Word z x.left) (word_back _ (isOne x.a and isOne x.b) (rw (back c.before.before.ranges.a, back c.before.before.ranges.b) at c.both.ensures)) ∙ binary-9 x.op x.a x.b x.left c.before.match.keys1
+returns c = let x = c.before.before.args in ap (λ z. Word z x.left) (word_back _ (is_one x.a and is_one x.b) (rw (back c.before.before.ranges.a, back c.before.before.ranges.b) at c.both.ensures)) ∙ binary_9 x.op x.a x.b x.left c.before.match.keys1
 
 returns-2 : tie.Need-returns-2
-returns-2 c = let x = c.before.before.args in ap (λ z. Word z x.left) (word_back _ (sameWord x.a x.b) (rw (back c.before.before.ranges.a, back c.before.before.ranges.b) at c.same.ensures)) ∙ binary-10 x.op x.a x.b x.left c.before.match.keys2
+returns-2 c = let x = c.before.before.args in ap (λ z. Word z x.left) (word_back _ (same_word_lem x.a x.b) (rw (back c.before.before.ranges.a, back c.before.before.ranges.b) at c.same.ensures)) ∙ binary_10 x.op x.a x.b x.left c.before.match.keys2
 
 returns-3 : tie.Need-returns-3
-returns-3 c = let x = c.before.before.args in ap (λ z. Word z x.left) (word_back _ (lt_z x.a x.b) (rw (back c.before.before.ranges.a, back c.before.before.ranges.b) at c.less.ensures)) ∙ binary-11 x.op x.a x.b x.left c.before.match.keys3
+returns-3 c = let x = c.before.before.args in ap (λ z. Word z x.left) (word_back _ (lt_z x.a x.b) (rw (back c.before.before.ranges.a, back c.before.before.ranges.b) at c.less.ensures)) ∙ binary_11 x.op x.a x.b x.left c.before.match.keys3
 
 returns-4 : tie.Need-returns-4
-returns-4 c = let x = c.before.before.args in (rw (back c.before.before.ranges.a, back c.before.before.ranges.b) at c.plus.ensures) ∙ binary-12 x.op x.a x.b x.left c.before.match.keys4
+returns-4 c = let x = c.before.before.args in (rw (back c.before.before.ranges.a, back c.before.before.ranges.b) at c.plus.ensures) ∙ binary_12 x.op x.a x.b x.left c.before.match.keys4
 
 returns-5 : tie.Need-returns-5
-returns-5 c = let x = c.before.before.args in (rw (back c.before.before.ranges.a, back c.before.before.ranges.b) at c.minus.ensures) ∙ binary-13 x.op x.a x.b x.left c.before.match.keys5
+returns-5 c = let x = c.before.before.args in (rw (back c.before.before.ranges.a, back c.before.before.ranges.b) at c.minus.ensures) ∙ binary_13 x.op x.a x.b x.left c.before.match.keys5
 
 returns-6 : tie.Need-returns-6
-returns-6 c = let x = c.before.before.args in (rw (back c.before.before.ranges.a, back c.before.before.ranges.b) at c.times.ensures) ∙ binary-14 x.op x.a x.b x.left c.before.match.keys6
+returns-6 c = let x = c.before.before.args in (rw (back c.before.before.ranges.a, back c.before.before.ranges.b) at c.times.ensures) ∙ binary_14 x.op x.a x.b x.left c.before.match.keys6
 
 returns-7 : tie.Need-returns-7
-returns-7 c = let x = c.before.before.args in (rw (back c.before.before.ranges.a, back c.before.before.ranges.b) at c.div.ensures) ∙ binary-15 x.op x.a x.b x.left c.before.match.keys7
+returns-7 c = let x = c.before.before.args in (rw (back c.before.before.ranges.a, back c.before.before.ranges.b) at c.div.ensures) ∙ binary_15 x.op x.a x.b x.left c.before.match.keys7
 
 returns-8 : tie.Need-returns-8
 returns-8 c = let x = c.before.before.args in let n = c.before.match.rest in (rw (back c.before.before.ranges.a, back c.before.before.ranges.b) at c.modulo.ensures) ∙ binary-rest x.op x.a x.b x.left n.0.0.0.0.0.0.1 n.0.0.0.0.0.1 n.0.0.0.0.1 n.0.0.0.1 n.0.0.1 n.0.1 n.1

@@ -3,11 +3,11 @@ use mathlib.Core.Bool.{Bool, true, false}
 use mir.Syntax.{w32}
 use mir.Val.{to_z, bool_byte}
 use borrow.Author.Rules.{rules}
-use Rattle.machine.specs.Eval.{boolWord}
+use Rattle.machine.specs.Eval.{bool_word}
 use Rattle.engine_ints.proofs.bool_word.Statement.{statement}
 use Rattle.engine_ints.proofs.bool_word.Tie as tie
 
-byte_word : (b : Bool) → to_z w32 (bool_byte b) ≡ boolWord b
+byte_word : (b : Bool) → to_z w32 (bool_byte b) ≡ bool_word b
 byte_word true = refl
 byte_word false = refl
 

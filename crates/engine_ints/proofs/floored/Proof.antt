@@ -4,7 +4,7 @@ use lib.Signed.{quot_z}
 use mir.Syntax.{w32, w64}
 use mir.Val.{SFits, to_z, of_z}
 use borrow.Author.Rules.{rules}
-use Rattle.engine_ints.proofs.Range.{back, back64, widen, wide, quot_fits, quot-whole-fits, left-over-fits, mul-fits, less-fits, quotient_fits, divisor}
+use Rattle.engine_ints.proofs.Range.{back, back64, widen, wide, quot_fits, quot_whole-fits, left-over-fits, mul-fits, less-fits, quotient_fits, divisor}
 use Rattle.engine_ints.proofs.Rounding.{rounded}
 use Rattle.engine_ints.proofs.floored.Statement.{statement}
 use Rattle.engine_ints.proofs.floored.Tie as tie
@@ -15,7 +15,7 @@ module _ {a b : ℤ} (x : SFits w32 a) (y : SFits w32 b) where
   q_back = back64 (quot_fits x y)
 
   whole_back : to_z w64 (of_z w64 (b *ℤ quot_z a b)) ≡ b *ℤ quot_z a b
-  whole_back = back64 (quot-whole-fits x y)
+  whole_back = back64 (quot_whole-fits x y)
 
   r_back : to_z w64 (of_z w64 (a -ℤ b *ℤ quot_z a b)) ≡ a -ℤ b *ℤ quot_z a b
   r_back = back64 (widen (left-over-fits x y))
@@ -33,7 +33,7 @@ div-q : tie.Need-nonzero-div-q
 div-q c = (divisor c.ranges.b c.requires, rw (wide c.ranges.a, wide c.ranges.b) (quot_fits c.ranges.a c.ranges.b))
 
 mul-r : tie.Need-overflow-mul-r
-mul-r c = rw (wide c.ranges.a, wide c.ranges.b, q_back c.ranges.a c.ranges.b) (quot-whole-fits c.ranges.a c.ranges.b)
+mul-r c = rw (wide c.ranges.a, wide c.ranges.b, q_back c.ranges.a c.ranges.b) (quot_whole-fits c.ranges.a c.ranges.b)
 
 sub-r : tie.Need-overflow-sub-r
 sub-r c = rw (wide c.ranges.a, wide c.ranges.b, q_back c.ranges.a c.ranges.b, whole_back c.ranges.a c.ranges.b) (widen (left-over-fits c.ranges.a c.ranges.b))

@@ -5,7 +5,7 @@ use mir.Syntax.{w32, w64}
 use mir.Val.{SFits, to_z, of_z}
 use Rattle.machine_division.specs.Division.{quotient, remainder}
 use Rattle.machine.specs.Values.{is_zero}
-use Rattle.engine_ints.proofs.Range.{back, back64, widen, wide, quotient_fits, quotient-whole-fits, remainder-fits, is-zero-wide, not-zero-wide, by_zero, by-other, inside}
+use Rattle.engine_ints.proofs.Range.{back, back64, widen, wide, quotient_fits, quotient-whole-fits, remainder-fits, is_zero_wide, not_zero_wide, by_zero, by_other, inside}
 use Rattle.engine_ints.proofs.modulo.Statement.{statement}
 use Rattle.engine_ints.proofs.modulo.Tie as tie
 
@@ -16,13 +16,13 @@ cast-y : tie.Need-overflow-cast-y
 cast-y c = rw (back c.ranges.b) (widen c.ranges.b)
 
 returns : tie.Need-returns
-returns c = by_zero _ _ _ (is-zero-wide c.before.ranges.b c.if1.true)
+returns c = by_zero _ _ _ (is_zero_wide c.before.ranges.b c.if1.true)
 
 floored-requires : tie.Need-floored-requires
-floored-requires c κs = rw (back c.before.ranges.b) (not-zero-wide c.before.ranges.b c.if1.false)
+floored-requires c κs = rw (back c.before.ranges.b) (not_zero_wide c.before.ranges.b c.if1.false)
 
 not-zero : (c : tie.After-floored) → is_zero c.before.before.args.b ≡ false
-not-zero c = not-zero-wide c.before.before.ranges.b c.before.if1.false
+not-zero c = not_zero_wide c.before.before.ranges.b c.before.if1.false
 
 -- the quotient as it is read back
 read : (c : tie.After-floored) → to_z w64 (of_z w64 c.floored.result) ≡ quotient c.before.before.args.a c.before.before.args.b
@@ -46,7 +46,7 @@ cast-t10 : tie.Need-overflow-cast-t10
 cast-t10 c = rw (rest c, back64 (widen (fits c))) (fits c)
 
 returns-2 : tie.Need-returns-2
-returns-2 c = rw (rest c, back64 (widen (fits c)), back (fits c)) (inside _ _ (fits c)) ∙ by-other _ _ _ (not-zero c)
+returns-2 c = rw (rest c, back64 (widen (fits c)), back (fits c)) (inside _ _ (fits c)) ∙ by_other _ _ _ (not-zero c)
 
 pub modulo-spec : {M : Type 1} → statement M
 modulo-spec = tie.close (tie.spec cast-x cast-y returns floored-requires mul-p sub-r cast-t10 returns-2)

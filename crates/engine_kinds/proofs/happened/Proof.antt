@@ -4,7 +4,7 @@ use lib.Signed.{le_z}
 use Rattle.machine_events.proofs.Received.{receiver-number}
 use Rattle.engine_rows.proofs.Laws.{given}
 use Rattle.engine_queue.proofs.Laws.{laid}
-use Rattle.engine_kinds.proofs.ByKind.{malformed-happens, outside-happens, slice-copied, slice-happens, deliver-missing, corrupt-missing, inner-missing, takes, plays, old-long, fits, deliver-outer, deliver-happens, corrupted-bound, corrupt-happens, inner-inside, inner-happens}
+use Rattle.engine_kinds.proofs.ByKind.{malformed_happens, outside-happens, slice-copied, slice-happens, deliver_missing, corrupt_missing, inner_missing, takes, plays, old-long, fits, deliver_outer, deliver-happens, corrupted_bound, corrupt-happens, inner-inside, inner-happens}
 use borrow.Author.Rules.{rules}
 use Rattle.engine_kinds.proofs.happened.Statement.{statement}
 use Rattle.engine_kinds.proofs.happened.Tie as tie
@@ -43,7 +43,7 @@ delivers-requires c κs =
     let t = c.before.before.taken.given in
     let w = takes h took _ t.1 in
     let e = c.before.before.before.before.before.before.before.before.e2.given in
-    record { beside = record { playing = plays h w; long = old-long h w }; fits = fits h w; class = deliver-outer h w _ _ e.1 }
+    record { beside = record { playing = plays h w; long = old-long h w }; fits = fits h w; class = deliver_outer h w _ _ e.1 }
 
 enum-known-e-3 : tie.Need-enum-known-e-3
 enum-known-e-3 c = search rules
@@ -77,7 +77,7 @@ panicked-requires c κs =
     let w = takes h took _ t.1 in
     let e = c.before.before.before.before.before.before.before.before.before.before.e3.given in
     let n = c.number.ensures ∙ ap nat_abs (given t.0.0.receiver c.before.struct_told.given.1.0.1) in
-    (record { playing = plays h w; long = old-long h w }, corrupted-bound h w _ _ e.1 _ n)
+    (record { playing = plays h w; long = old-long h w }, corrupted_bound h w _ _ e.1 _ n)
 
 enum-known-e-4 : tie.Need-enum-known-e-4
 enum-known-e-4 c = search rules
@@ -110,7 +110,7 @@ sliced-requires : tie.Need-sliced-requires
 sliced-requires c κs = (c.before.before.before.before.requires.playing, slice-copied c.before.before.before.before.requires c.before.enum-told5.given.1)
 
 returns : tie.Need-returns
-returns c = malformed-happens c.before.before.before.before.requires c.before.enum_told.given.1 _ c.answered.ensures
+returns c = malformed_happens c.before.before.before.before.requires c.before.enum_told.given.1 _ c.answered.ensures
 
 same_length : tie.Need-same-length
 same_length c = search rules
@@ -124,7 +124,7 @@ same-length-2 c = search rules
 returns-3 : tie.Need-returns-3
 returns-3 c =
     let h = c.before.before.before.before.before.before.before.before.before.before.requires in
-    deliver-missing h (c.before.before.before.before.take.ensures _ h.playing.state) c.before.enum-told2.given.1 _ _ c.before.before.before.before.before.before.before.e2.given.1 _ c.answered2.ensures
+    deliver_missing h (c.before.before.before.before.take.ensures _ h.playing.state) c.before.enum-told2.given.1 _ _ c.before.before.before.before.before.before.before.e2.given.1 _ c.answered2.ensures
 
 same-length-3 : tie.Need-same-length-3
 same-length-3 c = search rules
@@ -144,7 +144,7 @@ same-length-4 c = search rules
 returns-5 : tie.Need-returns-5
 returns-5 c =
     let h = c.before.before.before.before.before.before.before.before.before.before.requires in
-    corrupt-missing h (c.before.before.before.before.take2.ensures _ h.playing.state) c.before.enum-told3.given.1 _ _ c.before.before.before.before.before.before.before.e3.given.1 _ c.answered3.ensures
+    corrupt_missing h (c.before.before.before.before.take2.ensures _ h.playing.state) c.before.enum-told3.given.1 _ _ c.before.before.before.before.before.before.before.e3.given.1 _ c.answered3.ensures
 
 same-length-5 : tie.Need-same-length-5
 same-length-5 c = search rules
@@ -165,7 +165,7 @@ same-length-6 c = search rules
 returns-7 : tie.Need-returns-7
 returns-7 c =
     let h = c.before.before.before.before.before.before.before.before.before.before.requires in
-    inner-missing h (c.before.before.before.before.take3.ensures _ h.playing.state) c.before.enum-told4.given.1 _ c.before.before.before.before.before.before.before.e4.given.1 _ c.answered4.ensures
+    inner_missing h (c.before.before.before.before.take3.ensures _ h.playing.state) c.before.enum-told4.given.1 _ c.before.before.before.before.before.before.before.e4.given.1 _ c.answered4.ensures
 
 same-length-7 : tie.Need-same-length-7
 same-length-7 c = search rules

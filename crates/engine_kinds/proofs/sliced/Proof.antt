@@ -1,5 +1,5 @@
 use borrow.Author.Rules.{rules}
-use Rattle.engine_kinds.proofs.Calls.{slice-done, slice-refused}
+use Rattle.engine_kinds.proofs.Calls.{slice_done, slice-refused}
 use Rattle.engine_kinds.proofs.sliced.Statement.{statement}
 use Rattle.engine_kinds.proofs.sliced.Tie as tie
 
@@ -13,7 +13,7 @@ same_length : tie.Need-same-length
 same_length c = search rules
 
 returns : tie.Need-returns
-returns c = slice-done _ c.before.before.before.before.before.before.requires.0.passed _ _ _ c.before.before.before.before.before.before.requires.1 _ c.before.before.before.slice.ensures _ c.answered.ensures c.before.if1.true
+returns c = slice_done _ c.before.before.before.before.before.before.requires.0.passed _ _ _ c.before.before.before.before.before.before.requires.1 _ c.before.before.before.slice.ensures _ c.answered.ensures c.before.if1.true
 
 copy-requires : tie.Need-copy-requires
 copy-requires c κs = search rules

@@ -4,7 +4,7 @@ use mir.Syntax.{w32}
 use mir.Val.{of_z, to_z}
 use mir.ValLaws.{to_z_pos}
 use borrow.Author.Rules.{rules}
-use Rattle.engine_leaves.proofs.Words.{literal-1, literal-2, literal-3, literal-4, literal-5, literal-rest}
+use Rattle.engine_leaves.proofs.Words.{literal_1, literal_2, literal_3, literal_4, literal_5, literal-rest}
 use Rattle.engine_leaves.proofs.literal.Statement.{statement}
 use Rattle.engine_leaves.proofs.literal.Tie as tie
 
@@ -39,19 +39,19 @@ cast-result-5 : tie.Need-overflow-cast-result-5
 cast-result-5 c = search rules
 
 returns : tie.Need-returns
-returns c = to_z_pos w32 _ (omega arith) ∙ literal-1 _ _ c.before.match.keys1
+returns c = to_z_pos w32 _ (omega arith) ∙ literal_1 _ _ c.before.match.keys1
 
 returns-2 : tie.Need-returns-2
-returns-2 c = (let e : to_z w32 (of_z w32 c.signed.result) ≡ c.signed.result = search rules in e ∙ c.signed.ensures) ∙ literal-2 _ _ c.before.before.before.match.keys2
+returns-2 c = (let e : to_z w32 (of_z w32 c.signed.result) ≡ c.signed.result = search rules in e ∙ c.signed.ensures) ∙ literal_2 _ _ c.before.before.before.match.keys2
 
 returns-3 : tie.Need-returns-3
-returns-3 c = to_z_pos w32 _ (omega arith) ∙ literal-3 _ _ c.before.match.keys3
+returns-3 c = to_z_pos w32 _ (omega arith) ∙ literal_3 _ _ c.before.match.keys3
 
 returns-4 : tie.Need-returns-4
-returns-4 c = to_z_pos w32 _ (omega arith) ∙ literal-4 _ _ c.before.match.keys4
+returns-4 c = to_z_pos w32 _ (omega arith) ∙ literal_4 _ _ c.before.match.keys4
 
 returns-5 : tie.Need-returns-5
-returns-5 c = to_z_pos w32 _ (omega arith) ∙ literal-5 _ _ c.before.match.keys5
+returns-5 c = to_z_pos w32 _ (omega arith) ∙ literal_5 _ _ c.before.match.keys5
 
 returns-6 : tie.Need-returns-6
 returns-6 c = let n = c.match.rest in to_z_pos w32 _ (omega arith) ∙ literal-rest _ _ n.0.0.0.0.1 n.0.0.0.1 n.0.0.1 n.0.1 n.1

@@ -2,7 +2,7 @@ use mathlib.Core.Path.{◌≡◌, sym, ap, ◌∙◌}
 use mir.Syntax.{w32}
 use mir.Val.{of_z, to_z}
 use borrow.Author.Rules.{rules}
-use Rattle.engine_ints.specs.Work.{thenWork, notWork}
+use Rattle.engine_ints.specs.Work.{then_work, not_work}
 use Rattle.engine_leaves.proofs.negated.Statement.{statement}
 use Rattle.engine_leaves.proofs.negated.Tie as tie
 
@@ -19,16 +19,16 @@ enum_told : tie.Need-enum-told
 enum_told c = search rules
 
 returns : tie.Need-returns
-unfolding thenWork
-returns c = let h : to_z w32 (of_z w32 c.before.before.x.given.0.0) ≡ c.before.before.x.given.0.0 = search rules in (rw h at c.not.ensures) ∙ sym (ap (λ x. thenWork x notWork) c.before.before.x.given.1)
+unfolding then_work
+returns c = let h : to_z w32 (of_z w32 c.before.before.x.given.0.0) ≡ c.before.before.x.given.0.0 = search rules in (rw h at c.not.ensures) ∙ sym (ap (λ x. then_work x not_work) c.before.before.x.given.1)
 
 returns-2 : tie.Need-returns-2
-unfolding thenWork
-returns-2 c = sym (ap (λ x. thenWork x notWork) c.before.x2.given.1)
+unfolding then_work
+returns-2 c = sym (ap (λ x. then_work x not_work) c.before.x2.given.1)
 
 returns-3 : tie.Need-returns-3
-unfolding thenWork
-returns-3 c = sym (ap (λ x. thenWork x notWork) c.enum_told.given.1)
+unfolding then_work
+returns-3 c = sym (ap (λ x. then_work x not_work) c.enum_told.given.1)
 
 pub negated-spec : {M : Type 1} → statement M
 negated-spec =

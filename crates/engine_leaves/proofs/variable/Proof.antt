@@ -5,9 +5,9 @@ use mir.Syntax.{w32}
 use mir.Val.{of_z, to_z}
 use Rattle.engine_ints.specs.declared.Work.TheVariants.{Word}
 use Rattle.engine_ints.proofs.Range.{back}
-use Rattle.engine_ready.proofs.Expressions.{local-inside, no-other-place}
-use Rattle.engine_ready.proofs.Expressions.{variable-lies}
-use Rattle.engine_leaves.proofs.Places.{element-low, bound-low, variable-at, local_at, constant-unbound, constant-at, constant-none}
+use Rattle.engine_ready.proofs.Expressions.{local_inside, no_other_place}
+use Rattle.engine_ready.proofs.Expressions.{variable_lies}
+use Rattle.engine_leaves.proofs.Places.{element_low, bound_low, variable_at_lem, local_at, constant_unbound, constant_at, constant_none}
 use borrow.Author.Rules.{rules}
 use Rattle.engine_leaves.proofs.variable.Statement.{statement}
 use Rattle.engine_leaves.proofs.variable.Tie as tie
@@ -19,7 +19,7 @@ element-copy-out-constant-record : tie.Need-element-copy-out-constant-record
 element-copy-out-constant-record c = search rules
 
 constant-record-requires : tie.Need-constant-record-requires
-constant-record-requires c κs = bound-low _ _ _ _ c.before.before.before.before.requires.1
+constant-record-requires c κs = bound_low _ _ _ _ c.before.before.before.before.requires.1
 
 read-requires : tie.Need-read-requires
 read-requires c κs = search rules
@@ -36,7 +36,7 @@ returns c =
     let match = c.before.before.before.before.before.match in
     let pre = c.before.before.before.before.before.before.before.before.requires in
     let enum-told-is = sym c.before.before.read.ensures ∙ c.enum_told.given.1 in
-    constant-unbound _ _ _ _ pre.1 _ _ pre.3 pre.2 pre.4 match.keys1 _ constant-record.ensures enum-told-is _
+    constant_unbound _ _ _ _ pre.1 _ _ pre.3 pre.2 pre.4 match.keys1 _ constant-record.ensures enum-told-is _
 
 constant-field-requires : tie.Need-constant-field-requires
 constant-field-requires c κs = search rules
@@ -65,23 +65,23 @@ returns-2 c =
     let pre = at8.before.before.before.before.before.before.requires in
     let b-is = sym read.ensures ∙ b.given.1 in
     let enum-told2-is = sym c.before.before.read2.ensures ∙ c.enum-told2.given.1 in
-    constant-none _ _ _ _ pre.1 _ _ pre.3 pre.2 pre.4 match.keys1 _ constant-record.ensures _ b-is _ _ constant-field.ensures
+    constant_none _ _ _ _ pre.1 _ _ pre.3 pre.2 pre.4 match.keys1 _ constant-record.ensures _ b-is _ _ constant-field.ensures
     field.ensures.0 enum-told2-is _
 
 element-copy-out-literal : tie.Need-element-copy-out-literal
 element-copy-out-literal c = search rules
 
 literal-requires : tie.Need-literal-requires
-literal-requires c κs = element-low _ _ _ _ c.before.before.before.before.before.before.before.before.before.before.before.before.before.before.before.before.requires.1
+literal-requires c κs = element_low _ _ _ _ c.before.before.before.before.before.before.before.before.before.before.before.before.before.before.before.before.requires.1
 
 cell-word-requires : tie.Need-cell-word-requires
-cell-word-requires c κs = (variable-lies _ _ _ _ c.before.before.before.requires.1 _ _ c.before.before.before.requires.3 c.before.before.before.requires.2 c.before.before.before.requires.4 c.match.keys2, omega arith)
+cell-word-requires c κs = (variable_lies _ _ _ _ c.before.before.before.requires.1 _ _ c.before.before.before.requires.3 c.before.before.before.requires.2 c.before.before.before.requires.4 c.match.keys2, omega arith)
 
 mul-t25 : tie.Need-overflow-mul-t25
 mul-t25 c = search rules
 
 element-copy-out-t28 : tie.Need-element-copy-out-t28
-element-copy-out-t28 c = local-inside _ _ _ _ c.before.before.before.requires.1 _ _ c.before.before.before.requires.3 c.before.before.before.requires.2 c.before.before.before.requires.4 c.match.keys3
+element-copy-out-t28 c = local_inside _ _ _ _ c.before.before.before.requires.1 _ _ c.before.before.before.requires.3 c.before.before.before.requires.2 c.before.before.before.requires.4 c.match.keys3
 
 returns-3 : tie.Need-returns-3
 returns-3 c =
@@ -101,17 +101,17 @@ returns-3 c =
     let c-here-is = sym read2.ensures ∙ c-here.given.1 in
     let h : to_z w32 (of_z w32 c.literal.result) ≡ c.literal.result = search rules in
     ap (λ (z : ℤ). Word z args.left) (h ∙ c.literal.ensures)
-    ∙ constant-at _ _ _ _ pre.1 _ _ pre.3 pre.2 pre.4 match.keys1 _ constant-record.ensures _ b-is _ _ constant-field.ensures
+    ∙ constant_at _ _ _ _ pre.1 _ _ pre.3 pre.2 pre.4 match.keys1 _ constant-record.ensures _ b-is _ _ constant-field.ensures
     field.ensures.0 _ c-here-is _
 
 returns-4 : tie.Need-returns-4
-returns-4 c = let h : to_z w32 (of_z w32 c.cell-word.result) ≡ c.cell-word.result = search rules in ap (λ (z : ℤ). Word z c.before.before.before.before.args.left) (h ∙ c.cell-word.ensures) ∙ variable-at _ _ _ _ c.before.before.before.before.requires.1 _ _ c.before.before.before.before.requires.3 c.before.before.before.before.requires.2 c.before.before.before.before.requires.4 c.before.match.keys2 _
+returns-4 c = let h : to_z w32 (of_z w32 c.cell-word.result) ≡ c.cell-word.result = search rules in ap (λ (z : ℤ). Word z c.before.before.before.before.args.left) (h ∙ c.cell-word.ensures) ∙ variable_at_lem _ _ _ _ c.before.before.before.before.requires.1 _ _ c.before.before.before.before.requires.3 c.before.before.before.before.requires.2 c.before.before.before.before.requires.4 c.before.match.keys2 _
 
 returns-5 : tie.Need-returns-5
 returns-5 c = ap (λ (z : ℤ). Word z c.before.before.before.before.args.left) (back (record { sfits = c.t28.given })) ∙ local_at _ _ _ _ c.before.before.before.before.requires.1 _ _ c.before.before.before.before.requires.3 c.before.before.before.before.requires.2 c.before.before.before.before.requires.4 c.before.match.keys3 _
 
 returns-6 : tie.Need-returns-6
-returns-6 c = let n = c.match.rest in absurd (no-other-place _ _ _ _ c.before.before.before.requires.1 _ _ c.before.before.before.requires.3 c.before.before.before.requires.2 c.before.before.before.requires.4 n.0.0.1 n.0.1 n.1)
+returns-6 c = let n = c.match.rest in absurd (no_other_place _ _ _ _ c.before.before.before.requires.1 _ _ c.before.before.before.requires.3 c.before.before.before.requires.2 c.before.before.before.requires.4 n.0.0.1 n.0.1 n.1)
 
 pub variable-spec : {M : Type 1} → statement M
 variable-spec =

@@ -3,19 +3,19 @@ use Prim.Native.Nat.{ℕ}
 use mathlib.Core.Path.{◌≡◌, sym, ◌∙◌}
 use mathlib.Core.List.{List}
 use borrow.Author.Rules.{rules}
-use Rattle.sheet_rules.specs.Fields.{field_of, fieldAt}
-use Rattle.machine.specs.Play.{defaultLimit, limitOf}
-use Rattle.machine.proofs.Limit.{limit-zero, limit-given}
+use Rattle.sheet_rules.specs.Fields.{field_of, field_at}
+use Rattle.machine.specs.Play.{default_limit, limit_of}
+use Rattle.machine.proofs.Limit.{limit_zero, limit_given}
 use Rattle.engine_limit.proofs.limit.Statement.{statement}
 use Rattle.engine_limit.proofs.limit.Tie as tie
 
-field-zero : (s : List ℕ) (x : ℕ) → x ≡ fieldAt s 0 0 3 → x ≡ 0 → defaultLimit ≡ limitOf s
-unfolding fieldAt field_of
-field-zero s x e z = sym (limit-zero defaultLimit s (sym e ∙ z))
+field-zero : (s : List ℕ) (x : ℕ) → x ≡ field_at s 0 0 3 → x ≡ 0 → default_limit ≡ limit_of s
+unfolding field_at field_of
+field-zero s x e z = sym (limit_zero default_limit s (sym e ∙ z))
 
-field-given : (s : List ℕ) (x : ℕ) → x ≡ fieldAt s 0 0 3 → (x ≡ 0 → ⊥) → x ≡ limitOf s
-unfolding fieldAt field_of
-field-given s x e z = e ∙ sym (limit-given defaultLimit s (λ q. z (e ∙ q)))
+field-given : (s : List ℕ) (x : ℕ) → x ≡ field_at s 0 0 3 → (x ≡ 0 → ⊥) → x ≡ limit_of s
+unfolding field_at field_of
+field-given s x e z = e ∙ sym (limit_given default_limit s (λ q. z (e ∙ q)))
 
 field-at-requires : tie.Need-field-at-requires
 field-at-requires c κs = search rules

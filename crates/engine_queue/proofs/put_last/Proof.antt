@@ -4,10 +4,10 @@ use native.Mathlib.Omega.{arith}
 use lib.IntN.{pos}
 use lib.ListN.{set}
 use borrow.Author.Rules.{rules}
-use Rattle.machine.specs.State.{words_of, putWords}
+use Rattle.machine.specs.State.{words_of, put_words}
 use Rattle.engine_rows.proofs.Laws.{given}
-use Rattle.engine_store.proofs.Lies.{place-in}
-use Rattle.engine_queue.proofs.Laws.{last-put}
+use Rattle.engine_store.proofs.Lies.{place_in_lem}
+use Rattle.engine_queue.proofs.Laws.{last_put}
 use Rattle.engine_queue.proofs.put_last.Statement.{statement}
 use Rattle.engine_queue.proofs.put_last.Tie as tie
 
@@ -54,7 +54,7 @@ returns c =
     λ s e.
     let t = args.t in
     let told = struct-told8.given in
-    let p : put-words.new.0 ≡ putWords args.st.now place.result (words_of t) = rw (
+    let p : put-words.new.0 ≡ put_words args.st.now place.result (words_of t) = rw (
       given t.sender told.0.1,
       given t.receiver told.1.0.1,
       given t.port told.1.1.0.1,
@@ -69,7 +69,7 @@ returns c =
     c.before.set_word.ensures
     ∙ ap (λ z. set put-words.new.0 0 z) (given pos-here (omega arith))
     ∙ ap (λ l. set l 0 pos-here) p
-    ∙ last-put s _ t _ _ n (place.ensures ∙ place-in s _ _ e)
+    ∙ last_put s _ t _ _ n (place.ensures ∙ place_in_lem s _ _ e)
 
 pub put-last-spec : {M : Type 1} → statement M
 put-last-spec =

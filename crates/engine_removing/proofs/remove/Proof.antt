@@ -4,10 +4,10 @@ use native.Mathlib.Omega.{arith}
 use lib.IntN.{pos}
 use lib.ListN.{length, length-set, get_or, set, replicate}
 use borrow.Author.Rules.{rules}
-use Rattle.machine.specs.State.{word_of, waiting, putWords}
+use Rattle.machine.specs.State.{word_of, waiting, put_words}
 use Rattle.engine_rows.proofs.Laws.{given}
-use Rattle.engine_store.proofs.Lies.{place-in}
-use Rattle.engine_queue.proofs.Laws.{waiting-limit}
+use Rattle.engine_store.proofs.Lies.{place_in_lem}
+use Rattle.engine_queue.proofs.Laws.{waiting_limit}
 use Rattle.engine_removing.proofs.Removed.{Moved, moved_none, moved_more, removed}
 use Rattle.engine_removing.proofs.remove.Statement.{statement}
 use Rattle.engine_removing.proofs.remove.Tie as tie
@@ -29,10 +29,10 @@ place-at-requires c κs =
     let pre = c.before.before.requires in
     let e = c.waiting-count.ensures in
     let l = pre.1 in
-    (pre.0.long, omega (arith, waiting-limit _ pre.0))
+    (pre.0.long, omega (arith, waiting_limit _ pre.0))
 
 place-at-requires-2 : tie.Need-place-at-requires-2 invariant-loop decreases-loop
-place-at-requires-2 c κs = let pre = c.before.before.before.requires in let l = pre.1 in (pre.0.long, omega (arith, waiting-limit _ pre.0))
+place-at-requires-2 c κs = let pre = c.before.before.before.requires in let l = pre.1 in (pre.0.long, omega (arith, waiting_limit _ pre.0))
 
 loop-holds : tie.Need-loop-init invariant-loop decreases-loop
 loop-holds c =
@@ -42,7 +42,7 @@ loop-holds c =
     let l = pre.1 in
     let p = c.before.place_at.ensures in
     let q = c.place-at2.ensures in
-    (omega arith, omega arith, omega (arith, waiting-limit _ pre.0), refl, moved_none _ _)
+    (omega arith, omega arith, omega (arith, waiting_limit _ pre.0), refl, moved_none _ _)
 
 add-z : tie.Need-overflow-add-z invariant-loop decreases-loop
 add-z c = search rules
@@ -81,7 +81,7 @@ put-words-requires : tie.Need-put-words-requires invariant-loop decreases-loop
 put-words-requires c κs = c.before.before.loop.invariant.2
 
 cast-set-word : tie.Need-overflow-cast-set-word invariant-loop decreases-loop
-cast-set-word c = let e = c.before.before.before.before.before.before.before.before.waiting-count.ensures in record { sfits = omega (arith, waiting-limit _ c.before.before.before.before.before.before.before.before.before.before.requires.0) }
+cast-set-word c = let e = c.before.before.before.before.before.before.before.before.waiting-count.ensures in record { sfits = omega (arith, waiting_limit _ c.before.before.before.before.before.before.before.before.before.before.requires.0) }
 
 set-word-requires : tie.Need-set-word-requires invariant-loop decreases-loop
 set-word-requires c κs = let q = c.before.st.given in let w = c.before.before.before.before.before.loop.invariant.2 in omega arith
@@ -105,11 +105,11 @@ returns c =
     let e = waiting-count.ensures in
     let here = pre.1 in
     let k : n ≡ waiting args.st.now - 1 = omega arith in
-    let h : c.before.set_word.new.0 ≡ set (putWords loop.st end.result (replicate 8 (pos 0))) 0 (pos n) =
-    rw (put-words.ensures, given (pos n) (omega (arith, waiting-limit _ pre.0))) at c.before.set_word.ensures in
+    let h : c.before.set_word.new.0 ≡ set (put_words loop.st end.result (replicate 8 (pos 0))) 0 (pos n) =
+    rw (put-words.ensures, given (pos n) (omega (arith, waiting_limit _ pre.0))) at c.before.set_word.ensures in
     h
-    ∙ removed s args.st.now o args.j n from.result end.result loop.i loop.st here k (from.ensures ∙ place-in s _ _ o.whole)
-    (end.ensures ∙ place-in s _ _ o.whole) loop.invariant.1 loop-test.false loop.invariant.3 loop.invariant.4
+    ∙ removed s args.st.now o args.j n from.result end.result loop.i loop.st here k (from.ensures ∙ place_in_lem s _ _ o.whole)
+    (end.ensures ∙ place_in_lem s _ _ o.whole) loop.invariant.1 loop-test.false loop.invariant.3 loop.invariant.4
 
 pub remove-spec : {M : Type 1} → statement M
 remove-spec =

@@ -1,7 +1,7 @@
 use lib.ListN.{length-set}
 use borrow.Author.Rules.{rules}
 use Rattle.engine_ints.proofs.Range.{back}
-use Rattle.engine_rows.proofs.Laws.{put-eight}
+use Rattle.engine_rows.proofs.Laws.{put_eight}
 use Rattle.engine_rows.proofs.put_words.Statement.{statement}
 use Rattle.engine_rows.proofs.put_words.Tie as tie
 
@@ -78,7 +78,7 @@ same_length : tie.Need-same-length
 same_length c = simp length-set (search rules)
 
 returns : tie.Need-returns
-returns c = rw (back c.ranges.w0, back c.ranges.w1, back c.ranges.w2, back c.ranges.w3, back c.ranges.w4, back c.ranges.w5, back c.ranges.w6, back c.ranges.w7) (put-eight _ _ c.requires _ _ _ _ _ _ _ _)
+returns c = rw (back c.ranges.w0, back c.ranges.w1, back c.ranges.w2, back c.ranges.w3, back c.ranges.w4, back c.ranges.w5, back c.ranges.w6, back c.ranges.w7) (put_eight _ _ c.requires _ _ _ _ _ _ _ _)
 
 pub put-words-spec : {M : Type 1} → statement M
 put-words-spec =

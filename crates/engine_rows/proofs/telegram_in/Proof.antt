@@ -2,7 +2,7 @@ use Prim.Native.Nat.{◌+◌}
 use lib.IntN.{pos}
 use lib.ListN.{get_or}
 use borrow.Author.Rules.{rules}
-use Rattle.machine.specs.State.{word_of, telegramIn}
+use Rattle.machine.specs.State.{word_of, telegram_in}
 use Rattle.engine_rows.proofs.Laws.{given}
 use Rattle.engine_rows.proofs.telegram_in.Statement.{statement}
 use Rattle.engine_rows.proofs.telegram_in.Tie as tie
@@ -77,7 +77,7 @@ shared-slice-copy-out-t33 : tie.Need-shared-slice-copy-out-t33
 shared-slice-copy-out-t33 c = search rules
 
 returns : tie.Need-returns
-unfolding telegramIn word_of
+unfolding telegram_in word_of
 returns c =
     let t21 = c.before.before.before.t21 in
     let t17 = c.before.before.before.before.t17 in

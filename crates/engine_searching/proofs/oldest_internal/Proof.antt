@@ -5,19 +5,19 @@ use native.Mathlib.Omega.{arith}
 use lib.ListN.{length}
 use mir.Syntax.{w32}
 use mir.Val.{to_z, of_z}
-use Rattle.machine.specs.State.{stateLength, telegramIn, telegramOf}
-use Rattle.machine.specs.Play.{inner_of, oldestFrom, oldest}
+use Rattle.machine.specs.State.{state_length, telegram_in, telegram_of}
+use Rattle.machine.specs.Play.{inner_of, oldest_from, oldest}
 use Rattle.engine_ints.proofs.Range.{back}
 use Rattle.engine_store.specs.Layout.{place_in}
-use Rattle.engine_store.proofs.Lies.{place-in}
-use Rattle.engine_queue.proofs.Laws.{waiting-limit}
-use Rattle.engine_searching.proofs.Laws.{place-fits, number_of, oldest-start, oldest-next, oldest-here, oldest-none}
+use Rattle.engine_store.proofs.Lies.{place_in_lem}
+use Rattle.engine_queue.proofs.Laws.{waiting_limit}
+use Rattle.engine_searching.proofs.Laws.{place_fits, number_of, oldest-start, oldest_next, oldest_here, oldest-none}
 use Rattle.engine_searching.proofs.oldest_internal.Statement.{statement}
 use Rattle.engine_searching.proofs.oldest_internal.Tie as tie
 
 abbrev invariant-loop : tie.invariant-loop
 invariant-loop st r n first end at₀ at =
-    (j : ℕ) × (j ≤ n) × (at ≡ place_in (length st) j) × ((s : List ℕ) → length st ≡ stateLength s → oldest s st (inner_of (to_z w32 r)) ≡ oldestFrom s st (inner_of (to_z w32 r)) (n - j) j)
+    (j : ℕ) × (j ≤ n) × (at ≡ place_in (length st) j) × ((s : List ℕ) → length st ≡ state_length s → oldest s st (inner_of (to_z w32 r)) ≡ oldest_from s st (inner_of (to_z w32 r)) (n - j) j)
 
 abbrev decreases-loop : tie.decreases-loop
 decreases-loop st r n first end at₀ at = end - at
@@ -29,7 +29,7 @@ place-at-requires : tie.Need-place-at-requires invariant-loop decreases-loop
 place-at-requires c κs = (c.before.requires.long, omega arith)
 
 place-at-requires-2 : tie.Need-place-at-requires-2 invariant-loop decreases-loop
-place-at-requires-2 c κs = (c.before.before.requires.long, (let e = c.before.waiting-count.ensures in omega (arith, waiting-limit _ c.before.before.requires)))
+place-at-requires-2 c κs = (c.before.before.requires.long, (let e = c.before.waiting-count.ensures in omega (arith, waiting_limit _ c.before.before.requires)))
 
 loop-holds : tie.Need-loop-init invariant-loop decreases-loop
 loop-holds c = (0, omega arith, c.before.place_at.ensures, λ s e. oldest-start s _ _ _ c.before.before.waiting-count.ensures)
@@ -40,7 +40,7 @@ inner-requires c κs =
     let at = inv.2 in
     let end = c.before.before.place-at2.ensures in
     let before = c.loop-test.true in
-    place-fits _ c.before.before.before.before.before.requires _ inv.0 _ c.before.before.before.before.waiting-count.ensures (omega arith) at
+    place_fits _ c.before.before.before.before.before.requires _ inv.0 _ c.before.before.before.before.waiting-count.ensures (omega arith) at
 
 sub-result : tie.Need-overflow-sub-result invariant-loop decreases-loop
 sub-result c =
@@ -49,7 +49,7 @@ sub-result c =
     omega arith
 
 returns : tie.Need-returns invariant-loop decreases-loop
-unfolding telegramOf
+unfolding telegram_of
 returns c = λ s e.
     let st = c.before.before.before.before.before.before.before.args.st.now in
     let p = inner_of (to_z w32 (of_z w32 c.before.before.before.before.before.before.before.args.r)) in
@@ -60,8 +60,8 @@ returns c = λ s e.
     let at = inv.2 in
     let before = c.before.before.loop-test.true in
     let l : j < c.before.before.before.before.before.before.waiting-count.result = omega arith in
-    let found = ap (λ at. p (telegramIn st at)) (sym (at ∙ place-in s _ _ e)) ∙ sym c.before.inner.ensures ∙ c.if1.true in
-    let h : (c.before.before.before.loop.at - c.before.before.before.before.before.place_at.result) / 8 ≡ oldest s st p = number_of _ _ _ j first at ∙ oldest-here s st p _ j l found ∙ sym (inv.3 s e) in
+    let found = ap (λ at. p (telegram_in st at)) (sym (at ∙ place_in_lem s _ _ e)) ∙ sym c.before.inner.ensures ∙ c.if1.true in
+    let h : (c.before.before.before.loop.at - c.before.before.before.before.before.place_at.result) / 8 ≡ oldest s st p = number_of _ _ _ j first at ∙ oldest_here s st p _ j l found ∙ sym (inv.3 s e) in
     rw (back c.before.before.before.before.before.before.before.ranges.r) at h
 
 add_at : tie.Need-overflow-add-at invariant-loop decreases-loop
@@ -71,13 +71,13 @@ add_at c =
     let before = c.before.before.loop-test.true in
     let count = c.before.before.before.before.before.before.waiting-count.ensures in
     let start = c.before.before.before.before.before.before.before in
-    record { fits = omega (arith, waiting-limit _ start.requires, start.requires.long, start.well-formed) }
+    record { fits = omega (arith, waiting_limit _ start.requires, start.requires.long, start.well-formed) }
 
 loop-less : tie.Need-loop-smaller invariant-loop decreases-loop
 loop-less c = let before = c.before.before.loop-test.true in omega arith
 
 loop-again : tie.Need-loop-preserved invariant-loop decreases-loop
-unfolding telegramOf
+unfolding telegram_of
 loop-again c =
     let st = c.before.before.before.before.before.before.before.args.st.now in
     let p = inner_of (to_z w32 (of_z w32 c.before.before.before.before.before.before.before.args.r)) in
@@ -88,7 +88,7 @@ loop-again c =
     let at = inv.2 in
     let before = c.before.before.loop-test.true in
     let l : j < c.before.before.before.before.before.before.waiting-count.result = omega arith in
-    (j + 1, omega arith, omega arith, λ s e. inv.3 s e ∙ oldest-next s st p _ j l (ap (λ at. p (telegramIn st at)) (sym (at ∙ place-in s _ _ e)) ∙ sym c.before.inner.ensures ∙ c.if1.false))
+    (j + 1, omega arith, omega arith, λ s e. inv.3 s e ∙ oldest_next s st p _ j l (ap (λ at. p (telegram_in st at)) (sym (at ∙ place_in_lem s _ _ e)) ∙ sym c.before.inner.ensures ∙ c.if1.false))
 
 sub-result-2 : tie.Need-overflow-sub-result-2 invariant-loop decreases-loop
 sub-result-2 c =

@@ -1,5 +1,5 @@
 use borrow.Author.Rules.{rules}
-use Rattle.engine_sending.proofs.Sends.{append-done, append-refused}
+use Rattle.engine_sending.proofs.Sends.{append_done, append-refused}
 use Rattle.engine_sending.proofs.append.Statement.{statement}
 use Rattle.engine_sending.proofs.append.Tie as tie
 
@@ -10,7 +10,7 @@ same_length : tie.Need-same-length
 same_length c = search rules
 
 returns : tie.Need-returns
-returns c = λ s lo e. append-done s _ _ _ lo _ _ (c.before.before.append.ensures.0 s e) c.if1.true
+returns c = λ s lo e. append_done s _ _ _ lo _ _ (c.before.before.append.ensures.0 s e) c.if1.true
 
 same-length-2 : tie.Need-same-length-2
 same-length-2 c = search rules

@@ -1,8 +1,8 @@
 use mathlib.Core.Path.{sym, ◌∙◌}
 use borrow.Author.Rules.{rules}
 use Rattle.engine_rows.proofs.Laws.{given}
-use Rattle.engine_ready.specs.Ready.{contextAt}
-use Rattle.engine_ready.proofs.Statements.{receiver-operand, external-name, external-word}
+use Rattle.engine_ready.specs.Ready.{context_at}
+use Rattle.engine_ready.proofs.Statements.{receiver_operand, external-name, external_word}
 use Rattle.engine_data.proofs.Data.{on_word, on-refused, on-stuck, no_record}
 use Rattle.engine_sending.proofs.external_send.Statement.{statement}
 use Rattle.engine_sending.proofs.external_send.Tie as tie
@@ -28,7 +28,7 @@ cast-eval c = search rules
 eval-requires : tie.Need-eval-requires
 eval-requires c κs =
     let pre = c.before.before.before.before.before.before.before.before.requires in
-    (pre.0, pre.1.ready, receiver-operand _ _ _ _ pre.1.ready _ _ pre.1.there pre.1.statement pre.1.form)
+    (pre.0, pre.1.ready, receiver_operand _ _ _ _ pre.1.ready _ _ pre.1.there pre.1.statement pre.1.form)
 
 enum-known-x : tie.Need-enum-known-x
 enum-known-x c = search rules
@@ -46,7 +46,7 @@ same_length : tie.Need-same-length
 same_length c = search rules
 
 returns-2 : tie.Need-returns-2
-unfolding contextAt
+unfolding context_at
 returns-2 c =
     let at8 = c.before.before.before.before.before.before.before.before in
     let known-told2 = c.before.before.before.known-told2 in
@@ -59,7 +59,7 @@ returns-2 c =
     let x-is = sym x.given.1 ∙ eval.ensures in
     λ depth. (rw (given x.given.0.0 known-told2.given.0.1) at c.before.send-to.ensures)
     ∙ on_word _ _ _ _ _ _ x-is
-    ∙ sym (external-word _ _ _ _ pre.1.ready _ _ pre.1.there pre.1.statement pre.1.form _ a-is depth _)
+    ∙ sym (external_word _ _ _ _ pre.1.ready _ _ pre.1.there pre.1.statement pre.1.form _ a-is depth _)
 
 same-length-2 : tie.Need-same-length-2
 same-length-2 c = search rules
@@ -73,7 +73,7 @@ returns-3 c =
     let pre = at8.before.before.before.before.requires in
     let a-is = sym read.ensures ∙ a.given.1 in
     let x2-is = sym c.before.x2.given.1 ∙ eval.ensures in
-    λ depth. on-refused _ _ _ _ _ _ x2-is ∙ sym (external-word _ _ _ _ pre.1.ready _ _ pre.1.there pre.1.statement pre.1.form _ a-is depth _)
+    λ depth. on-refused _ _ _ _ _ _ x2-is ∙ sym (external_word _ _ _ _ pre.1.ready _ _ pre.1.there pre.1.statement pre.1.form _ a-is depth _)
 
 same-length-3 : tie.Need-same-length-3
 same-length-3 c = search rules
@@ -85,7 +85,7 @@ returns-4 c =
     let pre = c.before.before.before.before.before.before.before.before.before.before.before.requires in
     let a-is = sym read.ensures ∙ a.given.1 in
     let enum-told2-is = sym c.enum-told2.given.1 ∙ c.before.before.eval.ensures in
-    λ depth. on-stuck _ _ _ _ enum-told2-is ∙ sym (external-word _ _ _ _ pre.1.ready _ _ pre.1.there pre.1.statement pre.1.form _ a-is depth _)
+    λ depth. on-stuck _ _ _ _ enum-told2-is ∙ sym (external_word _ _ _ _ pre.1.ready _ _ pre.1.there pre.1.statement pre.1.form _ a-is depth _)
 
 pub external-send-spec : {M : Type 1} → statement M
 external-send-spec =

@@ -4,8 +4,8 @@ use lib.IntN.{pos, negsuc}
 use lib.ListN.{get_or}
 use borrow.Author.Rules.{rules}
 use Rattle.engine_rows.proofs.Laws.{given}
-use Rattle.engine_ready.specs.Ready.{contextAt}
-use Rattle.engine_ready.proofs.Statements.{internal-there, internal-data, internal-word}
+use Rattle.engine_ready.specs.Ready.{context_at}
+use Rattle.engine_ready.proofs.Statements.{internal-there, internal_data, internal_word}
 use Rattle.engine_data.proofs.Data.{no_record}
 use Rattle.engine_sending.proofs.Sends.{element-small}
 use Rattle.engine_sending.proofs.internal_send.Statement.{statement}
@@ -38,13 +38,13 @@ send-requires c κs =
     let read = c.before.before.before.before.before.read in
     let pre = c.before.before.before.before.before.before.before.before.requires in
     let a-is = sym read.ensures ∙ a.given.1 in
-    (pre.0, pre.1.ready, internal-data _ _ _ _ pre.1.ready _ _ pre.1.there pre.1.statement pre.1.form _ a-is, a-is)
+    (pre.0, pre.1.ready, internal_data _ _ _ _ pre.1.ready _ _ pre.1.there pre.1.statement pre.1.form _ a-is, a-is)
 
 same_length : tie.Need-same-length
 same_length c = search rules
 
 returns-2 : tie.Need-returns-2
-unfolding contextAt
+unfolding context_at
 returns-2 c =
     let at8 = c.before.before.before.before.before.before.before.before in
     let a = c.before.before.before.before.before.a in
@@ -55,7 +55,7 @@ returns-2 c =
     λ depth.
     let h = element-small _ _ pre.1.ready.running in
     (rw (given (pos (get_or args.context.now 0 0)) (omega arith), given (negsuc 0) (omega arith)) at c.before.send.ensures)
-    ∙ sym (internal-word _ _ _ _ pre.1.ready _ _ pre.1.there pre.1.statement pre.1.form _ a-is depth _)
+    ∙ sym (internal_word _ _ _ _ pre.1.ready _ _ pre.1.there pre.1.statement pre.1.form _ a-is depth _)
 
 pub internal-send-spec : {M : Type 1} → statement M
 internal-send-spec =

@@ -3,8 +3,8 @@ use native.Mathlib.Omega.{arith}
 use borrow.Author.Rules.{rules}
 use Rattle.machine.specs.Run.{append}
 use Rattle.engine_queue.proofs.Laws.{laid}
-use Rattle.engine_data.proofs.Data.{four-data, data-given, on-given, data-ends-refused, data-ends-stuck}
-use Rattle.engine_sending.proofs.Sends.{element-small, telegram-made}
+use Rattle.engine_data.proofs.Data.{four_data, data_given, on-given, data_ends_refused, data_ends_stuck}
+use Rattle.engine_sending.proofs.Sends.{element-small, telegram_made}
 use Rattle.engine_sending.proofs.send.Statement.{statement}
 use Rattle.engine_sending.proofs.send.Tie as tie
 
@@ -15,7 +15,7 @@ cast-t18 : tie.Need-overflow-cast-t18
 cast-t18 c = search rules
 
 gather-requires : tie.Need-gather-requires
-gather-requires c κs = (c.before.before.before.before.before.requires.0, c.before.before.before.before.before.requires.1, c.before.before.before.before.before.requires.2, four-data _ _ c.before.before.before.before.before.requires.1.running _ _ c.before.before.before.before.before.requires.3, refl)
+gather-requires c κs = (c.before.before.before.before.before.requires.0, c.before.before.before.before.before.requires.1, c.before.before.before.before.before.requires.2, four_data _ _ c.before.before.before.before.before.requires.1.running _ _ c.before.before.before.before.before.requires.3, refl)
 
 enum-known-o : tie.Need-enum-known-o
 enum-known-o c = search rules
@@ -66,8 +66,8 @@ returns c =
     let args = at16.before.before.args in
     let fits = at16.before.before.ranges in
     let pre = at16.before.before.requires in
-    let d = data-given _ _ (sym o.given.1 ∙ gather.ensures.1) in
-    let telegram-made-here = telegram-made _ _ _ _ _ d.0 (element-small _ _ pre.1.running) fits.receiver fits.port
+    let d = data_given _ _ (sym o.given.1 ∙ gather.ensures.1) in
+    let telegram-made-here = telegram_made _ _ _ _ _ d.0 (element-small _ _ pre.1.running) fits.receiver fits.port
     struct-known3.given.1.1.1.0.fits t32.given t35.given t38.given c.before.before.t41.given
     (gather.ensures.2 _ _ d.1) in
     c.before.append.ensures args.sheet.now args.lo.now pre.1.state.whole
@@ -78,13 +78,13 @@ same-length-2 : tie.Need-same-length-2
 same-length-2 c = search rules
 
 returns-2 : tie.Need-returns-2
-returns-2 c = data-ends-refused _ _ _ _ _ _ (sym c.before.o2.given.1 ∙ c.before.before.before.gather.ensures.1)
+returns-2 c = data_ends_refused _ _ _ _ _ _ (sym c.before.o2.given.1 ∙ c.before.before.before.gather.ensures.1)
 
 same-length-3 : tie.Need-same-length-3
 same-length-3 c = search rules
 
 returns-3 : tie.Need-returns-3
-returns-3 c = data-ends-stuck _ _ _ _ (sym c.enum_told.given.1 ∙ c.before.before.gather.ensures.1)
+returns-3 c = data_ends_stuck _ _ _ _ (sym c.enum_told.given.1 ∙ c.before.before.gather.ensures.1)
 
 pub send-spec : {M : Type 1} → statement M
 send-spec =

@@ -2,7 +2,7 @@ use mathlib.Core.Path.{sym, ◌∙◌}
 use borrow.Author.Rules.{rules}
 use Rattle.engine_ints.proofs.Range.{back}
 use Rattle.engine_rows.proofs.Laws.{given}
-use Rattle.engine_ready.proofs.Statements.{port-operand, external-data}
+use Rattle.engine_ready.proofs.Statements.{port_operand, external_data}
 use Rattle.engine_data.proofs.Data.{on_word, on-refused, on-stuck}
 use Rattle.engine_sending.proofs.send_to.Statement.{statement}
 use Rattle.engine_sending.proofs.send_to.Tie as tie
@@ -11,7 +11,7 @@ cast-eval : tie.Need-overflow-cast-eval
 cast-eval c = search rules
 
 eval-requires : tie.Need-eval-requires
-eval-requires c κs = (c.before.before.before.requires.0, c.before.before.before.requires.1.ready, port-operand _ _ _ _ c.before.before.before.requires.1.ready _ _ c.before.before.before.requires.1.there c.before.before.before.requires.1.statement c.before.before.before.requires.1.form)
+eval-requires c κs = (c.before.before.before.requires.0, c.before.before.before.requires.1.ready, port_operand _ _ _ _ c.before.before.before.requires.1.ready _ _ c.before.before.before.requires.1.there c.before.before.before.requires.1.statement c.before.before.before.requires.1.form)
 
 enum-known-x : tie.Need-enum-known-x
 enum-known-x c = search rules
@@ -19,7 +19,7 @@ enum-known-x c = search rules
 send-requires : tie.Need-send-requires
 send-requires c κs =
     let pre = c.before.before.before.before.before.before.before.before.requires in
-    (pre.0, pre.1.ready, external-data _ _ _ _ pre.1.ready _ _ pre.1.there pre.1.statement pre.1.form _ pre.2, pre.2)
+    (pre.0, pre.1.ready, external_data _ _ _ _ pre.1.ready _ _ pre.1.there pre.1.statement pre.1.form _ pre.2, pre.2)
 
 enum-known-x-2 : tie.Need-enum-known-x-2
 enum-known-x-2 c = search rules

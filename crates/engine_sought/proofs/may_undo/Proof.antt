@@ -1,10 +1,10 @@
-use Rattle.machine.specs.Values.{isBelow}
-use Rattle.engine_valid_values.proofs.Laws.{below-same}
+use Rattle.machine.specs.Values.{is_below}
+use Rattle.engine_valid_values.proofs.Laws.{below_same}
 use mathlib.Core.Path.{sym, ap, ◌∙◌}
-use Rattle.machine_events.specs.Sought.{mayUndo}
+use Rattle.machine_events.specs.Sought.{may_undo}
 use Rattle.engine_rows.proofs.Laws.{given}
 use Rattle.engine_queue.proofs.Laws.{laid}
-use Rattle.engine_sought.proofs.Laws.{handed-on, deliver-undone, corrupt-undone, inner-undone}
+use Rattle.engine_sought.proofs.Laws.{handed_on, deliver_undone, corrupt_undone, inner_undone}
 use borrow.Author.Rules.{rules}
 use Rattle.engine_sought.proofs.may_undo.Statement.{statement}
 use Rattle.engine_sought.proofs.may_undo.Tie as tie
@@ -28,7 +28,7 @@ returns : tie.Need-returns
 returns c =
     let e = c.before.before.before.before.e2.given in
     let read = given e.0.1.0 c.before.before.before.known-told2.given.1.0.1 in
-    handed-on _ _ _ _ _ e.1 (sym (below-same _ _ _ _ (c.before.is_below.ensures ∙ ap (λ z. isBelow z c.before.before.externals.result) read) c.before.before.externals.ensures.0) ∙ c.if1.true)
+    handed_on _ _ _ _ _ e.1 (sym (below_same _ _ _ _ (c.before.is_below.ensures ∙ ap (λ z. is_below z c.before.before.externals.result) read) c.before.before.externals.ensures.0) ∙ c.if1.true)
 
 waiting-count-requires : tie.Need-waiting-count-requires
 waiting-count-requires c κs = laid _ _ c.before.before.before.before.before.before.before.requires.0.state
@@ -49,28 +49,28 @@ enum-told-2 : tie.Need-enum-told-2
 enum-told-2 c = search rules
 
 returns-2 : tie.Need-returns-2
-unfolding mayUndo
-returns-2 c = sym (ap (mayUndo _ _) c.enum_told.given.1)
+unfolding may_undo
+returns-2 c = sym (ap (may_undo _ _) c.enum_told.given.1)
 
 returns-3 : tie.Need-returns-3
-unfolding mayUndo
-returns-3 c = sym (ap (mayUndo _ _) c.before.e.given.1)
+unfolding may_undo
+returns-3 c = sym (ap (may_undo _ _) c.before.e.given.1)
 
 returns-4 : tie.Need-returns-4
 returns-4 c =
     let e = c.before.before.before.before.before.e2.given in
     let read = given e.0.1.0 c.before.before.before.before.known-told2.given.1.0.1 in
-    deliver-undone _ _ _ _ c.before.before.before.before.before.before.before.before.requires.1 _ c.waiting-count.ensures _ _ e.1 (sym (below-same _ _ _ _ (c.before.before.is_below.ensures ∙ ap (λ z. isBelow z c.before.before.before.externals.result) read) c.before.before.before.externals.ensures.0) ∙ c.before.if1.false)
+    deliver_undone _ _ _ _ c.before.before.before.before.before.before.before.before.requires.1 _ c.waiting-count.ensures _ _ e.1 (sym (below_same _ _ _ _ (c.before.before.is_below.ensures ∙ ap (λ z. is_below z c.before.before.before.externals.result) read) c.before.before.before.externals.ensures.0) ∙ c.before.if1.false)
 
 returns-5 : tie.Need-returns-5
-returns-5 c = corrupt-undone _ _ _ _ c.before.before.before.before.before.requires.1 _ c.waiting-count2.ensures _ _ c.before.before.e3.given.1
+returns-5 c = corrupt_undone _ _ _ _ c.before.before.before.before.before.requires.1 _ c.waiting-count2.ensures _ _ c.before.before.e3.given.1
 
 returns-6 : tie.Need-returns-6
-returns-6 c = inner-undone _ _ _ _ c.before.before.before.before.before.requires.1 _ c.waiting-count3.ensures _ c.before.before.e4.given.1
+returns-6 c = inner_undone _ _ _ _ c.before.before.before.before.before.requires.1 _ c.waiting-count3.ensures _ c.before.before.e4.given.1
 
 returns-7 : tie.Need-returns-7
-unfolding mayUndo
-returns-7 c = sym (ap (mayUndo _ _) c.enum-told2.given.1)
+unfolding may_undo
+returns-7 c = sym (ap (may_undo _ _) c.enum-told2.given.1)
 
 pub may-undo-spec : {M : Type 1} → statement M
 may-undo-spec =

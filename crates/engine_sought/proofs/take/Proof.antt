@@ -1,6 +1,6 @@
 use mathlib.Core.Path.{refl}
 use native.Mathlib.Omega.{arith}
-use Rattle.engine_queue.proofs.Laws.{waiting-limit}
+use Rattle.engine_queue.proofs.Laws.{waiting_limit}
 use borrow.Author.Rules.{rules}
 use Rattle.engine_sought.proofs.take.Statement.{statement}
 use Rattle.engine_sought.proofs.take.Tie as tie
@@ -15,7 +15,7 @@ returns : tie.Need-returns
 returns c = λ s o. (omega (arith, c.before.waiting-count.ensures, c.if1.true), refl)
 
 telegram-at-requires : tie.Need-telegram-at-requires
-telegram-at-requires c κs = (c.before.before.before.before.requires.long, omega (arith, waiting-limit _ c.before.before.before.before.requires, c.before.before.waiting-count.ensures, c.before.if1.false))
+telegram-at-requires c κs = (c.before.before.before.before.requires.long, omega (arith, waiting_limit _ c.before.before.before.before.requires, c.before.before.waiting-count.ensures, c.before.if1.false))
 
 remove-requires : tie.Need-remove-requires
 remove-requires c κs = search rules

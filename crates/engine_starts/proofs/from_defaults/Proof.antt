@@ -3,15 +3,15 @@ use mathlib.Core.Path.{◌≡◌, sym, subst, ◌∙◌}
 use native.Mathlib.Omega.{arith}
 use borrow.Author.Rules.{rules}
 use Rattle.machine.specs.Valid.{OfSheet}
-use Rattle.machine.specs.Play.{started, startFrom, limitOf}
-use Rattle.machine_states.proofs.Default.{default-of-sheet}
-use Rattle.machine_events.proofs.Begins.{begins, ends, few, here-bound, not_stuck, done-left, done-kept, done_next, refused-left, refused-ends}
+use Rattle.machine.specs.Play.{started, start_from, limit_of}
+use Rattle.machine_states.proofs.Default.{default_of_sheet}
+use Rattle.machine_events.proofs.Begins.{begins, ends, few, here_bound, not_stuck, done_left, done_kept_lem, done_next, refused-left, refused_ends}
 use Rattle.engine_starts.proofs.from_defaults.Statement.{statement}
 use Rattle.engine_starts.proofs.from_defaults.Tie as tie
 
 abbrev invariant-loop : tie.invariant-loop
 invariant-loop sheet directory cells st₀ first count most steps₀ i₀ st steps i =
-    (i ≤ count) × OfSheet sheet st × (steps ≤ i * 65535) × (started sheet (limitOf sheet) ≡ startFrom sheet (limitOf sheet) (count - i) (first + i) steps st)
+    (i ≤ count) × OfSheet sheet st × (steps ≤ i * 65535) × (started sheet (limit_of sheet) ≡ start_from sheet (limit_of sheet) (count - i) (first + i) steps st)
 
 abbrev decreases-loop : tie.decreases-loop
 decreases-loop sheet directory cells st₀ first count most steps₀ i₀ st steps i = count - i
@@ -34,7 +34,7 @@ loop-holds c =
     let p = c.before.before.externals.ensures.0 in
     let q = c.before.elements.ensures.0 in
     let defaults = c.before.before.before.before.default-state.ensures in
-    let of-sheet = subst (OfSheet _) (sym defaults) (default-of-sheet _ ok) in
+    let of-sheet = subst (OfSheet _) (sym defaults) (default_of_sheet _ ok) in
     (omega arith, of-sheet, omega arith, begins _ ok _ _ _ (omega arith) (omega arith) defaults)
 
 add-initial : tie.Need-overflow-add-initial invariant-loop decreases-loop
@@ -54,7 +54,7 @@ initial-requires c κs =
     let m = c.before.before.before.limit.ensures.0 in
     let l = c.before.loop-test.true in
     let o = c.before.before.loop.invariant.1 in
-    (record { directory = pre.directory; passed = pre.passed; cells = pre.cells; state = o }, here-bound _ pre.passed _ _ _ _ p q m l, m)
+    (record { directory = pre.directory; passed = pre.passed; cells = pre.cells; state = o }, here_bound _ pre.passed _ _ _ _ p q m l, m)
 
 enum-known-r : tie.Need-enum-known-r invariant-loop decreases-loop
 enum-known-r c = search rules
@@ -68,7 +68,7 @@ sub-steps c =
     let l = c.before.before.before.before.before.before.loop-test.true in
     let o = c.before.before.before.before.before.before.before.loop.invariant.1 in
     let ran = c.before.before.before.before.initial.ensures in
-    let h = done-left _ ok _ _ _ _ p q m l _ o _ _ ran.0 ran.1 _ c.before.r.given.1 in
+    let h = done_left _ ok _ _ _ _ p q m l _ o _ _ ran.0 ran.1 _ c.before.r.given.1 in
     search rules
 
 add-steps : tie.Need-overflow-add-steps invariant-loop decreases-loop
@@ -83,7 +83,7 @@ add-steps c =
     let w = c.before.before.before.before.before.before.before.loop.invariant.2 in
     let ran = c.before.before.before.before.initial.ensures in
     let f = few _ ok _ _ _ _ p q m l in
-    let h = done-left _ ok _ _ _ _ p q m l _ o _ _ ran.0 ran.1 _ c.before.r.given.1 in
+    let h = done_left _ ok _ _ _ _ p q m l _ o _ _ ran.0 ran.1 _ c.before.r.given.1 in
     record { fits = omega arith }
 
 enum-known-r-2 : tie.Need-enum-known-r-2 invariant-loop decreases-loop
@@ -137,7 +137,7 @@ returns c =
     let left = c.before.before.before.before.r2.given.1 in
     let whole = c.before.before.before.before.before.before.st2.given ∙ inv.1.whole in
     let zeros = c.before.refused.ensures in
-    refused-ends _ ok _ _ _ _ p q m l _ inv.1 _ _ ran.0 ran.1 _ inv.3 _ _ left _ _ zeros.1 whole _ zeros.0
+    refused_ends _ ok _ _ _ _ p q m l _ inv.1 _ _ ran.0 ran.1 _ inv.3 _ _ left _ _ zeros.1 whole _ zeros.0
 
 enum_told : tie.Need-enum-told invariant-loop decreases-loop
 enum_told c = search rules
@@ -181,7 +181,7 @@ loop-again c =
     let ran = c.before.before.before.before.initial.ensures in
     let left = c.before.r.given.1 in
     let f = few _ ok _ _ _ _ p q m l in
-    let kept = done-kept _ ok _ _ _ _ p q m l _ inv.1 _ _ ran.0 ran.1 _ left in
+    let kept = done_kept_lem _ ok _ _ _ _ p q m l _ inv.1 _ _ ran.0 ran.1 _ left in
     let next = done_next _ ok _ _ _ _ p q m l _ inv.1 _ _ ran.0 ran.1 _ inv.3 _ left in
     (omega arith, kept, omega arith, next)
 

@@ -2,7 +2,7 @@ use mathlib.Core.Path.{sym, ap, ◌∙◌}
 use borrow.Author.Rules.{rules}
 use Rattle.machine.specs.Run.{World}
 use Rattle.machine_passed.proofs.Charts.{chart-element}
-use Rattle.machine_events.proofs.Called.{has-chart, initial-called, initial-runs}
+use Rattle.machine_events.proofs.Called.{has_chart, initial-called, initial-runs}
 use Rattle.engine_starts.proofs.initial.Statement.{statement}
 use Rattle.engine_starts.proofs.initial.Tie as tie
 
@@ -21,7 +21,7 @@ enum_told c = search rules
 never-taken-requires : tie.Need-never-taken-requires
 never-taken-requires c κs =
     let pre = c.before.before.before.before.before.requires in
-    has-chart _ pre.0.passed _ pre.1 (sym c.before.before.before.chart-number.ensures ∙ sym c.before.before.read.ensures ∙ c.enum_told.given.1)
+    has_chart _ pre.0.passed _ pre.1 (sym c.before.before.before.chart-number.ensures ∙ sym c.before.before.read.ensures ∙ c.enum_told.given.1)
 
 returns : tie.Need-returns
 returns c = absurd c.never-taken.ensures

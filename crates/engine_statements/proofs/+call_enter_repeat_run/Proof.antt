@@ -7,17 +7,17 @@ use Prim.Native.Nat.{ℕ, ◌<◌}
 use borrow.Fn.Kinds.{In}
 use borrow.Fn.PlainCycle.{Measures, is, falls, and as joined}
 use Rattle.sheet.specs.Names.{root}
-use Rattle.sheet_rules.specs.Forms.{assign, externalSend, internalSend, arm, clockAct, call as calls, choice, loop, sequence, assignElement}
+use Rattle.sheet_rules.specs.Forms.{assign, external_send, internal_send, arm, clock_act, call as calls, choice, loop, sequence, assign_element}
 use Rattle.machine.specs.Run.{in_body, run_of}
-use Rattle.sheet_rules.proofs.Forms.{form-arm, form-clockAct}
-use Rattle.engine_ints.proofs.Range.{is-zero, not-zero}
-use Rattle.engine_ready.specs.Ready.{contextAt, Ready}
-use Rattle.engine_ready.proofs.Statements.{ready-after, choice-operand, choice-then, choice-else, loop-operand, loop-body, sequence-first, sequence-second}
+use Rattle.sheet_rules.proofs.Forms.{form-arm, form-clock_act}
+use Rattle.engine_ints.proofs.Range.{is_zero_lem, not-zero}
+use Rattle.engine_ready.specs.Ready.{context_at, Ready}
+use Rattle.engine_ready.proofs.Statements.{ready_after_lem, choice_operand, choice_then, choice_else, loop_operand, loop-body, sequence-first, sequence_second}
 use Rattle.engine_data.specs.Visit.{Visit}
-use Rattle.engine_data.proofs.Data.{data-given, no_record}
-use Rattle.engine_arming.proofs.Acts.{act-lies}
-use Rattle.engine_statements.proofs.Bodies.{body-called, number_small, has-data, four-parameters, callable, given-left, call-done, called-refused, called-stuck, too-deep, body-runs, inner-context, fresh-there, few-parameters, few-variables, inner-ready, inner-statement}
-use Rattle.engine_statements.proofs.Steps.{word-left, done-left, none_left, no_node, other_stuck, visit, skips, choice-no, choice-yes, choice-refused, choice-stuck, loop-ends, loop-refused, loop-stuck, turn-refused, turn-stuck, turn-visit, turn-none, turn-again, first_done, first-refused, first-stuck, with-ran, step_back, past-four, below_next, form-assign, form-external, form-internal, form-call, form-choice, form-loop, form-sequence, form-assign-element}
+use Rattle.engine_data.proofs.Data.{data_given, no_record}
+use Rattle.engine_arming.proofs.Acts.{act_lies}
+use Rattle.engine_statements.proofs.Bodies.{body-called, number_small, has_data, four_parameters, callable, given-left, call_done, called-refused, called-stuck, too_deep_lem, body-runs, inner_context, fresh_there, few-parameters, few_variables, inner-ready, inner-statement}
+use Rattle.engine_statements.proofs.Steps.{word_left, done_left, none_left, no_node, other_stuck, visit, skips, choice_no, choice_yes, choice-refused, choice-stuck, loop_ends, loop-refused, loop-stuck, turn_refused, turn_stuck, turn_visit, turn_none_lem, turn_again, first_done, first-refused, first-stuck, with_ran, step_back, past_four, below_next, form-assign, form-external, form-internal, form-call, form-choice, form-loop, form-sequence, form-assign-element}
 use Rattle.engine_statements.proofs.call.Reads as call
 use Rattle.engine_statements.proofs.call.Kinds as call-kinds
 use Rattle.engine_statements.proofs.+call_enter_repeat_run.Lts-call as call-lts
@@ -152,7 +152,7 @@ call-gather-requires t c κs =
     let read_here = c.before.before.before.before.before.before.before.read in
     let pre = c.before.before.before.before.before.before.before.before.before.before.before.requires in
     let b-is = sym read_here.ensures ∙ b.given.1 in
-    (pre.1.directory, pre.1.visit.ready, has-data _ _ _ _ _ _ pre.1.visit _ b-is, four-parameters _ _ _ _ _ _ pre.1.visit _ b-is, refl)
+    (pre.1.directory, pre.1.visit.ready, has_data _ _ _ _ _ _ pre.1.visit _ b-is, four_parameters _ _ _ _ _ _ pre.1.visit _ b-is, refl)
 
 call-enum-known-o : (t : ℕ) → call-lts.Need-enum-known-o (call-claims t) (call_at t) call.Post
 call-enum-known-o t c = search rules
@@ -166,7 +166,7 @@ call-enter-requires t c κs =
     let read_here = at8.before.before.before.before.before.read in
     let pre = at8.before.before.before.before.before.before.before.before.before.requires in
     let b-is = sym read_here.ensures ∙ b.given.1 in
-    let d = data-given _ _ (sym o.given.1 ∙ gather-here.ensures.1) in
+    let d = data_given _ _ (sym o.given.1 ∙ gather-here.ensures.1) in
     let h = given-left _ _ _ _ _ _ pre.1.visit _ b-is _ _ _ d.1 in
     let q = pre.0 in
     (omega arith, record { directory = pre.1.directory; callable = callable _ _ _ _ _ _ pre.1.visit _ b-is _ _ _ _ d.1 (gather-here.ensures.2 _ _ d.1); calls = pre.1.calls })
@@ -191,8 +191,8 @@ call-returns-2 t c =
     let args = at16.before.before.before.args in
     let pre = at16.before.before.before.requires in
     let b-is = sym read_here.ensures ∙ b.given.1 in
-    let d = data-given _ _ (sym o.given.1 ∙ gather-here.ensures.1) in
-    c.before.enter.ensures args.lo.now ∙ call-done _ _ _ _ _ _ pre.1.visit _ b-is _ _ _ _ _ d.1 (gather-here.ensures.2 _ _ d.1)
+    let d = data_given _ _ (sym o.given.1 ∙ gather-here.ensures.1) in
+    c.before.enter.ensures args.lo.now ∙ call_done _ _ _ _ _ _ pre.1.visit _ b-is _ _ _ _ _ d.1 (gather-here.ensures.2 _ _ d.1)
 
 call-same-length-2 : (t : ℕ) → call-lts.Need-same-length-2 (call-claims t) (call_at t) call.Post
 call-same-length-2 t c = search rules
@@ -207,13 +207,13 @@ call-returns-4 : (t : ℕ) → call-lts.Need-returns-4 (call-claims t) (call_at 
 call-returns-4 t c = called-stuck _ _ _ _ _ _ c.before.before.before.before.before.before.before.before.before.before.before.before.before.before.requires.1.visit _ (sym c.before.before.before.before.before.before.before.before.before.before.read.ensures ∙ c.before.before.before.before.before.before.before.before.b.given.1) _ _ (sym c.enum-told2.given.1 ∙ c.before.before.gather.ensures.1)
 
 enter-returns : (t : ℕ) → enter-lts.Need-returns (enter-claims t) (enter-at t) enter.Post
-enter-returns t c = λ lo. too-deep _ _ _ _ _ _ _ lo c.if1.true
+enter-returns t c = λ lo. too_deep_lem _ _ _ _ _ _ _ lo c.if1.true
 
 enter-inner-requires : (t : ℕ) → enter-lts.Need-inner-requires (enter-claims t) (enter-at t) enter.Post
 enter-inner-requires t c κs = c.before.before.requires.1.callable.running.whole
 
 enter-fresh-locals-requires : (t : ℕ) → enter-lts.Need-fresh-locals-requires (enter-claims t) (enter-at t) enter.Post
-enter-fresh-locals-requires t c κs = (c.before.before.before.requires.1.directory, few-parameters _ _ _ _ _ _ c.before.before.before.requires.1.callable, few-variables _ _ _ _ _ _ c.before.before.before.requires.1.callable)
+enter-fresh-locals-requires t c κs = (c.before.before.before.requires.1.directory, few-parameters _ _ _ _ _ _ c.before.before.before.requires.1.callable, few_variables _ _ _ _ _ _ c.before.before.before.requires.1.callable)
 
 enter-add-run : (t : ℕ) → enter-lts.Need-overflow-add-run (enter-claims t) (enter-at t) enter.Post
 enter-add-run t c = let h = c.before.before.before.before.before.before.before.requires.1.calls in record { fits = omega arith }
@@ -251,15 +251,15 @@ enter-returns-2 t c =
     let if1 = at8.if1 in
     let args = at8.before.before.args in
     let pre = at8.before.before.requires in
-    let inner-context-here = inner-context _ _ _ _ _ _ pre.1.callable _ inner-here.ensures in
-    let inBody-here = in_body (contextAt args.sheet.now args.context.now) args.b in
-    λ lo. body-runs _ _ _ _ _ _ _ lo (let h = if1.false in omega arith) (fresh-there _ _ _ _ _ _ pre.1.callable) _ _ _
+    let inner-context-here = inner_context _ _ _ _ _ _ pre.1.callable _ inner-here.ensures in
+    let inBody-here = in_body (context_at args.sheet.now args.context.now) args.b in
+    λ lo. body-runs _ _ _ _ _ _ _ lo (let h = if1.false in omega arith) (fresh_there _ _ _ _ _ _ pre.1.callable) _ _ _
     (c.before.run.ensures.1
     ∙ ap (λ y. run_of args.sheet.now (args.depth + 1) y (root args.b) args.left args.st.now fresh-locals.result) inner-context-here
     ∙ ap (λ lo. run_of args.sheet.now (args.depth + 1) inBody-here (root args.b) args.left args.st.now lo) fresh-locals.ensures)
 
 abbrev repeat-Inv-loop : repeat-lts.invariant-loop
-repeat-Inv-loop sheet directory context st₀ lo₀ depth n r left l₀ st lo l = Visit sheet context st lo n r loop × (run_of sheet depth (contextAt sheet context) n (suc left) st₀ lo₀ ≡ run_of sheet depth (contextAt sheet context) n (suc l) st lo) × (l ≤ left) × (length st ≡ length st₀) × (length lo ≡ length lo₀)
+repeat-Inv-loop sheet directory context st₀ lo₀ depth n r left l₀ st lo l = Visit sheet context st lo n r loop × (run_of sheet depth (context_at sheet context) n (suc left) st₀ lo₀ ≡ run_of sheet depth (context_at sheet context) n (suc l) st lo) × (l ≤ left) × (length st ≡ length st₀) × (length lo ≡ length lo₀)
 
 abbrev repeat-μ-loop : repeat-lts.decreases-loop
 repeat-μ-loop sheet directory context st₀ lo₀ depth n r left l₀ st lo l = l
@@ -271,7 +271,7 @@ repeat-cast-eval : (t : ℕ) → repeat-lts.Need-overflow-cast-eval (repeat-clai
 repeat-cast-eval t c = search rules
 
 repeat-eval-requires : (t : ℕ) → repeat-lts.Need-eval-requires (repeat-claims t) (repeat-at t) repeat.Post repeat-Inv-loop repeat-μ-loop
-repeat-eval-requires t c κs = (c.before.before.before.before.before.requires.1.directory, c.before.before.before.loop.invariant.0.ready, loop-operand _ _ _ _ c.before.before.before.loop.invariant.0.ready _ _ c.before.before.before.loop.invariant.0.there c.before.before.before.loop.invariant.0.statement c.before.before.before.loop.invariant.0.form)
+repeat-eval-requires t c κs = (c.before.before.before.before.before.requires.1.directory, c.before.before.before.loop.invariant.0.ready, loop_operand _ _ _ _ c.before.before.before.loop.invariant.0.ready _ _ c.before.before.before.loop.invariant.0.there c.before.before.before.loop.invariant.0.statement c.before.before.before.loop.invariant.0.form)
 
 repeat-enum-known-x : (t : ℕ) → repeat-lts.Need-enum-known-x (repeat-claims t) (repeat-at t) repeat.Post repeat-Inv-loop repeat-μ-loop
 repeat-enum-known-x t c = search rules
@@ -280,7 +280,7 @@ repeat-same-length : (t : ℕ) → repeat-lts.Need-same-length (repeat-claims t)
 repeat-same-length t c = search rules
 
 repeat-returns : (t : ℕ) → repeat-lts.Need-returns (repeat-claims t) (repeat-at t) repeat.Post repeat-Inv-loop repeat-μ-loop
-repeat-returns t c = (c.before.before.before.before.before.before.before.before.loop.invariant.0.ready.locals.sixteen, loop-ends _ _ _ _ _ _ c.before.before.before.before.before.before.before.before.loop.invariant.0 _ _ _ _ (sym c.before.before.x.given.1 ∙ c.before.before.before.before.eval.ensures) (is-zero (record { sfits = c.before.known-told.given.0.1 }) c.if1.true) ∙ sym c.before.before.before.before.before.before.before.before.loop.invariant.1)
+repeat-returns t c = (c.before.before.before.before.before.before.before.before.loop.invariant.0.ready.locals.sixteen, loop_ends _ _ _ _ _ _ c.before.before.before.before.before.before.before.before.loop.invariant.0 _ _ _ _ (sym c.before.before.x.given.1 ∙ c.before.before.before.before.eval.ensures) (is_zero_lem (record { sfits = c.before.known-told.given.0.1 }) c.if1.true) ∙ sym c.before.before.before.before.before.before.before.before.loop.invariant.1)
 
 repeat-cast-run : (t : ℕ) → repeat-lts.Need-overflow-cast-run (repeat-claims t) (repeat-at t) repeat.Post repeat-Inv-loop repeat-μ-loop
 repeat-cast-run t c = search rules
@@ -292,7 +292,7 @@ repeat-run-requires t c κs =
     let eval-here = c.before.before.before.before.before.before.before.eval in
     let loop-here = at8.before.before.before.loop in
     let pre = at8.before.before.before.before.before.requires in
-    let h = word-left _ _ _ _ _ _ _ _ (sym x.given.1 ∙ eval-here.ensures) in
+    let h = word_left _ _ _ _ _ _ _ _ (sym x.given.1 ∙ eval-here.ensures) in
     let q = pre.0 in
     let i = loop-here.invariant.2 in (
       omega arith,
@@ -320,15 +320,15 @@ repeat-returns-2 t c =
     let eval-here = at8.before.before.before.before.before.eval in
     let loop-here = at8.before.before.before.before.before.before.before.before.before.loop in
     let x-is = sym x.given.1 ∙ eval-here.ensures in
-    let with-ran-here = with-ran c.before.before.o.given.1 run-here.ensures.1 in
+    let with-ran-here = with_ran c.before.before.o.given.1 run-here.ensures.1 in
     let not-zero-here = not-zero (record { sfits = known-told.given.0.1 }) if1.false in
-    (run-here.ensures.0, turn-none _ _ _ _ _ _ loop-here.invariant.0 _ _ _ _ x-is not-zero-here _ _ _ with-ran-here c.if2.true ∙ sym loop-here.invariant.1)
+    (run-here.ensures.0, turn_none_lem _ _ _ _ _ _ loop-here.invariant.0 _ _ _ _ x-is not-zero-here _ _ _ with-ran-here c.if2.true ∙ sym loop-here.invariant.1)
 
 repeat-sub-l : (t : ℕ) → repeat-lts.Need-overflow-sub-l (repeat-claims t) (repeat-at t) repeat.Post repeat-Inv-loop repeat-μ-loop
 repeat-sub-l t c = search rules
 
 repeat-loop-less : (t : ℕ) → repeat-lts.Need-loop-smaller (repeat-claims t) (repeat-at t) repeat.Post repeat-Inv-loop repeat-μ-loop
-repeat-loop-less t c = let h = word-left _ _ _ _ _ _ _ _ (sym c.before.before.before.before.before.before.before.before.before.before.before.x.given.1 ∙ c.before.before.before.before.before.before.before.before.before.before.before.before.before.eval.ensures) in let k = done-left _ _ _ _ _ _ _ _ _ _ (with-ran c.before.before.o.given.1 c.before.before.before.before.before.run.ensures.1) in omega arith
+repeat-loop-less t c = let h = word_left _ _ _ _ _ _ _ _ (sym c.before.before.before.before.before.before.before.before.before.before.before.x.given.1 ∙ c.before.before.before.before.before.before.before.before.before.before.before.before.before.eval.ensures) in let k = done_left _ _ _ _ _ _ _ _ _ _ (with_ran c.before.before.o.given.1 c.before.before.before.before.before.run.ensures.1) in omega arith
 
 repeat-loop-again : (t : ℕ) → repeat-lts.Need-loop-preserved (repeat-claims t) (repeat-at t) repeat.Post repeat-Inv-loop repeat-μ-loop
 repeat-loop-again t c =
@@ -344,13 +344,13 @@ repeat-loop-again t c =
     let loop-here = at16.before.loop in
     let pre = at16.before.before.before.requires in
     let x-is = sym x.given.1 ∙ eval-here.ensures in
-    let with-ran-here = with-ran o.given.1 run-here.ensures.1 in
+    let with-ran-here = with_ran o.given.1 run-here.ensures.1 in
     let not-zero-here = not-zero (record { sfits = known-told.given.0.1 }) if1.false in
-    let h = word-left _ _ _ _ _ _ _ _ x-is in
-    let k = done-left _ _ _ _ _ _ _ _ _ _ with-ran-here in
+    let h = word_left _ _ _ _ _ _ _ _ x-is in
+    let k = done_left _ _ _ _ _ _ _ _ _ _ with-ran-here in
     let i = loop-here.invariant.2 in (
-      turn-visit _ _ _ _ _ _ loop-here.invariant.0 _ _ _ _ x-is not-zero-here _ _ _ with-ran-here,
-      loop-here.invariant.1 ∙ turn-again _ _ _ _ _ _ loop-here.invariant.0 _ _ _ _ x-is not-zero-here _ _ _ with-ran-here c.if2.false,
+      turn_visit _ _ _ _ _ _ loop-here.invariant.0 _ _ _ _ x-is not-zero-here _ _ _ with-ran-here,
+      loop-here.invariant.1 ∙ turn_again _ _ _ _ _ _ loop-here.invariant.0 _ _ _ _ x-is not-zero-here _ _ _ with-ran-here c.if2.false,
       omega arith,
       st.given ∙ loop-here.invariant.3,
       run-here.ensures.0 ∙ sym pre.1.visit.ready.locals.sixteen,
@@ -374,7 +374,7 @@ repeat-returns-3 t c =
     let x-is = sym x.given.1 ∙ eval-here.ensures in
     let not-zero-here = not-zero (record { sfits = known-told.given.0.1 }) if1.false in (
       run-here.ensures.0,
-      turn-refused _ _ _ _ _ _ loop-here.invariant.0 _ _ _ _ x-is not-zero-here _ _ _ _ (with-ran c.before.o2.given.1 run-here.ensures.1)
+      turn_refused _ _ _ _ _ _ loop-here.invariant.0 _ _ _ _ x-is not-zero-here _ _ _ _ (with_ran c.before.o2.given.1 run-here.ensures.1)
           ∙ sym loop-here.invariant.1,
     )
 
@@ -396,7 +396,7 @@ repeat-returns-4 t c =
     let x-is = sym x.given.1 ∙ eval-here.ensures in
     let not-zero-here = not-zero (record { sfits = known-told.given.0.1 }) if1.false in (
       run-here.ensures.0,
-      turn-stuck _ _ _ _ _ _ loop-here.invariant.0 _ _ _ _ x-is not-zero-here _ _ (with-ran c.enum_told.given.1 run-here.ensures.1)
+      turn_stuck _ _ _ _ _ _ loop-here.invariant.0 _ _ _ _ x-is not-zero-here _ _ (with_ran c.enum_told.given.1 run-here.ensures.1)
           ∙ sym loop-here.invariant.1,
     )
 
@@ -445,7 +445,7 @@ run-external-send-requires t c κs =
     let read_here = c.before.before.before.before.before.before.read in
     let pre = c.before.before.before.before.before.before.before.before.before.requires in
     let r-is = sym read_here.ensures ∙ r.given.1 in
-    (pre.1.directory, visit _ _ _ _ pre.1.ready _ _ r-is pre.1.statement externalSend (form-external _ c.before.before.match2.keys3))
+    (pre.1.directory, visit _ _ _ _ pre.1.ready _ _ r-is pre.1.statement external_send (form-external _ c.before.before.match2.keys3))
 
 run-internal-send-requires : (t : ℕ) → run-lts.Need-internal-send-requires (run-claims t) (run_at t) run.Post
 run-internal-send-requires t c κs =
@@ -453,7 +453,7 @@ run-internal-send-requires t c κs =
     let read_here = c.before.before.before.before.before.before.read in
     let pre = c.before.before.before.before.before.before.before.before.before.requires in
     let r-is = sym read_here.ensures ∙ r.given.1 in
-    (pre.1.directory, visit _ _ _ _ pre.1.ready _ _ r-is pre.1.statement internalSend (form-internal _ c.before.before.match2.keys4))
+    (pre.1.directory, visit _ _ _ _ pre.1.ready _ _ r-is pre.1.statement internal_send (form-internal _ c.before.before.match2.keys4))
 
 run-call-requires : (t : ℕ) → run-lts.Need-call-requires (run-claims t) (run_at t) run.Post
 run-call-requires t c κs =
@@ -475,7 +475,7 @@ run-eval-requires t c κs =
     let r = c.before.before.before.before.before.r in
     let read_here = c.before.before.before.before.before.before.before.read in
     let pre = c.before.before.before.before.before.before.before.before.before.before.requires in
-    (pre.1.directory, pre.1.ready, choice-operand _ _ _ _ pre.1.ready _ _ (sym read_here.ensures ∙ r.given.1) pre.1.statement (form-choice _ match2.keys6))
+    (pre.1.directory, pre.1.ready, choice_operand _ _ _ _ pre.1.ready _ _ (sym read_here.ensures ∙ r.given.1) pre.1.statement (form-choice _ match2.keys6))
 
 run-enum-known-x : (t : ℕ) → run-lts.Need-enum-known-x (run-claims t) (run_at t) run.Post
 run-enum-known-x t c = search rules
@@ -494,10 +494,10 @@ run-run-requires t c κs =
     let if1 = at8.before.before.before.before.before.before.before.before.if1 in
     let pre = at8.before.before.before.before.before.before.before.before.before.before.requires in
     let r-is = sym read_here.ensures ∙ r.given.1 in
-    let k = word-left _ _ _ _ _ _ _ _ (sym x.given.1 ∙ eval-here.ensures) in
+    let k = word_left _ _ _ _ _ _ _ _ (sym x.given.1 ∙ eval-here.ensures) in
     let q = pre.0 in
     let h = if1.false in
-    (omega arith, record { directory = pre.1.directory; ready = pre.1.ready; statement = choice-else _ _ _ _ pre.1.ready _ _ r-is pre.1.statement (form-choice _ match2.keys6); calls = pre.1.calls })
+    (omega arith, record { directory = pre.1.directory; ready = pre.1.ready; statement = choice_else _ _ _ _ pre.1.ready _ _ r-is pre.1.statement (form-choice _ match2.keys6); calls = pre.1.calls })
 
 run-cast-run-2 : (t : ℕ) → run-lts.Need-overflow-cast-run-2 (run-claims t) (run_at t) run.Post
 run-cast-run-2 t c = search rules
@@ -513,10 +513,10 @@ run-run-requires-2 t c κs =
     let if1 = at8.before.before.before.before.before.before.before.before.if1 in
     let pre = at8.before.before.before.before.before.before.before.before.before.before.requires in
     let r-is = sym read_here.ensures ∙ r.given.1 in
-    let k = word-left _ _ _ _ _ _ _ _ (sym x.given.1 ∙ eval-here.ensures) in
+    let k = word_left _ _ _ _ _ _ _ _ (sym x.given.1 ∙ eval-here.ensures) in
     let q = pre.0 in
     let h = if1.false in
-    (omega arith, record { directory = pre.1.directory; ready = pre.1.ready; statement = choice-then _ _ _ _ pre.1.ready _ _ r-is pre.1.statement (form-choice _ match2.keys6); calls = pre.1.calls })
+    (omega arith, record { directory = pre.1.directory; ready = pre.1.ready; statement = choice_then _ _ _ _ pre.1.ready _ _ r-is pre.1.statement (form-choice _ match2.keys6); calls = pre.1.calls })
 
 run-enum-known-x-2 : (t : ℕ) → run-lts.Need-enum-known-x-2 (run-claims t) (run_at t) run.Post
 run-enum-known-x-2 t c = search rules
@@ -569,15 +569,15 @@ run-run-requires-4 t c κs =
     let form-sequence-here = form-sequence _ match2.keys8 in
     let r-is = sym read_here.ensures ∙ r.given.1 in
     let sequence-first-here = sequence-first _ _ _ _ pre.1.ready _ _ r-is pre.1.statement form-sequence-here in
-    let with-ran-here = with-ran o.given.1 run3.ensures.1 in
-    let k = done-left _ _ _ _ _ _ _ _ _ _ with-ran-here in
+    let with-ran-here = with_ran o.given.1 run3.ensures.1 in
+    let k = done_left _ _ _ _ _ _ _ _ _ _ with-ran-here in
     let q = pre.0 in
     let h = if1.false in (
       omega arith,
       record {
         directory = pre.1.directory;
-        ready = ready-after _ _ _ _ pre.1.ready _ _ _ sequence-first-here _ _ _ (sym with-ran-here);
-        statement = sequence-second _ _ _ _ pre.1.ready _ _ r-is pre.1.statement form-sequence-here;
+        ready = ready_after_lem _ _ _ _ pre.1.ready _ _ _ sequence-first-here _ _ _ (sym with-ran-here);
+        statement = sequence_second _ _ _ _ pre.1.ready _ _ r-is pre.1.statement form-sequence-here;
         calls = pre.1.calls;
       },
     )
@@ -594,7 +594,7 @@ run-assign-element-requires t c κs =
     let read_here = c.before.before.before.before.before.before.read in
     let pre = c.before.before.before.before.before.before.before.before.before.requires in
     let r-is = sym read_here.ensures ∙ r.given.1 in
-    (pre.1.directory, visit _ _ _ _ pre.1.ready _ _ r-is pre.1.statement assignElement (form-assign-element _ c.before.before.match2.keys9))
+    (pre.1.directory, visit _ _ _ _ pre.1.ready _ _ r-is pre.1.statement assign_element (form-assign-element _ c.before.before.match2.keys9))
 
 run-arming-requires : (t : ℕ) → run-lts.Need-arming-requires (run-claims t) (run_at t) run.Post
 run-arming-requires t c κs =
@@ -603,7 +603,7 @@ run-arming-requires t c κs =
     let r = c.before.before.before.before.before.before.r in
     let read_here = c.before.before.before.before.before.before.before.before.read in
     let pre = c.before.before.before.before.before.before.before.before.before.before.before.requires in
-    let past-four-here = past-four if3.false match2.rest.0.0.0.0.0.0.0.0.1 match2.rest.0.0.0.0.0.0.0.1
+    let past-four-here = past_four if3.false match2.rest.0.0.0.0.0.0.0.0.1 match2.rest.0.0.0.0.0.0.0.1
     match2.rest.0.0.0.0.0.0.1 match2.rest.0.0.0.0.0.1 in
     let form-arm-here = form-arm _ past-four-here (below_next c.before.before.if4.true) in
     (pre.1.directory, visit _ _ _ _ pre.1.ready _ _ (sym read_here.ensures ∙ r.given.1) pre.1.statement arm form-arm-here)
@@ -613,8 +613,8 @@ run-clock-requires t c κs =
     let r = c.before.before.before.before.before.before.r in
     let read_here = c.before.before.before.before.before.before.before.before.read in
     let pre = c.before.before.before.before.before.before.before.before.before.before.before.requires in
-    let form-clockAct-here = form-clockAct _ c.before.before.if4.false (below_next c.before.if5.true) in
-    act-lies _ _ _ _ _ _ (visit _ _ _ _ pre.1.ready _ _ (sym read_here.ensures ∙ r.given.1) pre.1.statement clockAct form-clockAct-here)
+    let form-clockAct-here = form-clock_act _ c.before.before.if4.false (below_next c.before.if5.true) in
+    act_lies _ _ _ _ _ _ (visit _ _ _ _ pre.1.ready _ _ (sym read_here.ensures ∙ r.given.1) pre.1.statement clock_act form-clockAct-here)
 
 run-returns-3 : (t : ℕ) → run-lts.Need-returns-3 (run-claims t) (run_at t) run.Post
 run-returns-3 t c = (c.before.before.before.before.before.before.before.requires.1.ready.locals.sixteen, step_back _ _ _ _ _ _ _ c.before.before.before.before.before.if1.false (skips _ _ _ _ c.before.before.before.before.before.before.before.requires.1.ready _ _ (sym c.before.before.before.before.read.ensures ∙ c.before.before.r.given.1) c.before.before.before.before.before.before.before.requires.1.statement c.match2.keys1 _ _))
@@ -662,8 +662,8 @@ run-returns-8 t c =
     let r-is = sym read_here.ensures ∙ r.given.1 in
     let visit-here = visit _ _ _ _ pre.1.ready _ _ r-is pre.1.statement choice (form-choice _ match2.keys6) in
     let x-is = sym x.given.1 ∙ eval-here.ensures in
-    let is-zero-here = is-zero (record { sfits = known-told2.given.0.1 }) if2.true in
-    (c.before.run.ensures.0, step_back _ _ _ _ _ _ _ if1.false (c.before.run.ensures.1 ∙ choice-no _ _ _ _ _ _ visit-here _ _ _ _ x-is is-zero-here))
+    let is-zero-here = is_zero_lem (record { sfits = known-told2.given.0.1 }) if2.true in
+    (c.before.run.ensures.0, step_back _ _ _ _ _ _ _ if1.false (c.before.run.ensures.1 ∙ choice_no _ _ _ _ _ _ visit-here _ _ _ _ x-is is-zero-here))
 
 run-same-length-6 : (t : ℕ) → run-lts.Need-same-length-6 (run-claims t) (run_at t) run.Post
 run-same-length-6 t c = search rules
@@ -686,7 +686,7 @@ run-returns-9 t c =
     let x-is = sym x.given.1 ∙ eval-here.ensures in
     let not-zero-here = not-zero (record { sfits = known-told2.given.0.1 }) if2.false in (
       c.before.run2.ensures.0,
-      step_back _ _ _ _ _ _ _ if1.false (c.before.run2.ensures.1 ∙ choice-yes _ _ _ _ _ _ visit-here _ _ _ _ x-is not-zero-here),
+      step_back _ _ _ _ _ _ _ if1.false (c.before.run2.ensures.1 ∙ choice_yes _ _ _ _ _ _ visit-here _ _ _ _ x-is not-zero-here),
     )
 
 run-same-length-7 : (t : ℕ) → run-lts.Need-same-length-7 (run-claims t) (run_at t) run.Post
@@ -746,7 +746,7 @@ run-returns-13 t c =
     let visit-here = visit _ _ _ _ pre.1.ready _ _ r-is pre.1.statement sequence (form-sequence _ match2.keys8) in (
       c.before.run4.ensures.0,
       step_back _ _ _ _ _ _ _ if1.false
-          (c.before.run4.ensures.1 ∙ first_done _ _ _ _ _ _ visit-here _ _ _ _ _ (with-ran o.given.1 run3.ensures.1)),
+          (c.before.run4.ensures.1 ∙ first_done _ _ _ _ _ _ visit-here _ _ _ _ _ (with_ran o.given.1 run3.ensures.1)),
     )
 
 run-same-length-11 : (t : ℕ) → run-lts.Need-same-length-11 (run-claims t) (run_at t) run.Post
@@ -763,7 +763,7 @@ run-returns-14 t c =
     let pre = at8.before.before.before.before.before.before.before.requires in
     let r-is = sym read_here.ensures ∙ r.given.1 in
     let visit-here = visit _ _ _ _ pre.1.ready _ _ r-is pre.1.statement sequence (form-sequence _ match2.keys8) in
-    let first-refused-here = first-refused _ _ _ _ _ _ visit-here _ _ _ _ _ _ (with-ran c.before.o2.given.1 run3.ensures.1) in
+    let first-refused-here = first-refused _ _ _ _ _ _ visit-here _ _ _ _ _ _ (with_ran c.before.o2.given.1 run3.ensures.1) in
     (run3.ensures.0, step_back _ _ _ _ _ _ _ if1.false first-refused-here)
 
 run-same-length-12 : (t : ℕ) → run-lts.Need-same-length-12 (run-claims t) (run_at t) run.Post
@@ -780,7 +780,7 @@ run-returns-15 t c =
     let pre = at8.before.before.before.before.before.before.requires in
     let r-is = sym read_here.ensures ∙ r.given.1 in
     let visit-here = visit _ _ _ _ pre.1.ready _ _ r-is pre.1.statement sequence (form-sequence _ match2.keys8) in
-    let first-stuck-here = first-stuck _ _ _ _ _ _ visit-here _ _ _ _ (with-ran c.enum-told3.given.1 run3.ensures.1) in
+    let first-stuck-here = first-stuck _ _ _ _ _ _ visit-here _ _ _ _ (with_ran c.enum-told3.given.1 run3.ensures.1) in
     (run3.ensures.0, step_back _ _ _ _ _ _ _ if1.false first-stuck-here)
 
 run-same-length-13 : (t : ℕ) → run-lts.Need-same-length-13 (run-claims t) (run_at t) run.Post
@@ -809,7 +809,7 @@ run-returns-18 t c =
     let args = at8.before.before.before.before.before.args in
     let pre = at8.before.before.before.before.before.requires in
     let r-is = sym read_here.ensures ∙ r.given.1 in
-    let visit-here = visit _ _ _ _ pre.1.ready _ _ r-is pre.1.statement clockAct (form-clockAct _ if4.false (below_next if5.true)) in
+    let visit-here = visit _ _ _ _ pre.1.ready _ _ r-is pre.1.statement clock_act (form-clock_act _ if4.false (below_next if5.true)) in
     (pre.1.ready.locals.sixteen, step_back _ _ _ _ _ _ _ if1.false (c.before.clock.ensures _ _ _ args.depth visit-here))
 
 run-returns-19 : (t : ℕ) → run-lts.Need-returns-19 (run-claims t) (run_at t) run.Post
@@ -827,7 +827,7 @@ run-returns-20 t c =
       step_back _ _ _ _ _ _ _ if1.false
           (other_stuck _ _ _ _ pre.1.ready _ _ r-is _ _
           (λ p q.
-          let a = past-four c.if5.false match2.rest.0.0.0.0.1 match2.rest.0.0.0.1 match2.rest.0.0.1 match2.rest.0.1 in
+          let a = past_four c.if5.false match2.rest.0.0.0.0.1 match2.rest.0.0.0.1 match2.rest.0.0.1 match2.rest.0.1 in
           let f = match2.rest.1 in
           omega arith)),
     )

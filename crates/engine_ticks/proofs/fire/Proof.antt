@@ -7,7 +7,7 @@ use lib.IntN.{ℤ, pos, negsuc}
 use borrow.Author.Rules.{rules}
 use Rattle.machine.specs.State.{word_of, appended}
 use Rattle.engine_rows.proofs.Laws.{given}
-use Rattle.engine_ticks.proofs.Laws.{laid, number-back}
+use Rattle.engine_ticks.proofs.Laws.{laid, number_back_lem}
 use Rattle.engine_ticks.proofs.fire.Statement.{statement}
 use Rattle.engine_ticks.proofs.fire.Tie as tie
 
@@ -94,7 +94,7 @@ returns c =
       d2 = get_or st (at + 6) (pos 0);
       d3 = get_or st (at + 7) (pos 0);
     }))
-    (sym (number-back (get_or st (at + 3) (pos 0)) pre.0.name))
+    (sym (number_back_lem (get_or st (at + 3) (pos 0)) pre.0.name))
     ∙ (rw (
       given (pos e) (omega arith),
       given (get_or st (at + 3) (pos 0)) t10.given,

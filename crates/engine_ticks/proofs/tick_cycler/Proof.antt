@@ -7,8 +7,8 @@ use borrow.Author.Rules.{rules}
 use Rattle.machine.specs.State.{word_of}
 use Rattle.machine.specs.State.{on}
 use Rattle.engine_rows.proofs.Laws.{given}
-use Rattle.engine_queue.specs.Changed.{changedTo}
-use Rattle.engine_ticks.proofs.Laws.{last-int, one_less, bits-zero, bits-some, then-refused, then-done, goes_on, fired-word, put_two, cycler-goes, cycler-fires}
+use Rattle.engine_queue.specs.Changed.{changed_to}
+use Rattle.engine_ticks.proofs.Laws.{last-int, one_less, bits_zero, bits_some, then_refused, then_done, goes_on_lem, fired_word, put_two, cycler_goes, cycler_fires}
 use Rattle.engine_ticks.proofs.tick_cycler.Statement.{statement}
 use Rattle.engine_ticks.proofs.tick_cycler.Tie as tie
 
@@ -38,8 +38,8 @@ same_length : tie.Need-same-length
 same_length c = search rules
 
 returns : tie.Need-returns
-unfolding changedTo word_of
-returns c = λ s e n. let w = get_or c.before.before.args.st.now (c.before.before.args.at + 1) (pos 0) in cycler-goes s _ _ _ (bits-some w c.before.value.given c.if1.true) ∙ ap (λ (z : ℤ). on (set c.before.before.args.st.now (c.before.before.args.at + 1) z)) (sym (one_less w c.before.value.given c.before.before.requires.0.value))
+unfolding changed_to word_of
+returns c = λ s e n. let w = get_or c.before.before.args.st.now (c.before.before.args.at + 1) (pos 0) in cycler_goes s _ _ _ (bits_some w c.before.value.given c.if1.true) ∙ ap (λ (z : ℤ). on (set c.before.before.args.st.now (c.before.before.args.at + 1) z)) (sym (one_less w c.before.value.given c.before.before.requires.0.value))
 
 add-period : tie.Need-overflow-add-period
 add-period c = search rules
@@ -62,7 +62,7 @@ same-length-2 c = search rules
 
 returns-2 : tie.Need-returns-2
 unfolding word_of
-returns-2 c = λ s e n. cycler-fires s _ _ _ n (bits-zero (get_or c.before.before.before.before.before.before.before.args.st.now (c.before.before.before.before.before.before.before.args.at + 1) (pos 0)) c.before.before.before.before.before.before.value.given c.before.before.before.before.before.if1.false) ∙ then-refused _ _ _ _ _ (c.before.before.fire.ensures s e) c.if2.true
+returns-2 c = λ s e n. cycler_fires s _ _ _ n (bits_zero (get_or c.before.before.before.before.before.before.before.args.st.now (c.before.before.before.before.before.before.before.args.at + 1) (pos 0)) c.before.before.before.before.before.before.value.given c.before.before.before.before.before.if1.false) ∙ then_refused _ _ _ _ _ (c.before.before.fire.ensures s e) c.if2.true
 
 add-set-word : tie.Need-overflow-add-set-word
 add-set-word c = search rules
@@ -74,12 +74,12 @@ same-length-3 : tie.Need-same-length-3
 same-length-3 c = search rules
 
 returns-3 : tie.Need-returns-3
-unfolding changedTo word_of
+unfolding changed_to word_of
 returns-3 c = λ s e n.
     let w = get_or c.before.before.before.before.before.before.before.before.before.before.args.st.now (c.before.before.before.before.before.before.before.before.before.before.args.at + 2) (pos 0) in
-    let f = fired-word s _ _ _ e c.before.before.before.before.before.before.before.before.before.before.requires.0 _ (goes_on _ _ _ (c.before.before.before.before.before.fire.ensures s e) c.before.before.before.if2.false) in
-    cycler-fires s _ _ _ n (bits-zero (get_or c.before.before.before.before.before.before.before.before.before.before.args.st.now (c.before.before.before.before.before.before.before.before.before.before.args.at + 1) (pos 0)) c.before.before.before.before.before.before.before.before.before.value.given c.before.before.before.before.before.before.before.before.if1.false)
-    ∙ then-done _ _ _ _ (c.before.before.before.before.before.fire.ensures s e) c.before.before.before.if2.false
+    let f = fired_word s _ _ _ e c.before.before.before.before.before.before.before.before.before.before.requires.0 _ (goes_on_lem _ _ _ (c.before.before.before.before.before.fire.ensures s e) c.before.before.before.if2.false) in
+    cycler_fires s _ _ _ n (bits_zero (get_or c.before.before.before.before.before.before.before.before.before.before.args.st.now (c.before.before.before.before.before.before.before.before.before.before.args.at + 1) (pos 0)) c.before.before.before.before.before.before.before.before.before.value.given c.before.before.before.before.before.before.before.before.if1.false)
+    ∙ then_done _ _ _ _ (c.before.before.before.before.before.fire.ensures s e) c.before.before.before.if2.false
     ∙ ap on (put_two _ _ (w -ℤ pos 1) (let l = c.before.before.before.before.before.before.before.before.before.before.requires.0.inside in let m = f.1 in omega arith) f.0)
     ∙ ap (λ (z : ℤ). on (set c.before.before.before.before.before.fire.new.0 (c.before.before.before.before.before.before.before.before.before.before.args.at + 1) z)) (sym (one_less w c.before.before.before.before.before.before.before.period.given c.before.before.before.before.before.before.before.before.before.before.requires.0.period))
     ∙ ap on (sym c.before.set_word.ensures)

@@ -1,6 +1,6 @@
 use mathlib.Core.Path.{sym, ◌∙◌}
 use borrow.Author.Rules.{rules}
-use Rattle.sheet.proofs.All.{first-fails, first_holds}
+use Rattle.sheet.proofs.All.{first_fails_lem, first_holds}
 use Rattle.sheet_types.proofs.Laws.{no, so}
 use Rattle.engine_valid_cells.proofs.Laws.{stopped, runs}
 use Rattle.engine_valid_cells.proofs.clock_cell.Statement.{statement}
@@ -19,7 +19,7 @@ below-at-requires : tie.Need-below-at-requires
 below-at-requires c κs = search rules
 
 returns-2 : tie.Need-returns-2
-returns-2 c e p = first-fails _ _ (no c.before.below_at.ensures c.if2.true) ∙ runs _ _ _ _ _ (sym c.before.before.before.zero-at.ensures ∙ c.before.before.if1.false)
+returns-2 c e p = first_fails_lem _ _ (no c.before.below_at.ensures c.if2.true) ∙ runs _ _ _ _ _ (sym c.before.before.before.zero-at.ensures ∙ c.before.before.if1.false)
 
 running-clock-requires : tie.Need-running-clock-requires
 running-clock-requires c κs = search rules

@@ -7,10 +7,10 @@ use lib.IntN.{ℤ}
 use borrow.Author.Tests.{not-true, not-false}
 use borrow.Author.Rules.{rules}
 use Rattle.sheet.specs.All.{all_below}
-use Rattle.sheet.proofs.All.{all_more, loop-fails, loop-ends}
+use Rattle.sheet.proofs.All.{all_more, loop_fails, loop_ends}
 use Rattle.machine.specs.Values.{is_zero}
 use Rattle.machine.specs.State.{word_of}
-use Rattle.machine.specs.Valid.{zeroWords}
+use Rattle.machine.specs.Valid.{zero_words}
 use Rattle.engine_valid_cells.proofs.Laws.{none_left}
 use Rattle.engine_valid_cells.proofs.zero_words.Statement.{statement}
 use Rattle.engine_valid_cells.proofs.zero_words.Tie as tie
@@ -44,8 +44,8 @@ zero-at-requires : tie.Need-zero-at-requires invariant-loop decreases-loop
 zero-at-requires c κs = search rules
 
 returns-2 : tie.Need-returns-2 invariant-loop decreases-loop
-unfolding zeroWords
-returns-2 c = loop-fails _ _ _ _ refl c.before.before.loop-test.true (sym c.before.zero-at.ensures ∙ not-true _ c.if2.true)
+unfolding zero_words
+returns-2 c = loop_fails _ _ _ _ refl c.before.before.loop-test.true (sym c.before.zero-at.ensures ∙ not-true _ c.if2.true)
 
 add-k : tie.Need-overflow-add-k invariant-loop decreases-loop
 add-k c = search rules
@@ -57,8 +57,8 @@ loop-again : tie.Need-loop-preserved invariant-loop decreases-loop
 loop-again c = (omega arith, all_more c.before.before.before.loop.k _ c.before.before.before.loop.invariant.1 (sym c.before.zero-at.ensures ∙ not-false _ c.if2.false))
 
 returns-3 : tie.Need-returns-3 invariant-loop decreases-loop
-unfolding zeroWords
-returns-3 c = loop-ends _ _ _ _ refl c.before.loop.invariant.0 c.loop-test.false c.before.loop.invariant.1
+unfolding zero_words
+returns-3 c = loop_ends _ _ _ _ refl c.before.loop.invariant.0 c.loop-test.false c.before.loop.invariant.1
 
 pub zero-words-spec : {M : Type 1} → statement M
 zero-words-spec =

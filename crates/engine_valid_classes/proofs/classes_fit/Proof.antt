@@ -2,7 +2,7 @@ use Prim.Native.Nat.{◌-◌, ◌≤◌}
 use mathlib.Core.Path.{refl}
 use native.Mathlib.Omega.{arith}
 use borrow.Author.Rules.{rules}
-use Rattle.engine_valid_classes.proofs.Laws.{Counted, counted_none, counted-more, few-fit, counted-fit, counted-full, number_is, number-below}
+use Rattle.engine_valid_classes.proofs.Laws.{Counted, counted_none, counted_more_lem, few_fit, counted_fit, counted_full, number_is, number-below}
 use Rattle.engine_valid_classes.proofs.classes_fit.Statement.{statement}
 use Rattle.engine_valid_classes.proofs.classes_fit.Tie as tie
 
@@ -13,7 +13,7 @@ abbrev decreases-loop : tie.decreases-loop
 decreases-loop st n counts₀ j₀ counts j = n - j
 
 returns : tie.Need-returns invariant-loop decreases-loop
-returns c = λ s e. few-fit _ _ c.before.requires.1 s e c.before.requires.0.number c.if1.true
+returns c = λ s e. few_fit _ _ c.before.requires.1 s e c.before.requires.0.number c.if1.true
 
 loop-holds : tie.Need-loop-init invariant-loop decreases-loop
 loop-holds c = (omega arith, counted_none _)
@@ -40,7 +40,7 @@ returns-2 c s e =
     let start = c.before.before.before.before.before.before in
     let turn = c.before.before.before.before.loop in
     let k = number_is _ _ _ _ c.before.before.place_at.ensures c.before.class-number.ensures in
-    counted-full _ _ start.requires.1 s e start.requires.0.number turn.j turn.counts c.before.before.before.loop-test.true turn.invariant.1 _ k c.if2.true
+    counted_full _ _ start.requires.1 s e start.requires.0.number turn.j turn.counts c.before.before.before.loop-test.true turn.invariant.1 _ k c.if2.true
 
 add-counts : tie.Need-overflow-add-counts invariant-loop decreases-loop
 add-counts c =
@@ -68,13 +68,13 @@ loop-again c =
     let turn = c.before.before.before.before.loop in
     let l = c.before.before.before.loop-test.true in
     let k = number_is _ _ _ _ c.before.before.place_at.ensures c.before.class-number.ensures in
-    (omega arith, counted-more _ _ start.requires.1 turn.j turn.counts l turn.invariant.1 _ _ k refl c.if2.false)
+    (omega arith, counted_more_lem _ _ start.requires.1 turn.j turn.counts l turn.invariant.1 _ _ k refl c.if2.false)
 
 returns-3 : tie.Need-returns-3 invariant-loop decreases-loop
 returns-3 c s e =
     let start = c.before.before.before in
     let turn = c.before.loop in
-    counted-fit _ _ start.requires.1 s e start.requires.0.number turn.j turn.counts turn.invariant.0 c.loop-test.false turn.invariant.1
+    counted_fit _ _ start.requires.1 s e start.requires.0.number turn.j turn.counts turn.invariant.0 c.loop-test.false turn.invariant.1
 
 pub classes-fit-spec : {M : Type 1} → statement M
 classes-fit-spec =

@@ -4,17 +4,17 @@ use mathlib.Core.Bool.{true}
 use Prim.Native.Nat.{ℕ, ◌+◌, ◌*◌, ◌-◌, ◌<◌, ◌≤◌}
 use borrow.Author.Rules.{rules}
 use Rattle.sheet.specs.All.{all_below}
-use Rattle.sheet.proofs.All.{all_more, loop-fails, loop-ends}
-use Rattle.sheet_rules.specs.Fields.{externalsOf}
+use Rattle.sheet.proofs.All.{all_more, loop_fails, loop_ends}
+use Rattle.sheet_rules.specs.Fields.{externals_of}
 use Rattle.sheet_types.proofs.Laws.{no, so}
-use Rattle.machine.specs.Valid.{variableFits}
-use Rattle.machine_states.proofs.Elements.{element-from}
-use Rattle.engine_valid_elements.proofs.Laws.{element-is, row_inside, cell-rises, cells_in, variable-judged}
+use Rattle.machine.specs.Valid.{variable_fits}
+use Rattle.machine_states.proofs.Elements.{element_from}
+use Rattle.engine_valid_elements.proofs.Laws.{element_is, row_inside, cell_rises, cells_in, variable_judged}
 use Rattle.engine_valid_elements.proofs.element_fits.Statement.{statement}
 use Rattle.engine_valid_elements.proofs.element_fits.Tie as tie
 
 abbrev invariant-loop : tie.invariant-loop
-invariant-loop sheet directory cells c e st row count j₀ j = (j ≤ count) × (row + count < 2176) × (row ≡ 34 * (e - externalsOf sheet)) × (all_below j (variableFits sheet st e c) ≡ true)
+invariant-loop sheet directory cells c e st row count j₀ j = (j ≤ count) × (row + count < 2176) × (row ≡ 34 * (e - externals_of sheet)) × (all_below j (variable_fits sheet st e c) ≡ true)
 
 abbrev decreases-loop : tie.decreases-loop
 decreases-loop sheet directory cells c e st row count j₀ j = count - j
@@ -23,7 +23,7 @@ externals-requires : tie.Need-externals-requires invariant-loop decreases-loop
 externals-requires c κs = search rules
 
 sub_row : tie.Need-overflow-sub-row invariant-loop decreases-loop
-sub_row c = let start = c.before.before in omega (arith, c.externals.ensures.0, element-from _ _ _ start.requires.1)
+sub_row c = let start = c.before.before in omega (arith, c.externals.ensures.0, element_from _ _ _ start.requires.1)
 
 mul-row : tie.Need-overflow-mul-row invariant-loop decreases-loop
 mul-row c =
@@ -76,7 +76,7 @@ sub-n : tie.Need-overflow-sub-n invariant-loop decreases-loop
 sub-n c =
     let start = c.before.before.before.before.before.before.before.before.before in
     let turn = c.before.before.before.before.before.loop in
-    cell-rises _ _ _ _ start.requires.0 _ _ start.requires.1 _ turn.invariant.2 turn.j c.before.before.before.before.loop-test.true
+    cell_rises _ _ _ _ start.requires.0 _ _ start.requires.1 _ turn.invariant.2 turn.j c.before.before.before.before.loop-test.true
 
 variable-fits-requires : tie.Need-variable-fits-requires invariant-loop decreases-loop
 variable-fits-requires c κs =
@@ -89,8 +89,8 @@ returns c =
     let start = c.before.before.before.before.before.before.before.before.before.before.before in
     let turn = c.before.before.before.before.before.before.before.loop in
     let below = c.before.before.before.before.before.before.loop-test.true in
-    let judged = variable-judged _ _ _ _ start.requires.0 _ _ start.requires.1 _ turn.invariant.2 turn.j below _ c.before.before.before.before.type-at.ensures _ (c.before.variable-fits.ensures _ start.requires.1) in
-    loop-fails _ _ _ _ refl below (no judged c.if1.true) ∙ element-is _ _ _ _ start.requires.1
+    let judged = variable_judged _ _ _ _ start.requires.0 _ _ start.requires.1 _ turn.invariant.2 turn.j below _ c.before.before.before.before.type-at.ensures _ (c.before.variable-fits.ensures _ start.requires.1) in
+    loop_fails _ _ _ _ refl below (no judged c.if1.true) ∙ element_is _ _ _ _ start.requires.1
 
 add-j : tie.Need-overflow-add-j invariant-loop decreases-loop
 add-j c = search rules
@@ -103,13 +103,13 @@ loop-again c =
     let start = c.before.before.before.before.before.before.before.before.before.before.before in
     let turn = c.before.before.before.before.before.before.before.loop in
     let below = c.before.before.before.before.before.before.loop-test.true in
-    let judged = variable-judged _ _ _ _ start.requires.0 _ _ start.requires.1 _ turn.invariant.2 turn.j below _ c.before.before.before.before.type-at.ensures _ (c.before.variable-fits.ensures _ start.requires.1) in
+    let judged = variable_judged _ _ _ _ start.requires.0 _ _ start.requires.1 _ turn.invariant.2 turn.j below _ c.before.before.before.before.type-at.ensures _ (c.before.variable-fits.ensures _ start.requires.1) in
     (omega arith, turn.invariant.1, turn.invariant.2, all_more turn.j _ turn.invariant.3 (so judged c.if1.false))
 
 returns-2 : tie.Need-returns-2 invariant-loop decreases-loop
 returns-2 c =
     let turn = c.before.loop in
-    loop-ends _ _ _ _ refl turn.invariant.0 c.loop-test.false turn.invariant.3 ∙ element-is _ _ _ _ c.before.before.before.before.before.requires.1
+    loop_ends _ _ _ _ refl turn.invariant.0 c.loop-test.false turn.invariant.3 ∙ element_is _ _ _ _ c.before.before.before.before.before.requires.1
 
 pub element-fits-spec : {M : Type 1} → statement M
 element-fits-spec =

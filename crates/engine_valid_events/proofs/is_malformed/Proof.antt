@@ -1,4 +1,4 @@
-use Rattle.machine_events.specs.Event.{isMalformed}
+use Rattle.machine_events.specs.Event.{is_malformed}
 use borrow.Author.Rules.{rules}
 use Rattle.engine_valid_events.proofs.is_malformed.Statement.{statement}
 use Rattle.engine_valid_events.proofs.is_malformed.Tie as tie
@@ -22,27 +22,27 @@ enum-told-3 : tie.Need-enum-told-3
 enum-told-3 c = search rules
 
 returns : tie.Need-returns
-unfolding isMalformed
+unfolding is_malformed
 returns c = search rules
 
 returns-2 : tie.Need-returns-2
-unfolding isMalformed
+unfolding is_malformed
 returns-2 c = search rules
 
 returns-3 : tie.Need-returns-3
-unfolding isMalformed
+unfolding is_malformed
 returns-3 c = search rules
 
 returns-4 : tie.Need-returns-4
-unfolding isMalformed
+unfolding is_malformed
 returns-4 c = search rules
 
 returns-5 : tie.Need-returns-5
-unfolding isMalformed
+unfolding is_malformed
 returns-5 c = search rules
 
 returns-6 : tie.Need-returns-6
-unfolding isMalformed
+unfolding is_malformed
 returns-6 c = search rules
 
 pub is-malformed-spec : {M : Type 1} → statement M

@@ -1,8 +1,8 @@
 use mathlib.Core.Path.{refl, sym, ap, ◌∙◌}
 use Rattle.machine_events.specs.declared.Event.TheVariants.{Outside}
-use Rattle.machine.specs.State.{telegramIn}
-use Rattle.machine_events.specs.Event.{eventAs}
-use Rattle.engine_valid_events.proofs.Laws.{read-so, read_none}
+use Rattle.machine.specs.State.{telegram_in}
+use Rattle.machine_events.specs.Event.{event_as}
+use Rattle.engine_valid_events.proofs.Laws.{read_so_lem, read_none}
 use borrow.Author.Rules.{rules}
 use Rattle.engine_valid_events.proofs.outside.Statement.{statement}
 use Rattle.engine_valid_events.proofs.outside.Tie as tie
@@ -14,8 +14,8 @@ telegram-in-requires : tie.Need-telegram-in-requires
 telegram-in-requires c κs = search rules
 
 returns : tie.Need-returns
-unfolding eventAs telegramIn
-returns c = read-so _ _ _ _ (sym c.before.before.outside-formed.ensures ∙ c.before.if1.true) (ap Outside c.telegram-in.ensures)
+unfolding event_as telegram_in
+returns c = read_so_lem _ _ _ _ (sym c.before.before.outside-formed.ensures ∙ c.before.if1.true) (ap Outside c.telegram-in.ensures)
 
 returns-2 : tie.Need-returns-2
 returns-2 c = read_none _ _ _ _ (sym c.before.outside-formed.ensures ∙ c.if1.false) refl

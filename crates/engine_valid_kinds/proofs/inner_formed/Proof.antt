@@ -1,8 +1,8 @@
 use borrow.Author.Rules.{rules}
-use Rattle.sheet.proofs.All.{first-fails, rest-fails, first_holds}
+use Rattle.sheet.proofs.All.{first_fails_lem, rest_fails, first_holds}
 use Rattle.sheet_types.proofs.Laws.{no, so}
-use Rattle.engine_valid_values.proofs.Laws.{below-same}
-use Rattle.machine.specs.Play.{wellFormed}
+use Rattle.engine_valid_values.proofs.Laws.{below_same}
+use Rattle.machine.specs.Play.{well_formed}
 use Rattle.engine_valid_kinds.proofs.inner_formed.Statement.{statement}
 use Rattle.engine_valid_kinds.proofs.inner_formed.Tie as tie
 
@@ -10,8 +10,8 @@ zero-at-requires : tie.Need-zero-at-requires
 zero-at-requires c κs = search rules
 
 returns : tie.Need-returns
-unfolding wellFormed
-returns c = first-fails _ _ (no c.before.zero-at.ensures c.if1.true)
+unfolding well_formed
+returns c = first_fails_lem _ _ (no c.before.zero-at.ensures c.if1.true)
 
 components-requires : tie.Need-components-requires
 components-requires c κs = search rules
@@ -20,17 +20,17 @@ below-at-requires : tie.Need-below-at-requires
 below-at-requires c κs = search rules
 
 returns-2 : tie.Need-returns-2
-unfolding wellFormed
-returns-2 c = rest-fails _ _ (first-fails _ _ (no (below-same _ _ _ _ c.before.below_at.ensures c.before.before.components.ensures.0) c.if2.true))
+unfolding well_formed
+returns-2 c = rest_fails _ _ (first_fails_lem _ _ (no (below_same _ _ _ _ c.before.below_at.ensures c.before.before.components.ensures.0) c.if2.true))
 
 rest-zero-requires : tie.Need-rest-zero-requires
 rest-zero-requires c κs = search rules
 
 returns-3 : tie.Need-returns-3
-unfolding wellFormed
+unfolding well_formed
 returns-3 c =
     first_holds _ _ _ (so c.before.before.before.before.before.zero-at.ensures c.before.before.before.before.if1.false)
-    (first_holds _ _ _ (so (below-same _ _ _ _ c.before.before.below_at.ensures c.before.before.before.components.ensures.0) c.before.if2.false) c.rest-zero.ensures)
+    (first_holds _ _ _ (so (below_same _ _ _ _ c.before.before.below_at.ensures c.before.before.before.components.ensures.0) c.before.if2.false) c.rest-zero.ensures)
 
 pub inner-formed-spec : {M : Type 1} → statement M
 inner-formed-spec =

@@ -6,10 +6,10 @@ use Prim.Native.Nat.{ℕ, ◌+◌, ◌-◌, ◌≤◌}
 use lib.IntN.{ℤ}
 use borrow.Author.Rules.{rules}
 use Rattle.sheet.specs.All.{all_below}
-use Rattle.sheet.proofs.All.{all_more, loop-fails, loop-ends}
+use Rattle.sheet.proofs.All.{all_more, loop_fails, loop_ends}
 use Rattle.machine.specs.Values.{is_zero}
 use Rattle.machine.specs.State.{word_of}
-use Rattle.machine.specs.Play.{restZero}
+use Rattle.machine.specs.Play.{rest_zero}
 use Rattle.sheet_types.proofs.Laws.{no, so}
 use Rattle.engine_valid_kinds.proofs.rest_zero.Statement.{statement}
 use Rattle.engine_valid_kinds.proofs.rest_zero.Tie as tie
@@ -37,8 +37,8 @@ zero-at-requires : tie.Need-zero-at-requires invariant-loop decreases-loop
 zero-at-requires c κs = search rules
 
 returns : tie.Need-returns invariant-loop decreases-loop
-unfolding restZero
-returns c = loop-fails _ _ _ _ refl c.before.before.loop-test.true (no c.before.zero-at.ensures c.if1.true)
+unfolding rest_zero
+returns c = loop_fails _ _ _ _ refl c.before.before.loop-test.true (no c.before.zero-at.ensures c.if1.true)
 
 add-k : tie.Need-overflow-add-k invariant-loop decreases-loop
 add-k c = search rules
@@ -50,8 +50,8 @@ loop-again : tie.Need-loop-preserved invariant-loop decreases-loop
 loop-again c = (omega arith, all_more c.before.before.before.loop.k _ c.before.before.before.loop.invariant.1 (so c.before.zero-at.ensures c.if1.false))
 
 returns-2 : tie.Need-returns-2 invariant-loop decreases-loop
-unfolding restZero
-returns-2 c = loop-ends _ _ _ _ refl c.before.loop.invariant.0 c.loop-test.false c.before.loop.invariant.1
+unfolding rest_zero
+returns-2 c = loop_ends _ _ _ _ refl c.before.loop.invariant.0 c.loop-test.false c.before.loop.invariant.1
 
 pub rest-zero-spec : {M : Type 1} → statement M
 rest-zero-spec =

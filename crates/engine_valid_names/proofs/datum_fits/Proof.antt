@@ -1,6 +1,6 @@
 use mathlib.Core.Path.{sym, ◌∙◌}
 use borrow.Author.Rules.{rules}
-use Rattle.engine_valid_names.proofs.Laws.{datum-typed, datum-absent, datum-surplus}
+use Rattle.engine_valid_names.proofs.Laws.{datum-typed, datum_absent, datum_surplus}
 use Rattle.engine_valid_names.proofs.datum_fits.Statement.{statement}
 use Rattle.engine_valid_names.proofs.datum_fits.Tie as tie
 
@@ -17,7 +17,7 @@ enum_told : tie.Need-enum-told
 enum_told c = search rules
 
 returns : tie.Need-returns
-returns c = datum-absent _ _ _ _ c.before.before.before.before.if1.true (sym c.before.before.read.ensures ∙ c.enum_told.given.1)
+returns c = datum_absent _ _ _ _ c.before.before.before.before.if1.true (sym c.before.before.read.ensures ∙ c.enum_told.given.1)
 
 cast-value-at : tie.Need-overflow-cast-value-at
 cast-value-at c = search rules
@@ -32,7 +32,7 @@ zero-at-requires : tie.Need-zero-at-requires
 zero-at-requires c κs = search rules
 
 returns-3 : tie.Need-returns-3
-returns-3 c = datum-surplus _ _ _ _ _ c.before.if1.false c.zero-at.ensures
+returns-3 c = datum_surplus _ _ _ _ _ c.before.if1.false c.zero-at.ensures
 
 pub datum-fits-spec : {M : Type 1} → statement M
 datum-fits-spec =

@@ -5,12 +5,12 @@ use mathlib.Core.Path.{◌≡◌, refl, sym, ap, ◌∙◌}
 use borrow.Author.Rules.{rules}
 use Rattle.sheet.specs.All.{all_below}
 use Rattle.sheet.proofs.All.{all_more}
-use Rattle.sheet_types.proofs.Table.{noReaction, reaction-found, reaction-none}
+use Rattle.sheet_types.proofs.Table.{no_reaction, reaction_found, reaction_none}
 use Rattle.engine_valid_names.proofs.has_reaction.Statement.{statement}
 use Rattle.engine_valid_names.proofs.has_reaction.Tie as tie
 
 abbrev invariant-loop : tie.invariant-loop
-invariant-loop sheet directory n first count j₀ j = (j ≤ count) × (all_below j (noReaction sheet first n) ≡ true)
+invariant-loop sheet directory n first count j₀ j = (j ≤ count) × (all_below j (no_reaction sheet first n) ≡ true)
 
 abbrev decreases-loop : tie.decreases-loop
 decreases-loop sheet directory n first count j₀ j = count - j
@@ -32,7 +32,7 @@ reacts-requires : tie.Need-reacts-requires invariant-loop decreases-loop
 reacts-requires c κs = search rules
 
 returns : tie.Need-returns invariant-loop decreases-loop
-returns c = reaction-found _ _ _ _ c.before.before.loop-test.true (sym c.before.reacts.ensures ∙ c.if1.true)
+returns c = reaction_found _ _ _ _ c.before.before.loop-test.true (sym c.before.reacts.ensures ∙ c.if1.true)
 
 add-j : tie.Need-overflow-add-j invariant-loop decreases-loop
 add-j c = search rules
@@ -44,7 +44,7 @@ loop-again : tie.Need-loop-preserved invariant-loop decreases-loop
 loop-again c = (omega arith, all_more _ _ c.before.before.before.loop.invariant.1 (ap not (sym c.before.reacts.ensures ∙ c.if1.false)))
 
 returns-2 : tie.Need-returns-2 invariant-loop decreases-loop
-returns-2 c = reaction-none _ _ _ (let e : c.before.loop.j ≡ c.before.before.before.before.before.args.c.f5 = omega arith in rw e at c.before.loop.invariant.1)
+returns-2 c = reaction_none _ _ _ (let e : c.before.loop.j ≡ c.before.before.before.before.before.args.c.f5 = omega arith in rw e at c.before.loop.invariant.1)
 
 pub has-reaction-spec : {M : Type 1} → statement M
 has-reaction-spec =

@@ -2,7 +2,7 @@ use mathlib.Core.Path.{sym, ◌∙◌}
 use borrow.Author.Tests.{eq-eqb, ne_eqb}
 use borrow.Author.Rules.{rules}
 use Rattle.sheet.proofs.All.{false-and, true-and}
-use Rattle.sheet_rules.proofs.Fields.{holds-present, holds-absent}
+use Rattle.sheet_rules.proofs.Fields.{holds-present, holds_absent}
 use Rattle.engine_valid_names.proofs.reacts.Statement.{statement}
 use Rattle.engine_valid_names.proofs.reacts.Tie as tie
 
@@ -16,7 +16,7 @@ enum_told : tie.Need-enum-told
 enum_told c = search rules
 
 returns : tie.Need-returns
-returns c = sym (holds-absent _ _ (sym c.before.before.read.ensures ∙ c.enum_told.given.1))
+returns c = sym (holds_absent _ _ (sym c.before.before.read.ensures ∙ c.enum_told.given.1))
 
 returns-2 : tie.Need-returns-2
 returns-2 c = sym (holds-present _ _ _ (sym c.before.before.before.before.before.read.ensures ∙ c.before.before.before.b.given.1) ∙ false-and _ _ (ne_eqb _ 3 c.if1.true))

@@ -1,6 +1,6 @@
 use borrow.Author.Rules.{rules}
-use Rattle.sheet.proofs.All.{first-fails, first_holds}
-use Rattle.machine.specs.Valid.{headFits}
+use Rattle.sheet.proofs.All.{first_fails_lem, first_holds}
+use Rattle.machine.specs.Valid.{head_fits}
 use Rattle.sheet_types.proofs.Laws.{no, so}
 use Rattle.engine_valid_state.proofs.head_fits.Statement.{statement}
 use Rattle.engine_valid_state.proofs.head_fits.Tie as tie
@@ -12,14 +12,14 @@ below-at-requires : tie.Need-below-at-requires
 below-at-requires c κs = search rules
 
 returns : tie.Need-returns
-unfolding headFits
-returns c = first-fails _ _ (no c.before.below_at.ensures c.if1.true)
+unfolding head_fits
+returns c = first_fails_lem _ _ (no c.before.below_at.ensures c.if1.true)
 
 zero-words-requires : tie.Need-zero-words-requires
 zero-words-requires c κs = search rules
 
 returns-2 : tie.Need-returns-2
-unfolding headFits
+unfolding head_fits
 returns-2 c = first_holds _ _ _ (so c.before.before.below_at.ensures c.before.if1.false) c.zero-words.ensures
 
 pub head-fits-spec : {M : Type 1} → statement M

@@ -1,13 +1,13 @@
 use native.Mathlib.Omega.{arith}
 use mathlib.Core.Path.{sym, ap, ◌∙◌}
 use borrow.Author.Rules.{rules}
-use Rattle.sheet.proofs.All.{first-fails, rest-fails, first_holds}
-use Rattle.machine.specs.Values.{isBound, chartOf}
-use Rattle.machine.specs.State.{telegramIn}
-use Rattle.machine.specs.Valid.{internalFits}
+use Rattle.sheet.proofs.All.{first_fails_lem, rest_fails, first_holds}
+use Rattle.machine.specs.Values.{is_bound_lem, chart_of}
+use Rattle.machine.specs.State.{telegram_in}
+use Rattle.machine.specs.Valid.{internal_fits}
 use Rattle.sheet_types.proofs.Laws.{no, so}
 use Rattle.engine_valid_words.proofs.Laws.{read_back}
-use Rattle.engine_valid_names.proofs.Laws.{name-from, chart-awaits, nothing-awaits}
+use Rattle.engine_valid_names.proofs.Laws.{name_from, chart_awaits, nothing_awaits}
 use Rattle.engine_valid_telegrams.proofs.Laws.{name_of}
 use Rattle.engine_valid_telegrams.proofs.internal_fits.Statement.{statement}
 use Rattle.engine_valid_telegrams.proofs.internal_fits.Tie as tie
@@ -25,11 +25,11 @@ same-requires : tie.Need-same-requires
 same-requires c κs = search rules
 
 returns : tie.Need-returns
-unfolding internalFits telegramIn
+unfolding internal_fits telegram_in
 returns c =
     let sender = c.before.before.before.word.ensures in
     let receiver = c.before.before.word2.ensures in
-    first-fails _ _ (no (rw (read_back _ _ sender.0 sender.1, read_back _ _ receiver.0 receiver.1) at c.before.same.ensures) c.if1.true)
+    first_fails_lem _ _ (no (rw (read_back _ _ sender.0 sender.1, read_back _ _ receiver.0 receiver.1) at c.before.same.ensures) c.if1.true)
 
 add-number-at : tie.Need-overflow-add-number-at
 add-number-at c = search rules
@@ -41,8 +41,8 @@ is-bound-requires : tie.Need-is-bound-requires
 is-bound-requires c κs = search rules
 
 returns-2 : tie.Need-returns-2
-unfolding internalFits telegramIn
-returns-2 c = rest-fails _ _ (first-fails _ _ (no (c.before.is_bound.ensures ∙ ap (isBound _) c.before.before.number_at.ensures) c.if2.true))
+unfolding internal_fits telegram_in
+returns-2 c = rest_fails _ _ (first_fails_lem _ _ (no (c.before.is_bound.ensures ∙ ap (is_bound_lem _) c.before.before.number_at.ensures) c.if2.true))
 
 add-name-fits : tie.Need-overflow-add-name-fits
 add-name-fits c = search rules
@@ -51,8 +51,8 @@ name-fits-requires : tie.Need-name-fits-requires
 name-fits-requires c κs = search rules
 
 returns-3 : tie.Need-returns-3
-unfolding internalFits telegramIn
-returns-3 c = rest-fails _ _ (rest-fails _ _ (first-fails _ _ (no (c.before.name-fits.ensures ∙ name_of _ _ _ _) c.if3.true)))
+unfolding internal_fits telegram_in
+returns-3 c = rest_fails _ _ (rest_fails _ _ (first_fails_lem _ _ (no (c.before.name-fits.ensures ∙ name_of _ _ _ _) c.if3.true)))
 
 chart-of-requires : tie.Need-chart-of-requires
 chart-of-requires c κs =
@@ -66,11 +66,11 @@ enum_told : tie.Need-enum-told
 enum_told c = search rules
 
 returns-4 : tie.Need-returns-4
-unfolding internalFits telegramIn
+unfolding internal_fits telegram_in
 returns-4 c =
     let asked = c.before.before in
     let number = asked.before.before.before.before.before.number_at.ensures in
-    rest-fails _ _ (rest-fails _ _ (rest-fails _ _ (nothing-awaits _ _ _ (ap (chartOf _) (sym number) ∙ sym asked.chart-of.ensures ∙ c.enum_told.given.1))))
+    rest_fails _ _ (rest_fails _ _ (rest_fails _ _ (nothing_awaits _ _ _ (ap (chart_of _) (sym number) ∙ sym asked.chart-of.ensures ∙ c.enum_told.given.1))))
 
 add-number-at-2 : tie.Need-overflow-add-number-at-2
 add-number-at-2 c = let start = c.before.before.before.before.before.before.before.before.before.before.before.before.before.before in omega arith
@@ -79,13 +79,13 @@ number-at-requires-2 : tie.Need-number-at-requires-2
 number-at-requires-2 c κs =
     let named = c.before.before.before.before in
     let start = c.before.before.before.before.before.before.before.before.before.before.before.before.before.before in
-    (omega arith, name-from _ _ _ _ (so named.before.name-fits.ensures named.if3.false))
+    (omega arith, name_from _ _ _ _ (so named.before.name-fits.ensures named.if3.false))
 
 has-reaction-requires : tie.Need-has-reaction-requires
 has-reaction-requires c κs = search rules
 
 returns-5 : tie.Need-returns-5
-unfolding internalFits telegramIn
+unfolding internal_fits telegram_in
 returns-5 c =
     let asked = c.before.before.before.before.before in
     let named = asked.before.before in
@@ -94,11 +94,11 @@ returns-5 c =
     let ends = bound.before.before.before in
     let receiver = ends.before.word2.ensures in
     let sender = ends.before.before.word.ensures in
-    let chart = ap (chartOf _) (sym number) ∙ sym asked.chart-of.ensures ∙ c.before.before.before.c.given.1 in
+    let chart = ap (chart_of _) (sym number) ∙ sym asked.chart-of.ensures ∙ c.before.before.before.c.given.1 in
     first_holds _ _ _ (so (rw (read_back _ _ sender.0 sender.1, read_back _ _ receiver.0 receiver.1) at ends.same.ensures) bound.before.before.if1.false)
-    (first_holds _ _ _ (so (bound.is_bound.ensures ∙ ap (isBound _) number) named.before.if2.false)
+    (first_holds _ _ _ (so (bound.is_bound.ensures ∙ ap (is_bound_lem _) number) named.before.if2.false)
     (first_holds _ _ _ (so (named.name-fits.ensures ∙ name_of _ _ _ _) asked.before.if3.false)
-    (chart-awaits _ _ _ _ _ _ chart c.before.number-at2.ensures c.has-reaction.ensures)))
+    (chart_awaits _ _ _ _ _ _ chart c.before.number-at2.ensures c.has-reaction.ensures)))
 
 pub internal-fits-spec : {M : Type 1} → statement M
 internal-fits-spec =

@@ -1,5 +1,5 @@
 use borrow.Author.Rules.{rules}
-use Rattle.machine.specs.State.{telegramIn}
+use Rattle.machine.specs.State.{telegram_in}
 use Rattle.engine_valid_words.proofs.Laws.{read_back}
 use Rattle.engine_valid_telegrams.proofs.is_internal.Statement.{statement}
 use Rattle.engine_valid_telegrams.proofs.is_internal.Tie as tie
@@ -14,7 +14,7 @@ same-requires : tie.Need-same-requires
 same-requires c κs = search rules
 
 returns : tie.Need-returns
-unfolding telegramIn
+unfolding telegram_in
 returns c = rw (read_back _ _ c.before.word.ensures.0 c.before.word.ensures.1) at c.same.ensures
 
 pub is-internal-spec : {M : Type 1} → statement M

@@ -1,5 +1,5 @@
 use borrow.Author.Rules.{rules}
-use Rattle.sheet_rules.specs.Fields.{field_of, fieldAt, componentsOf}
+use Rattle.sheet_rules.specs.Fields.{field_of, field_at, components_of}
 use Rattle.engine_valid_values.proofs.components.Statement.{statement}
 use Rattle.engine_valid_values.proofs.components.Tie as tie
 
@@ -7,7 +7,7 @@ field-at-requires : tie.Need-field-at-requires
 field-at-requires c κs = search rules
 
 returns : tie.Need-returns
-unfolding fieldAt field_of componentsOf
+unfolding field_at field_of components_of
 returns c = c.field_at.ensures
 
 pub components-spec : {M : Type 1} → statement M

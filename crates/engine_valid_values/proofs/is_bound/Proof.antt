@@ -2,8 +2,8 @@ use mathlib.Core.Path.{ap}
 use lib.Dec.{ltb}
 use borrow.Author.Tests.{le-leb, lt-leb}
 use borrow.Author.Rules.{rules}
-use Rattle.sheet.proofs.All.{first-fails, first_holds}
-use Rattle.machine.specs.Values.{isBound}
+use Rattle.sheet.proofs.All.{first_fails_lem, first_holds}
+use Rattle.machine.specs.Values.{is_bound_lem}
 use Rattle.engine_valid_values.proofs.is_bound.Statement.{statement}
 use Rattle.engine_valid_values.proofs.is_bound.Tie as tie
 
@@ -11,14 +11,14 @@ externals-requires : tie.Need-externals-requires
 externals-requires c κs = search rules
 
 returns : tie.Need-returns
-unfolding isBound
-returns c = first-fails _ _ (lt-leb _ _ (rw c.before.externals.ensures.0 at c.if1.true))
+unfolding is_bound_lem
+returns c = first_fails_lem _ _ (lt-leb _ _ (rw c.before.externals.ensures.0 at c.if1.true))
 
 components-requires : tie.Need-components-requires
 components-requires c κs = search rules
 
 returns-2 : tie.Need-returns-2
-unfolding isBound
+unfolding is_bound_lem
 returns-2 c = first_holds _ _ _ (le-leb _ _ (rw c.before.before.externals.ensures.0 at c.before.if1.false)) (ap (ltb c.before.before.before.before.args.e) c.components.ensures.0)
 
 pub is-bound-spec : {M : Type 1} → statement M

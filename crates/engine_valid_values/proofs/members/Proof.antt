@@ -1,5 +1,5 @@
 use borrow.Author.Rules.{rules}
-use Rattle.sheet_rules.specs.Fields.{field_of, fieldAt, members_of}
+use Rattle.sheet_rules.specs.Fields.{field_of, field_at, members_of}
 use Rattle.engine_valid_values.proofs.members.Statement.{statement}
 use Rattle.engine_valid_values.proofs.members.Tie as tie
 
@@ -7,7 +7,7 @@ field-at-requires : tie.Need-field-at-requires
 field-at-requires c κs = search rules
 
 returns : tie.Need-returns
-unfolding fieldAt field_of members_of
+unfolding field_at field_of members_of
 returns c = c.field_at.ensures
 
 pub members-spec : {M : Type 1} → statement M

@@ -7,16 +7,16 @@ use lib.ListN.{length}
 use lib.IntN.{ℤ}
 use borrow.Author.Rules.{rules}
 use Rattle.sheet.specs.All.{all_below}
-use Rattle.sheet.proofs.All.{all_more, loop-fails, loop-ends}
-use Rattle.machine.specs.Valid.{zeroWords}
+use Rattle.sheet.proofs.All.{all_more, loop_fails, loop_ends}
+use Rattle.machine.specs.Valid.{zero_words}
 use Rattle.sheet_types.proofs.Laws.{no, so}
 use Rattle.engine_store.specs.Layout.{place_in}
-use Rattle.engine_valid_waiting.proofs.Laws.{place-judged, unused-is}
+use Rattle.engine_valid_waiting.proofs.Laws.{place_judged, unused_is}
 use Rattle.engine_valid_waiting.proofs.unused_zero.Statement.{statement}
 use Rattle.engine_valid_waiting.proofs.unused_zero.Tie as tie
 
 abbrev unused : List ℤ → ℕ → ℕ → Bool
-unused st n k = zeroWords st (place_in (length st) (n + k)) 0
+unused st n k = zero_words st (place_in (length st) (n + k)) 0
 
 abbrev invariant-loop : tie.invariant-loop
 invariant-loop st n count k₀ k = (k ≤ count) × (all_below k (unused st n) ≡ true)
@@ -43,8 +43,8 @@ zero-words-requires c κs = search rules
 returns : tie.Need-returns invariant-loop decreases-loop
 returns c s l =
     let start = c.before.before.before.before.before in
-    let judged = place-judged _ _ _ _ c.before.before.place_at.ensures c.before.zero-words.ensures in
-    loop-fails _ _ _ _ refl c.before.before.before.loop-test.true (no judged c.if1.true) ∙ unused-is s _ l _ start.requires.number
+    let judged = place_judged _ _ _ _ c.before.before.place_at.ensures c.before.zero-words.ensures in
+    loop_fails _ _ _ _ refl c.before.before.before.loop-test.true (no judged c.if1.true) ∙ unused_is s _ l _ start.requires.number
 
 add-k : tie.Need-overflow-add-k invariant-loop decreases-loop
 add-k c = search rules
@@ -55,11 +55,11 @@ loop-less c = search rules
 loop-again : tie.Need-loop-preserved invariant-loop decreases-loop
 loop-again c =
     let turn = c.before.before.before.before.loop in
-    let judged = place-judged _ _ _ _ c.before.before.place_at.ensures c.before.zero-words.ensures in
+    let judged = place_judged _ _ _ _ c.before.before.place_at.ensures c.before.zero-words.ensures in
     (omega arith, all_more turn.k _ turn.invariant.1 (so judged c.if1.false))
 
 returns-2 : tie.Need-returns-2 invariant-loop decreases-loop
-returns-2 c s l = loop-ends _ _ _ _ refl c.before.loop.invariant.0 c.loop-test.false c.before.loop.invariant.1 ∙ unused-is s _ l _ c.before.before.requires.number
+returns-2 c s l = loop_ends _ _ _ _ refl c.before.loop.invariant.0 c.loop-test.false c.before.loop.invariant.1 ∙ unused_is s _ l _ c.before.before.requires.number
 
 pub unused-zero-spec : {M : Type 1} → statement M
 unused-zero-spec =

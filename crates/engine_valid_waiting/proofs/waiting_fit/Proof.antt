@@ -7,17 +7,17 @@ use lib.ListN.{length}
 use lib.IntN.{ℤ}
 use borrow.Author.Rules.{rules}
 use Rattle.sheet.specs.All.{all_below}
-use Rattle.sheet.proofs.All.{all_more, loop-fails, loop-ends}
-use Rattle.machine.specs.State.{telegramIn}
-use Rattle.machine.specs.Valid.{telegramFits}
+use Rattle.sheet.proofs.All.{all_more, loop_fails, loop_ends}
+use Rattle.machine.specs.State.{telegram_in}
+use Rattle.machine.specs.Valid.{telegram_fits}
 use Rattle.sheet_types.proofs.Laws.{no, so}
 use Rattle.engine_store.specs.Layout.{place_in}
-use Rattle.engine_valid_waiting.proofs.Laws.{telegram-judged, waiting-is}
+use Rattle.engine_valid_waiting.proofs.Laws.{telegram_judged, waiting_is}
 use Rattle.engine_valid_waiting.proofs.waiting_fit.Statement.{statement}
 use Rattle.engine_valid_waiting.proofs.waiting_fit.Tie as tie
 
 abbrev fits : List ℕ → List ℤ → ℕ → Bool
-fits s st j = telegramFits s (telegramIn st (place_in (length st) j))
+fits s st j = telegram_fits s (telegram_in st (place_in (length st) j))
 
 abbrev invariant-loop : tie.invariant-loop
 invariant-loop sheet directory cells st n j₀ j = (j ≤ n) × (all_below j (fits sheet st) ≡ true)
@@ -43,8 +43,8 @@ telegram-fits-requires c κs =
 returns : tie.Need-returns invariant-loop decreases-loop
 returns c =
     let start = c.before.before.before.before.before.before in
-    let judged = telegram-judged _ _ _ _ _ c.before.before.place_at.ensures c.before.telegram-fits.ensures in
-    loop-fails _ _ _ _ refl c.before.before.before.loop-test.true (no judged c.if1.true) ∙ waiting-is _ _ start.requires.0.whole _ start.requires.1.number
+    let judged = telegram_judged _ _ _ _ _ c.before.before.place_at.ensures c.before.telegram-fits.ensures in
+    loop_fails _ _ _ _ refl c.before.before.before.loop-test.true (no judged c.if1.true) ∙ waiting_is _ _ start.requires.0.whole _ start.requires.1.number
 
 add-j : tie.Need-overflow-add-j invariant-loop decreases-loop
 add-j c = search rules
@@ -55,13 +55,13 @@ loop-less c = search rules
 loop-again : tie.Need-loop-preserved invariant-loop decreases-loop
 loop-again c =
     let turn = c.before.before.before.before.loop in
-    let judged = telegram-judged _ _ _ _ _ c.before.before.place_at.ensures c.before.telegram-fits.ensures in
+    let judged = telegram_judged _ _ _ _ _ c.before.before.place_at.ensures c.before.telegram-fits.ensures in
     (omega arith, all_more turn.j _ turn.invariant.1 (so judged c.if1.false))
 
 returns-2 : tie.Need-returns-2 invariant-loop decreases-loop
 returns-2 c =
     let start = c.before.before.before in
-    loop-ends _ _ _ _ refl c.before.loop.invariant.0 c.loop-test.false c.before.loop.invariant.1 ∙ waiting-is _ _ start.requires.0.whole _ start.requires.1.number
+    loop_ends _ _ _ _ refl c.before.loop.invariant.0 c.loop-test.false c.before.loop.invariant.1 ∙ waiting_is _ _ start.requires.0.whole _ start.requires.1.number
 
 pub waiting-fit-spec : {M : Type 1} → statement M
 waiting-fit-spec =

@@ -1,7 +1,7 @@
 use mathlib.Core.Path.{ap, ◌∙◌}
 use lib.IntN.{ℤ}
 use borrow.Author.Rules.{rules}
-use Rattle.machine.specs.Values.{isBelow}
+use Rattle.machine.specs.Values.{is_below}
 use Rattle.engine_valid_words.proofs.Laws.{read_back}
 use Rattle.engine_valid_words.proofs.below_at.Statement.{statement}
 use Rattle.engine_valid_words.proofs.below_at.Tie as tie
@@ -13,7 +13,7 @@ is-below-requires : tie.Need-is-below-requires
 is-below-requires c κs = search rules
 
 returns : tie.Need-returns
-returns c = c.is_below.ensures ∙ ap (λ (z : ℤ). isBelow z c.before.before.args.n) (read_back _ _ c.before.word.ensures.0 c.before.word.ensures.1)
+returns c = c.is_below.ensures ∙ ap (λ (z : ℤ). is_below z c.before.before.args.n) (read_back _ _ c.before.word.ensures.0 c.before.word.ensures.1)
 
 pub below-at-spec : {M : Type 1} → statement M
 below-at-spec = tie.close (tie.spec word-requires is-below-requires returns)

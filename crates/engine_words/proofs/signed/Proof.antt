@@ -1,5 +1,5 @@
 use borrow.Author.Rules.{rules}
-use Rattle.engine_words.proofs.Laws.{high_fits, high-narrow, high-back}
+use Rattle.engine_words.proofs.Laws.{high_fits, high_narrow, high_back}
 use Rattle.engine_words.proofs.signed.Statement.{statement}
 use Rattle.engine_words.proofs.signed.Tie as tie
 
@@ -13,13 +13,13 @@ sub-result : tie.Need-overflow-sub-result
 sub-result c = high_fits c.before.args.n c.if1.false c.before.ranges.n.fits
 
 cast-result-3 : tie.Need-overflow-cast-result-3
-cast-result-3 c = high-narrow c.before.args.n c.if1.false c.before.ranges.n.fits
+cast-result-3 c = high_narrow c.before.args.n c.if1.false c.before.ranges.n.fits
 
 returns : tie.Need-returns
 returns c = search rules
 
 returns-2 : tie.Need-returns-2
-returns-2 c = high-back c.before.args.n c.if1.false c.before.ranges.n.fits
+returns-2 c = high_back c.before.args.n c.if1.false c.before.ranges.n.fits
 
 pub signed-spec : {M : Type 1} → statement M
 signed-spec =

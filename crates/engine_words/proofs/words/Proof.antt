@@ -6,19 +6,19 @@ use lib.Seq.{take_all}
 use mir.Syntax.{w32}
 use mir.Val.{to_z, of_z}
 use borrow.Author.Rules.{rules}
-use Rattle.engine_words.specs.Words.{wordsAt}
+use Rattle.engine_words.specs.Words.{words_at}
 use Rattle.engine_words.proofs.Laws.{words_more}
 use Rattle.engine_words.proofs.words.Statement.{statement}
 use Rattle.engine_words.proofs.words.Tie as tie
 
 abbrev invariant-loop : tie.invariant-loop
-invariant-loop bytes at out₀ i₀ out i = (i ≤ length out) × (length out ≡ length out₀) × (take i out ≡ wordsAt bytes at i)
+invariant-loop bytes at out₀ i₀ out i = (i ≤ length out) × (length out ≡ length out₀) × (take i out ≡ words_at bytes at i)
 
 abbrev decreases-loop : tie.decreases-loop
 decreases-loop bytes at out₀ i₀ out i = length out₀ - i
 
 loop-holds : tie.Need-loop-init invariant-loop decreases-loop
-unfolding wordsAt
+unfolding words_at
 loop-holds c = (omega arith, refl, refl)
 
 mul-word : tie.Need-overflow-mul-word invariant-loop decreases-loop
@@ -52,7 +52,7 @@ same_length : tie.Need-same-length invariant-loop decreases-loop
 same_length c = search rules
 
 returns : tie.Need-returns invariant-loop decreases-loop
-returns c = let l = c.loop-test.false in let e = c.before.loop.invariant.1 in let a = c.before.loop.invariant.0 in let i = c.before.loop.i in let k : i ≡ length c.before.before.before.args.out.now = omega arith in sym (take_all i c.before.loop.out (omega arith)) ∙ c.before.loop.invariant.2 ∙ ap (wordsAt c.before.before.before.args.bytes.now c.before.before.before.args.at) k
+returns c = let l = c.loop-test.false in let e = c.before.loop.invariant.1 in let a = c.before.loop.invariant.0 in let i = c.before.loop.i in let k : i ≡ length c.before.before.before.args.out.now = omega arith in sym (take_all i c.before.loop.out (omega arith)) ∙ c.before.loop.invariant.2 ∙ ap (words_at c.before.before.before.args.bytes.now c.before.before.before.args.at) k
 
 pub words-spec : {M : Type 1} → statement M
 words-spec =

@@ -4,13 +4,13 @@ use native.Mathlib.Omega.{arith}
 use lib.ListN.{length}
 use lib.Seq.{length-take-le}
 use borrow.Author.Rules.{rules}
-use Rattle.program_listing.specs.Listing.{longestLine}
-use Rattle.program_events.specs.Room.{roomText}
+use Rattle.program_listing.specs.Listing.{longest_line}
+use Rattle.program_events.specs.Room.{room_text}
 use Rattle.program_events.proofs.list_events.Statement.{statement}
 use Rattle.program_events.proofs.list_events.Tie as tie
 
 abbrev invariant-loop : tie.invariant-loop
-invariant-loop words answers count done out₀ at₀ i₀ out at i = (length out ≡ length out₀) × (at + longestLine ≤ roomText) × (i ≤ count)
+invariant-loop words answers count done out₀ at₀ i₀ out at i = (length out ≡ length out₀) × (at + longest_line ≤ room_text) × (i ≤ count)
 
 abbrev decreases-loop : tie.decreases-loop
 decreases-loop words answers count done out₀ at₀ i₀ out at i = count - i

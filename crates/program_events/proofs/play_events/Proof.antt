@@ -5,22 +5,22 @@ use mathlib.Core.Path.{◌≡◌, refl, sym, ◌∙◌}
 use native.Mathlib.Omega.{arith}
 use lib.ListN.{length}
 use borrow.Author.Rules.{rules}
-use Rattle.machine.specs.Play.{wordsOfEvent}
+use Rattle.machine.specs.Play.{words_of_event}
 use Rattle.engine_cells.specs.Playing.{Playing}
-use Rattle.machine_lists.specs.Words.{wordsOfAnswer}
-use Rattle.program_input.specs.Input.{roomEvents, bytesOfEvent}
-use Rattle.program_events.specs.Room.{roomText}
+use Rattle.machine_lists.specs.Words.{words_of_answer}
+use Rattle.program_input.specs.Input.{room_events, bytes_of_event}
+use Rattle.program_events.specs.Room.{room_text}
 use Rattle.program_events.proofs.play_events.Statement.{statement}
 use Rattle.program_events.proofs.play_events.Tie as tie
 
 abbrev invariant-loop : tie.invariant-loop
 invariant-loop fd sheet directory cells st₀ spare₀ most events₀ words₀ answers₀ out₀ have₀ done₀ st spare events words answers out have done =
-    Playing sheet directory cells st × (length st ≡ length st₀) × (length spare ≡ length spare₀) × (length events ≡ roomEvents * bytesOfEvent)
-    × (length words ≡ roomEvents * wordsOfEvent) × (length answers ≡ roomEvents * wordsOfAnswer) × (length out ≡ roomText) × (have < bytesOfEvent) × (done ≤ most)
+    Playing sheet directory cells st × (length st ≡ length st₀) × (length spare ≡ length spare₀) × (length events ≡ room_events * bytes_of_event)
+    × (length words ≡ room_events * words_of_event) × (length answers ≡ room_events * words_of_answer) × (length out ≡ room_text) × (have < bytes_of_event) × (done ≤ most)
 
 abbrev decreases-loop : tie.decreases-loop
 decreases-loop fd sheet directory cells st₀ spare₀ most events₀ words₀ answers₀ out₀ have₀ done₀ st spare events words answers out have done =
-    bytesOfEvent * (most - done) - have
+    bytes_of_event * (most - done) - have
 
 loop-holds : tie.Need-loop-init invariant-loop decreases-loop
 loop-holds c = (c.before.requires.0, refl, refl, refl, refl, refl, refl, omega arith, omega arith)

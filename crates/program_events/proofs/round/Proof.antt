@@ -1,7 +1,7 @@
 use mathlib.Core.Path.{sym}
 use lib.Seq.{length-take-le}
 use borrow.Author.Rules.{rules}
-use Rattle.program_events.proofs.Room.{words-room, answers-room}
+use Rattle.program_events.proofs.Room.{words_room, answers_room}
 use Rattle.program_events.proofs.round.Statement.{statement}
 use Rattle.program_events.proofs.round.Tie as tie
 
@@ -18,7 +18,7 @@ slice-aggregate-words : tie.Need-slice-aggregate-words
 slice-aggregate-words c = sym (length-take-le _ _ (slice-relend-prefix-words c.before))
 
 words-requires : tie.Need-words-requires
-words-requires c κs = words-room _ _ _ c.before.before.before.before.requires.words c.before.before.before.before.requires.few c.before.before.before.before.requires.whole
+words-requires c κs = words_room _ _ _ c.before.before.before.before.requires.words c.before.before.before.before.requires.few c.before.before.before.before.requires.whole
 
 slice-reshare-prefix-play-on : tie.Need-slice-reshare-prefix-play-on
 slice-reshare-prefix-play-on c = search rules
@@ -38,7 +38,7 @@ play-on-requires c κs =
     record {
       playing = start.requires.playing;
       spare = start.requires.spare;
-      answers = answers-room _ _ _ (slice-reshare-prefix-play-on c.before.before.before.before) (slice-relend-prefix-play-on c.before);
+      answers = answers_room _ _ _ (slice-reshare-prefix-play-on c.before.before.before.before) (slice-relend-prefix-play-on c.before);
     }
 
 list-events-requires : tie.Need-list-events-requires

@@ -4,7 +4,7 @@ use lib.ListN.{length}
 use mir.Syntax.{w64}
 use mir.Val.{to_z, of_z}
 use borrow.Author.Rules.{rules}
-use Rattle.program_input.proofs.Answers.{clamped-within, failed-none}
+use Rattle.program_input.proofs.Answers.{clamped_within, failed_none}
 use Rattle.program_input.proofs.read_some.Statement.{statement}
 use Rattle.program_input.proofs.read_some.Tie as tie
 
@@ -29,7 +29,7 @@ returns c =
     let read = c.before.before.before.before.before.before.before.read in
     let got = to_z w64 (of_z w64 read.result) in
     let room = length read.new.1.0 in
-    (omega (arith, clamped-within got room), λ f. answered.ensures.0 ∙ failed-none got room (sym answered.ensures.1 ∙ f))
+    (omega (arith, clamped_within got room), λ f. answered.ensures.0 ∙ failed_none got room (sym answered.ensures.1 ∙ f))
 
 same-length-2 : tie.Need-same-length-2
 same-length-2 c = search rules
@@ -40,7 +40,7 @@ returns-2 c =
     let read = c.before.before.before.before.before.read in
     let got = to_z w64 (of_z w64 read.result) in
     let room = length read.new.1.0 in
-    (omega (arith, clamped-within got room), λ f. answered.ensures.0 ∙ failed-none got room (sym answered.ensures.1 ∙ f))
+    (omega (arith, clamped_within got room), λ f. answered.ensures.0 ∙ failed_none got room (sym answered.ensures.1 ∙ f))
 
 pub read-some-spec : {M : Type 1} → statement M
 read-some-spec =

@@ -3,12 +3,12 @@ use mathlib.Core.Path.{◌≡◌, sym, ◌∙◌}
 use native.Mathlib.Omega.{arith}
 use borrow.Author.Rules.{rules}
 use Rattle.engine_words.specs.Words.{number_at}
-use Rattle.program_input.proofs.Answers.{size-cut, size-whole}
+use Rattle.program_input.proofs.Answers.{size_cut, size-whole}
 use Rattle.program_input.proofs.sheet_size.Statement.{statement}
 use Rattle.program_input.proofs.sheet_size.Tie as tie
 
 returns : tie.Need-returns
-returns c = (size-cut _ _ c.if1.true, omega arith)
+returns c = (size_cut _ _ c.if1.true, omega arith)
 
 number-requires : tie.Need-number-requires
 number-requires c κs = search rules

@@ -3,7 +3,7 @@ use native.Mathlib.Omega.{arith}
 use borrow.Author.Rules.{rules}
 use Rattle.program_text.specs.Decimal.{Put, signed}
 use Rattle.program_text.proofs.Laws.{back, put_then}
-use Rattle.program_listing.specs.Listing.{afterText}
+use Rattle.program_listing.specs.Listing.{after_text}
 use Rattle.program_listing.proofs.put_after.Statement.{statement}
 use Rattle.program_listing.proofs.put_after.Tie as tie
 
@@ -17,7 +17,7 @@ same_length : tie.Need-same-length
 same_length c = search rules
 
 returns : tie.Need-returns
-unfolding afterText
+unfolding after_text
 returns c =
     let start = c.before.before.before.before.before.before.before.before.before in
     let put = c.before.before.before.before.before.before.put in

@@ -1,7 +1,7 @@
 use native.Mathlib.Omega.{arith}
 use borrow.Author.Rules.{rules}
 use Rattle.program_text.proofs.Laws.{put_then}
-use Rattle.program_listing.specs.Listing.{countsText}
+use Rattle.program_listing.specs.Listing.{counts_text}
 use Rattle.program_listing.proofs.put_counts.Statement.{statement}
 use Rattle.program_listing.proofs.put_counts.Tie as tie
 
@@ -18,7 +18,7 @@ same_length : tie.Need-same-length
 same_length c = search rules
 
 returns : tie.Need-returns
-unfolding countsText
+unfolding counts_text
 returns c =
     let start = c.before.before.before.before.before.before.before.before.before.before.before.before.before in
     let put-decimal = c.before.before.before.before.before.before.before.before.before.before.put-decimal in

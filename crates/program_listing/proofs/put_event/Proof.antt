@@ -1,7 +1,7 @@
 use native.Mathlib.Omega.{arith}
 use borrow.Author.Rules.{rules}
 use Rattle.program_text.proofs.Laws.{put_then}
-use Rattle.program_listing.specs.Listing.{eventLine}
+use Rattle.program_listing.specs.Listing.{event_line}
 use Rattle.program_listing.proofs.put_event.Statement.{statement}
 use Rattle.program_listing.proofs.put_event.Tie as tie
 
@@ -24,7 +24,7 @@ same_length : tie.Need-same-length
 same_length c = search rules
 
 returns : tie.Need-returns
-unfolding eventLine
+unfolding event_line
 returns c =
     let put2 = c.before.before.put2 in
     let put-handed = c.before.before.before.before.before.before.put-handed in

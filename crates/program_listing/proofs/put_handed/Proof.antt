@@ -2,8 +2,8 @@ use native.Mathlib.Omega.{arith}
 use mathlib.Core.Path.{sym, subst}
 use borrow.Author.Rules.{rules}
 use Rattle.program_text.specs.Decimal.{Put}
-use Rattle.program_text.proofs.Laws.{put_then, put-none}
-use Rattle.program_listing.specs.Listing.{handedText}
+use Rattle.program_text.proofs.Laws.{put_then, put_none}
+use Rattle.program_listing.specs.Listing.{handed_text}
 use Rattle.program_listing.proofs.put_handed.Statement.{statement}
 use Rattle.program_listing.proofs.put_handed.Tie as tie
 
@@ -23,25 +23,25 @@ put-telegram-requires : tie.Need-put-telegram-requires
 put-telegram-requires c κs = search rules
 
 returns : tie.Need-returns
-unfolding handedText
+unfolding handed_text
 returns c =
     let start = c.before.before.before in
     let out = start.args.out.now in
     let at = start.args.at in
-    (subst (λ h. Put out at (handedText h) out at) (sym c.enum_told.given.1) (put-none out at), omega arith)
+    (subst (λ h. Put out at (handed_text h) out at) (sym c.enum_told.given.1) (put_none out at), omega arith)
 
 same_length : tie.Need-same-length
 same_length c = search rules
 
 returns-2 : tie.Need-returns-2
-unfolding handedText
+unfolding handed_text
 returns-2 c =
     let start = c.before.before.before.before.before.before.before.before.before.before.before.before.before in
     let told = c.before.before.before.before.before.before.before.before.before.before.h in
     let put-bytes = c.before.before.before.before.before.before.put-bytes in
     let put-telegram = c.before.before.put-telegram in
     let both = put_then put-bytes.ensures.0 (omega arith) put-telegram.ensures.0 in
-    (subst (λ h. Put start.args.out.now start.args.at (handedText h) put-telegram.new.0 put-telegram.result) (sym told.given.1) both, omega arith)
+    (subst (λ h. Put start.args.out.now start.args.at (handed_text h) put-telegram.new.0 put-telegram.result) (sym told.given.1) both, omega arith)
 
 pub put-handed-spec : {M : Type 1} → statement M
 put-handed-spec =

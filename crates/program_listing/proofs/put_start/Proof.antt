@@ -1,7 +1,7 @@
 use native.Mathlib.Omega.{arith}
 use borrow.Author.Rules.{rules}
 use Rattle.program_text.proofs.Laws.{put_then}
-use Rattle.program_listing.specs.Listing.{startLine}
+use Rattle.program_listing.specs.Listing.{start_line}
 use Rattle.program_listing.proofs.put_start.Statement.{statement}
 use Rattle.program_listing.proofs.put_start.Tie as tie
 
@@ -21,7 +21,7 @@ same_length : tie.Need-same-length
 same_length c = search rules
 
 returns : tie.Need-returns
-unfolding startLine
+unfolding start_line
 returns c =
     let start = c.before.before.before.before.before.before.before.before.before.before.before.before.before.before in
     let put-bytes = c.before.before.before.before.before.before.before.before.before.before.put-bytes in

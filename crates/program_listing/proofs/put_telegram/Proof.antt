@@ -8,7 +8,7 @@ use mir.Val.{to_z, of_z}
 use mir.ValLaws.{to_z-of_z}
 use borrow.Author.Rules.{rules}
 use Rattle.program_text.proofs.Laws.{put_then}
-use Rattle.program_listing.specs.Listing.{telegramText}
+use Rattle.program_listing.specs.Listing.{telegram_text}
 use Rattle.program_listing.proofs.put_telegram.Statement.{statement}
 use Rattle.program_listing.proofs.put_telegram.Tie as tie
 
@@ -70,7 +70,7 @@ same_length c =
     six.put-after6.auto.0 ∙ five.put-after5.auto.0 ∙ four.put-after4.auto.0 ∙ three.put-after3.auto.0 ∙ two.put-after2.auto.0 ∙ one.put-after.auto.0 ∙ signed.put-signed.auto.0
 
 returns : tie.Need-returns
-unfolding telegramText
+unfolding telegram_text
 returns c =
     let six = c.before.before in
     let five = six.before.before.before.before.before in

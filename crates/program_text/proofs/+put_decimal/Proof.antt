@@ -6,7 +6,7 @@ use Prim.Native.Nat.{ℕ, ◌<◌}
 use borrow.Fn.Kinds.{In}
 use borrow.Fn.PlainCycle.{Measures, is, falls, and as joined}
 use Rattle.program_text.specs.Decimal.{Put}
-use Rattle.program_text.proofs.Laws.{put_then, decimal-one, decimal-more, decimal-room}
+use Rattle.program_text.proofs.Laws.{put_then, decimal-one, decimal_more, decimal_room}
 use Rattle.program_text.proofs.put_decimal.Reads as put-decimal
 use Rattle.program_text.proofs.put_decimal.Kinds as put-decimal-kinds
 use Rattle.program_text.proofs.+put_decimal.Lts-put_decimal as put-decimal-lts
@@ -104,7 +104,7 @@ put-decimal-put-requires-2 t c κs =
     let start = c.before.before.before.before.before.before.before in
     let if1 = c.before.before.before.before.before.if1 in
     let put-decimal = c.before.before.before.put-decimal in
-    omega (arith, decimal-room start.args.n if1.false start.ranges.n.fits)
+    omega (arith, decimal_room start.args.n if1.false start.ranges.n.fits)
 
 put-decimal-same-length-2 : (t : ℕ) → put-decimal-lts.Need-same-length-2 (
   put_reads.Asked,
@@ -126,8 +126,8 @@ put-decimal-returns-2 t c =
     let put-decimal = c.before.before.before.before.before.before.put-decimal in
     let put2 = c.before.before.put2 in
     let n = start.args.n in
-    let room = decimal-room n if1.false start.ranges.n.fits in
-    let text = sym (decimal-more n if1.false start.ranges.n.fits) in
+    let room = decimal_room n if1.false start.ranges.n.fits in
+    let text = sym (decimal_more n if1.false start.ranges.n.fits) in
     let both = put_then put-decimal.ensures.0 (omega arith) put2.ensures.0 in
     (subst (λ u. Put start.args.out.now start.args.at u put2.new.0 put2.result) text both, omega arith)
 

@@ -1,6 +1,6 @@
 use mathlib.Core.Path.{ap}
 use lib.IntN.{nat_abs}
-use Rattle.program_text.proofs.Laws.{back, read, turned-fits, turned-counts, turned-back, counts}
+use Rattle.program_text.proofs.Laws.{back, read, turned_fits, turned_counts, turned_back_lem, counts}
 use Rattle.program_text.proofs.magnitude.Statement.{statement}
 use Rattle.program_text.proofs.magnitude.Tie as tie
 
@@ -8,13 +8,13 @@ cast-result : tie.Need-overflow-cast-result
 cast-result c = read c.before.args.z c.before.ranges.z
 
 sub-result : tie.Need-overflow-sub-result
-sub-result c = turned-fits c.before.args.z c.before.ranges.z (rw (back c.before.args.z c.before.ranges.z) at c.if1.true)
+sub-result c = turned_fits c.before.args.z c.before.ranges.z (rw (back c.before.args.z c.before.ranges.z) at c.if1.true)
 
 cast-result-2 : tie.Need-overflow-cast-result-2
-cast-result-2 c = turned-counts c.before.args.z c.before.ranges.z (rw (back c.before.args.z c.before.ranges.z) at c.if1.true)
+cast-result-2 c = turned_counts c.before.args.z c.before.ranges.z (rw (back c.before.args.z c.before.ranges.z) at c.if1.true)
 
 returns : tie.Need-returns
-returns c = ap nat_abs (turned-back c.before.args.z c.before.ranges.z (rw (back c.before.args.z c.before.ranges.z) at c.if1.true))
+returns c = ap nat_abs (turned_back_lem c.before.args.z c.before.ranges.z (rw (back c.before.args.z c.before.ranges.z) at c.if1.true))
 
 cast-result-3 : tie.Need-overflow-cast-result-3
 cast-result-3 c = counts c.before.args.z c.before.ranges.z (rw (back c.before.args.z c.before.ranges.z) at c.if1.false)

@@ -3,7 +3,7 @@ use native.Mathlib.Omega.{arith}
 use lib.IntN.{nat_abs}
 use borrow.Author.Rules.{rules}
 use Rattle.program_text.specs.Decimal.{decimal, Put}
-use Rattle.program_text.proofs.Laws.{back, put_then, signed_below, signed-other}
+use Rattle.program_text.proofs.Laws.{back, put_then, signed_below, signed_other}
 use Rattle.program_text.proofs.put_signed.Statement.{statement}
 use Rattle.program_text.proofs.put_signed.Tie as tie
 
@@ -50,7 +50,7 @@ returns-2 c =
     let put-decimal2 = c.before.before.put-decimal2 in
     let z = start.args.z in
     let e = back z start.ranges.z in
-    let text = ap decimal (magnitude2.ensures ∙ ap nat_abs e) ∙ sym (signed-other z (rw e at if1.false)) in
+    let text = ap decimal (magnitude2.ensures ∙ ap nat_abs e) ∙ sym (signed_other z (rw e at if1.false)) in
     (subst (λ u. Put start.args.out.now start.args.at u put-decimal2.new.0 put-decimal2.result) text put-decimal2.ensures.0, omega arith)
 
 pub put-signed-spec : {M : Type 1} → statement M

@@ -3,7 +3,7 @@ use native.Mathlib.Omega.{arith}
 use lib.ListN.{length}
 use lib.Seq.{length-take-le}
 use borrow.Author.Rules.{rules}
-use Rattle.program_text.proofs.Laws.{room-there, room-made}
+use Rattle.program_text.proofs.Laws.{room_there, room_made}
 use Rattle.program_text.proofs.with_room.Statement.{statement}
 use Rattle.program_text.proofs.with_room.Tie as tie
 
@@ -14,7 +14,7 @@ returns : tie.Need-returns
 returns c =
     let start = c.before.before in
     let h = c.if1.true in
-    (room-there (length start.args.out.now) start.args.at start.args.room (omega arith), omega arith, λ l. refl)
+    (room_there (length start.args.out.now) start.args.at start.args.room (omega arith), omega arith, λ l. refl)
 
 slice-aggregate-write-out : tie.Need-slice-aggregate-write-out
 slice-aggregate-write-out c =
@@ -28,7 +28,7 @@ returns-2 : tie.Need-returns-2
 returns-2 c =
     let start = c.before.before.before.before in
     let h = c.before.before.if1.false in
-    (room-made (length start.args.out.now) start.args.at start.args.room (omega arith), omega arith, λ l. absurd (omega arith))
+    (room_made (length start.args.out.now) start.args.at start.args.room (omega arith), omega arith, λ l. absurd (omega arith))
 
 pub with-room-spec : {M : Type 1} → statement M
 with-room-spec =

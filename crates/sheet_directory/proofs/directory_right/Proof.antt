@@ -9,35 +9,35 @@ use native.Mathlib.Numerals.{add-one}
 use borrow.Author.Tests.{lt-leb, le-leb, eq-eqb, ne_eqb}
 use borrow.Author.Rules.{rules}
 use Rattle.sheet.specs.All.{all_below}
-use Rattle.sheet.specs.Sheet.{offset_of, length_of, start_of, pairRight, directoryRight}
-use Rattle.sheet.proofs.All.{false-and, and-false, and-true, true-and, all_more, all-fails}
+use Rattle.sheet.specs.Sheet.{offset_of, length_of, start_of, pair_right, directory_right}
+use Rattle.sheet.proofs.All.{false-and, and-false, and-true, true-and, all_more, all_fails_lem}
 use Rattle.sheet.proofs.Sheet.{too_short}
 use Rattle.sheet_directory.proofs.directory_right.Statement.{statement}
 use Rattle.sheet_directory.proofs.directory_right.Tie as tie
 
-too_long : (s : List ℕ) → 65535 < length s → false ≡ directoryRight s
-unfolding directoryRight
+too_long : (s : List ℕ) → 65535 < length s → false ≡ directory_right s
+unfolding directory_right
 too_long s h = sym (false-and _ _ (lt-leb _ _ h))
 
 module _ (s : List ℕ) (k start : ℕ) (at : start ≡ start_of s k) where
-  offset-wrong : k < 8 → (x : ℕ) → x ≡ offset_of s k → (x ≡ start → ⊥) → false ≡ directoryRight s
-  unfolding directoryRight pairRight
-  offset-wrong h x e n = sym (and-false _ _ (false-and _ _ (all-fails 8 (pairRight s) k h (false-and _ _ (ne_eqb _ _ (λ q. n (e ∙ q ∙ sym at)))))))
+  offset-wrong : k < 8 → (x : ℕ) → x ≡ offset_of s k → (x ≡ start → ⊥) → false ≡ directory_right s
+  unfolding directory_right pair_right
+  offset-wrong h x e n = sym (and-false _ _ (false-and _ _ (all_fails_lem 8 (pair_right s) k h (false-and _ _ (ne_eqb _ _ (λ q. n (e ∙ q ∙ sym at)))))))
 
-  length-wrong : k < 8 → (x : ℕ) → x ≡ length_of s k → (x % 16 ≡ 0 → ⊥) → false ≡ directoryRight s
-  unfolding directoryRight pairRight
-  length-wrong h x e n = sym (and-false _ _ (false-and _ _ (all-fails 8 (pairRight s) k h (and-false _ _ (ne_eqb _ _ (λ q. n (ap (λ y. y % 16) e ∙ q)))))))
+  length-wrong : k < 8 → (x : ℕ) → x ≡ length_of s k → (x % 16 ≡ 0 → ⊥) → false ≡ directory_right s
+  unfolding directory_right pair_right
+  length-wrong h x e n = sym (and-false _ _ (false-and _ _ (all_fails_lem 8 (pair_right s) k h (and-false _ _ (ne_eqb _ _ (λ q. n (ap (λ y. y % 16) e ∙ q)))))))
 
-  one_more : (x y : ℕ) → x ≡ offset_of s k → y ≡ length_of s k → x ≡ start → y % 16 ≡ 0 → all_below k (pairRight s) ≡ true → (x + y ≡ start_of s (k + 1)) × (all_below (k + 1) (pairRight s) ≡ true)
-  unfolding start_of pairRight
-  one_more x y e f same whole h = (rw (add-one, e, f) refl, all_more k (pairRight s) h (and-true _ _ (eq-eqb _ _ (sym e ∙ same ∙ at)) (eq-eqb _ _ (ap (λ z. z % 16) (sym f) ∙ whole))))
+  one_more : (x y : ℕ) → x ≡ offset_of s k → y ≡ length_of s k → x ≡ start → y % 16 ≡ 0 → all_below k (pair_right s) ≡ true → (x + y ≡ start_of s (k + 1)) × (all_below (k + 1) (pair_right s) ≡ true)
+  unfolding start_of pair_right
+  one_more x y e f same whole h = (rw (add-one, e, f) refl, all_more k (pair_right s) h (and-true _ _ (eq-eqb _ _ (sym e ∙ same ∙ at)) (eq-eqb _ _ (ap (λ z. z % 16) (sym f) ∙ whole))))
 
-  ended : k ≡ 8 → length s ≤ 65535 → all_below k (pairRight s) ≡ true → eqb start (length s) ≡ directoryRight s
-  unfolding directoryRight
+  ended : k ≡ 8 → length s ≤ 65535 → all_below k (pair_right s) ≡ true → eqb start (length s) ≡ directory_right s
+  unfolding directory_right
   ended e l h = rw at (rw e (sym (true-and _ _ (le-leb _ _ l) ∙ true-and _ _ (rw e at h))))
 
 abbrev invariant-loop : tie.invariant-loop
-invariant-loop sheet start₀ k₀ start k = (k ≤ 8) × (start ≡ start_of sheet k) × (all_below k (pairRight sheet) ≡ true)
+invariant-loop sheet start₀ k₀ start k = (k ≤ 8) × (start ≡ start_of sheet k) × (all_below k (pair_right sheet) ≡ true)
 
 abbrev decreases-loop : tie.decreases-loop
 decreases-loop sheet start₀ k₀ start k = 8 - k

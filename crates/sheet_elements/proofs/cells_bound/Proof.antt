@@ -1,7 +1,7 @@
 use native.Mathlib.Omega.{arith}
 use mathlib.Core.Path.{sym, ◌∙◌}
 use borrow.Author.Rules.{rules}
-use Rattle.sheet_elements.proofs.Laws.{no-chart, chart-cells}
+use Rattle.sheet_elements.proofs.Laws.{no_chart_lem, chart-cells}
 use Rattle.sheet_elements.proofs.cells_bound.Statement.{statement}
 use Rattle.sheet_elements.proofs.cells_bound.Tie as tie
 
@@ -15,7 +15,7 @@ enum_told : tie.Need-enum-told
 enum_told c = search rules
 
 returns : tie.Need-returns
-returns c = (λ i at. no-chart _ _ i at (sym c.before.before.chart-bound.ensures ∙ c.enum_told.given.1), omega arith)
+returns c = (λ i at. no_chart_lem _ _ i at (sym c.before.before.chart-bound.ensures ∙ c.enum_told.given.1), omega arith)
 
 cells-before-requires : tie.Need-cells-before-requires
 cells-before-requires c κs = search rules

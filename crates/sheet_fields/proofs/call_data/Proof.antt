@@ -5,18 +5,18 @@ use Prim.Native.Nat.{ℕ, ◌+◌, ◌<◌, ◌≤◌}
 use borrow.Author.Tests.{lt-ltb, le-ltb}
 use borrow.Author.Rules.{rules}
 use Rattle.sheet.specs.declared.Record.{Record}
-use Rattle.sheet_rules.specs.Fields.{field_of, fieldAt, numberOr0}
-use Rattle.sheet_rules.specs.Forms.{calledBody, callData}
+use Rattle.sheet_rules.specs.Fields.{field_of, field_at, number_or0}
+use Rattle.sheet_rules.specs.Forms.{called_body, call_data}
 use Rattle.sheet_fields.proofs.call_data.Statement.{statement}
 use Rattle.sheet_fields.proofs.call_data.Tie as tie
 
-none-called : (s : List ℕ) (c r : Record) → c.f5 ≤ r.f1 → callData s c r ≡ 0
-unfolding callData calledBody numberOr0
-none-called s c r h = rw (callData, calledBody, le-ltb r.f1 c.f5 h) refl
+none-called : (s : List ℕ) (c r : Record) → c.f5 ≤ r.f1 → call_data s c r ≡ 0
+unfolding call_data called_body number_or0
+none-called s c r h = rw (call_data, called_body, le-ltb r.f1 c.f5 h) refl
 
-called : (s : List ℕ) (c r : Record) → r.f1 < c.f5 → callData s c r ≡ fieldAt s 5 (c.f4 + r.f1) 4
-unfolding callData calledBody fieldAt field_of
-called s c r h = rw (callData, calledBody, lt-ltb r.f1 c.f5 h) refl
+called : (s : List ℕ) (c r : Record) → r.f1 < c.f5 → call_data s c r ≡ field_at s 5 (c.f4 + r.f1) 4
+unfolding call_data called_body field_at field_of
+called s c r h = rw (call_data, called_body, lt-ltb r.f1 c.f5 h) refl
 
 returns : tie.Need-returns
 returns c = (sym (none-called _ _ _ c.if1.true), omega arith)

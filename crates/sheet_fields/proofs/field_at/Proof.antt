@@ -1,8 +1,8 @@
 use native.Mathlib.Omega.{arith}
 use mathlib.Core.Path.{sym, ◌∙◌}
 use borrow.Author.Rules.{rules}
-use Rattle.sheet_rules.specs.Fields.{fieldAt}
-use Rattle.sheet_rules.proofs.Fields.{number-present, number-absent}
+use Rattle.sheet_rules.specs.Fields.{field_at}
+use Rattle.sheet_rules.proofs.Fields.{number-present, number_absent}
 use Rattle.sheet_fields.proofs.field_at.Statement.{statement}
 use Rattle.sheet_fields.proofs.field_at.Tie as tie
 
@@ -16,14 +16,14 @@ enum_told : tie.Need-enum-told
 enum_told c = search rules
 
 returns : tie.Need-returns
-unfolding fieldAt
-returns c = (sym (number-absent _ _ (sym c.before.before.read.ensures ∙ c.enum_told.given.1)), omega arith)
+unfolding field_at
+returns c = (sym (number_absent _ _ (sym c.before.before.read.ensures ∙ c.enum_told.given.1)), omega arith)
 
 field-requires : tie.Need-field-requires
 field-requires c κs = search rules
 
 returns-2 : tie.Need-returns-2
-unfolding fieldAt
+unfolding field_at
 returns-2 c = (c.field.ensures.0 ∙ sym (number-present _ _ _ (sym c.before.before.before.before.read.ensures ∙ c.before.before.r.given.1)), c.field.ensures.1)
 
 pub field-at-spec : {M : Type 1} → statement M

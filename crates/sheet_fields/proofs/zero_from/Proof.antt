@@ -7,21 +7,21 @@ use borrow.Author.Tests.{eq-eqb, ne_eqb}
 use borrow.Author.Rules.{rules}
 use Rattle.sheet.specs.declared.Record.{Record}
 use Rattle.sheet.specs.All.{all_below}
-use Rattle.sheet.proofs.All.{all_more, all-fails}
-use Rattle.sheet_rules.specs.Fields.{field_of, zeroFrom}
+use Rattle.sheet.proofs.All.{all_more, all_fails_lem}
+use Rattle.sheet_rules.specs.Fields.{field_of, zero_from}
 use Rattle.sheet_fields.proofs.zero_from.Statement.{statement}
 use Rattle.sheet_fields.proofs.zero_from.Tie as tie
 
 abbrev is_zero : Record → ℕ → ℕ → Bool
 is_zero r n i = eqb (field_of r (n + i)) 0
 
-all-zero : (r : Record) (n k : ℕ) → 8 - n ≡ k → all_below k (is_zero r n) ≡ true → true ≡ zeroFrom n r
-unfolding zeroFrom
+all-zero : (r : Record) (n k : ℕ) → 8 - n ≡ k → all_below k (is_zero r n) ≡ true → true ≡ zero_from n r
+unfolding zero_from
 all-zero r n k e h = sym (rw (e) h)
 
-one-not : (r : Record) (n i x : ℕ) → i < 8 - n → x ≡ field_of r (n + i) → (x ≡ 0 → ⊥) → false ≡ zeroFrom n r
-unfolding zeroFrom
-one-not r n i x l e h = sym (all-fails (8 - n) (is_zero r n) i l (ne_eqb _ _ (λ z. h (e ∙ z))))
+one-not : (r : Record) (n i x : ℕ) → i < 8 - n → x ≡ field_of r (n + i) → (x ≡ 0 → ⊥) → false ≡ zero_from n r
+unfolding zero_from
+one-not r n i x l e h = sym (all_fails_lem (8 - n) (is_zero r n) i l (ne_eqb _ _ (λ z. h (e ∙ z))))
 
 abbrev invariant-loop : tie.invariant-loop
 invariant-loop r n i₀ i = (n < 8) × (i ≤ 8 - n) × (all_below i (is_zero r n) ≡ true)

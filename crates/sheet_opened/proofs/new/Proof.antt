@@ -43,7 +43,7 @@ use denote.Triple.Table.{entered, cited}
 use denote.Triple.Walked.{says, Stays, stay_none_slice, walk_of, Goes-none_slice, Walks, ends_at, walked, walk_Meets}
 use denote.Exit.{yes}
 use denote.Triple.Clauses.{ensured, lasts}
-use Rattle.sheet.specs.Sheet.{directoryOf}
+use Rattle.sheet.specs.Sheet.{directory_of}
 use Rattle.sheet_opened.specs.declared.Reader.{Reader}
 use Rattle.sheet_opened.specs.contracts.Reader as T
 use Rattle.sheet_reader.specs.contracts.directory as directory
@@ -101,10 +101,10 @@ module _ {M : Type 1} {𝓤 : Ura M} (𝓛 : Logic 𝓤) (mem : Memory → SProp
       move ! (1 ∷ []) $ fsplit ! $ use1 𝓛 (‵ Own ⊛ ‵ Own) ((shr_slice_copy 𝓛 (named 0) κ u8).twice s (v ∷ [])) $ split ! $
       move ! (0 ∷ 2 ∷ []) $ fjoin ! $ move ! (2 ∷ 0 ∷ []) $ use2 𝓛 (raw ((Directory 𝓛 mem run).pre to)) (qed 𝓛 ((‵ (flft κ q) ⊛ ‵ ftrue) ∷ ‵ (owns (ShrSlice (named 0) κ u8 ∷ []) (s, tt) (v ∷ [], tt)) ∷ []) ∵ join ! $ frame ! $ done !) $ frame ! $ done !
 
-  said : (ds : List ℕ) → ent 𝓤 (ensured 𝓛 directory.ended (directory.clauses 𝓛 mem run) (κ, tt) (s, tt) tt ds) (fact 𝓤 (ds ≡ directoryOf s.now))
-  said ds = ex_e 𝓤 _ (λ ws. snd∗ 𝓤 (sem 𝓛 (lasts directory.ended (κ, tt) (s, tt) ws)) (fact 𝓤 (ds ≡ directoryOf s.now)))
+  said : (ds : List ℕ) → ent 𝓤 (ensured 𝓛 directory.ended (directory.clauses 𝓛 mem run) (κ, tt) (s, tt) tt ds) (fact 𝓤 (ds ≡ directory_of s.now))
+  said ds = ex_e 𝓤 _ (λ ws. snd∗ 𝓤 (sem 𝓛 (lasts directory.ended (κ, tt) (s, tt) ws)) (fact 𝓤 (ds ≡ directory_of s.now)))
 
-  exits : (ds : List ℕ) (u : Val) → ds ≡ directoryOf s.now → ent 𝓤 (⋆ 𝓛 (‵ (Dir.own_val ds (u ∷ [])) ∷ (‵ (flft κ q) ⊛ ‵ ftrue) ∷ ‵ Own ∷ [])) (Post (mach u))
+  exits : (ds : List ℕ) (u : Val) → ds ≡ directory_of s.now → ent 𝓤 (⋆ 𝓛 (‵ (Dir.own_val ds (u ∷ [])) ∷ (‵ (flft κ q) ⊛ ‵ ftrue) ∷ ‵ Own ∷ [])) (Post (mach u))
   exits ds u e =
       qed 𝓛 (‵ (Dir.own_val ds (u ∷ [])) ∷ (‵ (flft κ q) ⊛ ‵ ftrue) ∷ ‵ Own ∷ []) ∵
       suffices ! _ (ends_at 𝓛 new.ended stayed (new.clauses 𝓛 mem run) (((κ, tt), (q, tt), tt, (s, tt), (v ∷ [], tt)), tt) (mach u) (made ds) (tt, tt) (tt, tt)) $ says ! (refl, e) $
@@ -123,7 +123,7 @@ module _ {M : Type 1} {𝓤 : Ura M} (𝓛 : Logic 𝓤) (mem : Memory → SProp
         move ! (6 ∷ []) $ use1 𝓛 (raw ((Directory 𝓛 mem run).pre to) ⊛ ‵ Own) goes $ split ! $
         calls_at ! fm (Directory 𝓛 mem run) known to (and_then ! (load ! (from ! (stop !)) (look ! 4 refl)) (no_more !)) (λ u.
         use1 𝓛 (later (some (λ (ds : List ℕ). ((‵ (flft κ q) ⊛ ‵ ftrue) ⊛ ‵ (Dir.own_val ds (u ∷ []))) ⊛ raw (ensured 𝓛 directory.ended (directory.clauses 𝓛 mem run) (κ, tt) (s, tt) tt ds)))) (id⊢ 𝓤 _) $ await ! tt $ pick ! (λ ds.
-        split ! $ move ! (1 ∷ []) $ use1 𝓛 (raw (fact 𝓤 (ds ≡ directoryOf s.now))) (said ds) $ heard ! (ds ≡ directoryOf s.now) (λ e. split ! $ move ! (1 ∷ []) $
+        split ! $ move ! (1 ∷ []) $ use1 𝓛 (raw (fact 𝓤 (ds ≡ directory_of s.now))) (said ds) $ heard ! (ds ≡ directory_of s.now) (λ e. split ! $ move ! (1 ∷ []) $
         -- [what the directory owns; the token; what s owns; room for _2; …; _1; …; room for _0; …]
         peeks ! Dir (Is Dir) (shows 𝓛 Dir) ds (u ∷ []) (λ is.
         let wd = ((Array-Lawful 𝓛 usize (uint_Lawful 𝓛 w64) 16).typed ds (u ∷ []) is).0 in

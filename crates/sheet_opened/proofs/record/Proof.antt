@@ -38,7 +38,7 @@ use denote.Triple.Table.{entered, cited}
 use denote.Triple.Walked.{says, Stays, stay_none, stay_none_slice, walk_of, Goes-none, Goes-none_slice, Walks, ends_at, walked, walk_Meets}
 use denote.Exit.{yes}
 use denote.Triple.Clauses.{ensured, lasts}
-use Rattle.sheet.specs.Sheet.{directoryOf, recordOf}
+use Rattle.sheet.specs.Sheet.{directory_of, record_of}
 use Rattle.sheet.specs.declared.Found.{Found}
 use Rattle.sheet.specs.contracts.Found as S
 use Rattle.sheet.proofs.Found.TheLaws as S'
@@ -81,7 +81,7 @@ module _ {M : Type 1} {𝓤 : Ura M} (𝓛 : Logic 𝓤) (mem : Memory → SProp
   v = slice_val s.ref_ptr (length s.now)
 
   abbrev found : Found
-  found = recordOf s.now k n
+  found = record_of s.now k n
 
   -- the struct's type as a local of a body has it
   abbrev αᵉ : NamedLft
@@ -111,7 +111,7 @@ module _ {M : Type 1} {𝓤 : Ura M} (𝓛 : Logic 𝓤) (mem : Memory → SProp
 
   -- what `new` ensures
   abbrev Opened : Reader → Type 0
-  Opened r = (r.sheet ≡ s) × (r.directory ≡ directoryOf s.now)
+  Opened r = (r.sheet ≡ s) × (r.directory ≡ directory_of s.now)
 
   new-said : (r : Reader) → ent 𝓤 (ensured 𝓛 new.ended (new.clauses 𝓛 mem run) (κ, tt) (s, tt) tt r) (fact 𝓤 (Opened r))
   new-said r = ex_e 𝓤 _ (λ ws. snd∗ 𝓤 (sem 𝓛 (lasts new.ended (κ, tt) (s, tt) ws)) (fact 𝓤 (Opened r)))
@@ -122,11 +122,11 @@ module _ {M : Type 1} {𝓤 : Ura M} (𝓛 : Logic 𝓤) (mem : Memory → SProp
 
   goes-record-of : (r : Reader) (u : Val) → Opened r → ent 𝓤 (⋆ 𝓛 (‵ ((B (κ, tt)).own_val r (u ∷ [])) ∷ (‵ (flft κ q) ⊛ ‵ ftrue) ∷ [])) ((RecordOf 𝓛 mem run).pre (to-record-of r u))
   goes-record-of r u e =
-      qed 𝓛 (‵ ((B (κ, tt)).own_val r (u ∷ [])) ∷ (‵ (flft κ q) ⊛ ‵ ftrue) ∷ []) ∵ says ! (e.1 ∙ ap (λ (x : Bor (List ℕ)). directoryOf x.now) (sym e.0)) $
+      qed 𝓛 (‵ ((B (κ, tt)).own_val r (u ∷ [])) ∷ (‵ (flft κ q) ⊛ ‵ ftrue) ∷ []) ∵ says ! (e.1 ∙ ap (λ (x : Bor (List ℕ)). directory_of x.now) (sym e.0)) $
       nothing ! $ owned ! usize (Is usize) (uint_Makes 𝓛 w64) n _ (refl, n-fits) $ fjoin ! $ owned ! usize (Is usize) (uint_Makes 𝓛 w64) k _ (refl, k-fits) $ fjoin ! $ move ! (1 ∷ 0 ∷ []) $ fjoin ! $ move ! (1 ∷ 0 ∷ []) $ frame ! $ done !
 
-  record-of-said : (r : Reader) (t : Found) → ent 𝓤 (ensured 𝓛 record_of.ended (record_of.clauses 𝓛 mem run) (κ, tt) (r, (k, (n, tt))) tt t) (fact 𝓤 (t ≡ recordOf r.sheet.now k n))
-  record-of-said r t = ex_e 𝓤 _ (λ ws. snd∗ 𝓤 (sem 𝓛 (lasts record_of.ended (κ, tt) (r, (k, (n, tt))) ws)) (fact 𝓤 (t ≡ recordOf r.sheet.now k n)))
+  record-of-said : (r : Reader) (t : Found) → ent 𝓤 (ensured 𝓛 record_of.ended (record_of.clauses 𝓛 mem run) (κ, tt) (r, (k, (n, tt))) tt t) (fact 𝓤 (t ≡ record_of r.sheet.now k n))
+  record-of-said r t = ex_e 𝓤 _ (λ ws. snd∗ 𝓤 (sem 𝓛 (lasts record_of.ended (κ, tt) (r, (k, (n, tt))) ws)) (fact 𝓤 (t ≡ record_of r.sheet.now k n)))
 
   exits : (t : Found) (u : Val) → t ≡ found → ent 𝓤 (⋆ 𝓛 (‵ ((S.the_row).own_val t (u ∷ [])) ∷ (‵ (flft κ q) ⊛ ‵ ftrue) ∷ ‵ Own ∷ [])) (Post u)
   exits t u e =
@@ -151,13 +151,13 @@ module _ {M : Type 1} {𝓤 : Ura M} (𝓛 : Logic 𝓤) (mem : Memory → SProp
         use2 𝓛 (raw ((RecordOf 𝓛 mem run).pre (to-record-of r u))) (goes-record-of r u e) $
         calls_at ! fm (RecordOf 𝓛 mem run) known-record-of (to-record-of r u) (and_then ! (load ! (from ! (stop !)) (look ! 2 refl)) (and_then ! (load ! (from ! (stop !)) (look ! 6 refl)) (and_then ! (load ! (from ! (stop !)) (look ! 4 refl)) (no_more !)))) (λ u'.
         use1 𝓛 (later (some (λ (t : Found). ((‵ (flft κ q) ⊛ ‵ ftrue) ⊛ ‵ ((S.the_row).own_val t (u' ∷ []))) ⊛ raw (ensured 𝓛 record_of.ended (record_of.clauses 𝓛 mem run) (κ, tt) (r, (k, (n, tt))) tt t)))) (id⊢ 𝓤 _) $ await ! tt $ pick ! (λ t.
-        split ! $ move ! (1 ∷ []) $ use1 𝓛 (raw (fact 𝓤 (t ≡ recordOf r.sheet.now k n))) (record-of-said r t) $ heard ! (t ≡ recordOf r.sheet.now k n) (λ e'. split ! $ move ! (1 ∷ []) $
+        split ! $ move ! (1 ∷ []) $ use1 𝓛 (raw (fact 𝓤 (t ≡ record_of r.sheet.now k n))) (record-of-said r t) $ heard ! (t ≡ record_of r.sheet.now k n) (λ e'. split ! $ move ! (1 ∷ []) $
         -- [the result; the token; what s owns; _4; …; _3; …; _2; …; _1; …; room for _0; …]
         peeks ! S.the_row (Is S.the_row) (shows 𝓛 S.the_row) t (u' ∷ []) (λ is'.
         land ! (from ! (stop !)) (init ! 11 refl ((EL.lawful S.the_type S'.the_laws 𝓛 tt).typed t _ is').0) $
         returns ! (look ! 11 refl) $ forget ! 3 refl $ forget ! 5 refl $ forget ! 7 refl $ forget ! 9 refl $ forget ! 11 refl $
         move ! (11 ∷ 12 ∷ []) $ free1 ! $ move ! (9 ∷ 10 ∷ []) $ free1 ! $ move ! (7 ∷ 8 ∷ []) $ free1 ! $ move ! (5 ∷ 6 ∷ []) $ free1 ! $ move ! (3 ∷ 4 ∷ []) $ free1 ! $ free0 ! $
-        by ! (exits t u' (e' ∙ ap (λ (x : Bor (List ℕ)). recordOf x.now k n) e.0)))))))))))))))
+        by ! (exits t u' (e' ∙ ap (λ (x : Bor (List ℕ)). record_of x.now k n) e.0)))))))))))))))
 
 module _ {M : Type 1} {𝓤 : Ura M} (𝓛 : Logic 𝓤) (mem : Memory → SProp 𝓤) (run : Routine → Fun 𝓤) where
   open 𝓛 use {H}

@@ -49,7 +49,7 @@ use denote.Triple.Table.{entered, cited}
 use denote.Triple.Walked.{says, needs, Stays, stay_none, walk_of, Goes-none, Walks, ends_at, walked, walk_Meets}
 use denote.Exit.{yes}
 use denote.Triple.Clauses.{ensured, lasts}
-use Rattle.sheet.specs.Sheet.{directoryOf, recordOf}
+use Rattle.sheet.specs.Sheet.{directory_of, record_of}
 use Rattle.sheet.specs.declared.Found.{Found}
 use Rattle.sheet.specs.contracts.Found as S
 use Rattle.sheet.proofs.Found.TheLaws as S'
@@ -83,7 +83,7 @@ module _ {M : Type 1} {𝓤 : Ura M} (𝓛 : Logic 𝓤) (mem : Memory → SProp
   abbrev Read : Contract 𝓤
   Read = triple_of 𝓛 read.signature (read.spec 𝓛 mem run)
 
-module _ {M : Type 1} {𝓤 : Ura M} (𝓛 : Logic 𝓤) (mem : Memory → SProp 𝓤) (run : Routine → Fun 𝓤) (κ : Lft) (q : Share) (d : Reader) (k n : ℕ) (k-fits : k < 2 ^ 64) (n-fits : n < 2 ^ 64) (ok : d.directory ≡ directoryOf d.sheet.now) where
+module _ {M : Type 1} {𝓤 : Ura M} (𝓛 : Logic 𝓤) (mem : Memory → SProp 𝓤) (run : Routine → Fun 𝓤) (κ : Lft) (q : Share) (d : Reader) (k n : ℕ) (k-fits : k < 2 ^ 64) (n-fits : n < 2 ^ 64) (ok : d.directory ≡ directory_of d.sheet.now) where
   -- the list at which the array stands as a field
   open 𝓛 use {H}
 
@@ -101,7 +101,7 @@ module _ {M : Type 1} {𝓤 : Ura M} (𝓛 : Logic 𝓤) (mem : Memory → SProp
   mach = vstruct (vcons v (vcons dv vnil))
 
   abbrev found : Found
-  found = recordOf d.sheet.now k n
+  found = record_of d.sheet.now k n
 
   abbrev a : Args record_of.signature (κ, tt)
   a = (d, (k, (n, tt)))
@@ -234,7 +234,7 @@ module _ {M : Type 1} {𝓤 : Ura M} (𝓛 : Logic 𝓤) (mem : Memory → SProp
       → Walks 𝓛 record_of.ended stayed (WpFn 𝓤 H C Λ code.function) (record_of.clauses 𝓛 mem run)
   record-of-walks C Λ fm known = walked 𝓛 record_of.ended stayed (record_of.clauses 𝓛 mem run) (WpFn 𝓤 H C Λ code.function)
       (λ κs. (LL.vals (T.the_type (named_lft 1 0 tt κs)) (T'.the_laws (named_lft 1 0 tt κs)), (uint_vals w64, (uint_vals w64, tt)))) (λ κs. (LL.tells (T.the_type (named_lft 1 0 tt κs)) (T'.the_laws (named_lft 1 0 tt κs)), (uint_Tells w64, (uint_Tells w64, tt))))
-      (λ κs qs bounds a g are. needs 𝓤 (a.0.directory ≡ directoryOf a.0.sheet.now) _ (λ ok.
+      (λ κs qs bounds a g are. needs 𝓤 (a.0.directory ≡ directory_of a.0.sheet.now) _ (λ ok.
       walk 𝓛 mem run κs.0 qs.0 a.0 a.1.0 a.1.1.0 are.1.0.1 are.1.1.0.1 ok C Λ fm known are.0))
 
 record-of-meets : {M : Type 1} {𝓤 : Ura M} (𝓛 : Logic 𝓤) (mem : Memory → SProp 𝓤) (run : Routine → Fun 𝓤) (𝓣 : Tables 𝓤 𝓛.H)

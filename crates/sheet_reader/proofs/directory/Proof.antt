@@ -8,15 +8,15 @@ use native.Mathlib.Decide.{dec_lt}
 use lib.ListN.{length, get_or, set, length-set}
 use lib.Seq.{get_or-set_same, get_or-set_other}
 use borrow.Author.Rules.{rules}
-use Rattle.sheet.specs.Sheet.{offset_of, length_of, directoryRight, count_of}
-use Rattle.sheet.proofs.Sheet.{directory-wrong, directory-is, directory-inside, count-right}
+use Rattle.sheet.specs.Sheet.{offset_of, length_of, directory_right, count_of}
+use Rattle.sheet.proofs.Sheet.{directory_wrong, directory_is, directory-inside, count-right}
 use Rattle.sheet_reader.proofs.directory.Statement.{statement}
 use Rattle.sheet_reader.proofs.directory.Tie as tie
 
 abbrev Entries : List ℕ → List ℕ → ℕ → Type 0
 Entries s d k = (j : ℕ) → j < k → (get_or d (2 * j) 0 ≡ offset_of s j) × (get_or d (2 * j + 1) 0 ≡ count_of s j)
 
-entries-more : (s d : List ℕ) (k o c x y : ℕ) → o ≡ 2 * k → c ≡ 2 * k + 1 → directoryRight s ≡ true → k < 8 → length d ≡ 16 → Entries s d k → x ≡ offset_of s k → y ≡ length_of s k → Entries s (set (set d o x) c (y / 16)) (k + 1)
+entries-more : (s d : List ℕ) (k o c x y : ℕ) → o ≡ 2 * k → c ≡ 2 * k + 1 → directory_right s ≡ true → k < 8 → length d ≡ 16 → Entries s d k → x ≡ offset_of s k → y ≡ length_of s k → Entries s (set (set d o x) c (y / 16)) (k + 1)
 entries-more s d k o c x y at₀ at₁ right h l e p q j b = elim (dec_lt j k) [
   | yes lt ↦ (other (2 * j) (λ z. omega arith) (λ z. omega arith) ∙ (e j lt).0, other (2 * j + 1) (λ z. omega arith) (λ z. omega arith) ∙ (e j lt).1)
   | no ge ↦ (let same : j ≡ k = omega arith in rw (same, ← at₁, ← at₀) (
@@ -100,10 +100,10 @@ loop-again c =
     )
 
 returns : tie.Need-returns invariant-loop decreases-loop
-returns c = directory-is _ (sym c.before.before.before.directory-right.ensures ∙ c.before.before.if1.true) _ c.before.loop.invariant.2 (λ k h. c.before.loop.invariant.3 k (omega arith))
+returns c = directory_is _ (sym c.before.before.before.directory-right.ensures ∙ c.before.before.if1.true) _ c.before.loop.invariant.2 (λ k h. c.before.loop.invariant.3 k (omega arith))
 
 returns-2 : tie.Need-returns-2 invariant-loop decreases-loop
-returns-2 c = sym (directory-wrong _ (sym c.before.directory-right.ensures ∙ c.if1.false))
+returns-2 c = sym (directory_wrong _ (sym c.before.directory-right.ensures ∙ c.if1.false))
 
 pub directory-spec : {M : Type 1} → statement M
 directory-spec =

@@ -1,5 +1,5 @@
 use borrow.Author.Rules.{rules}
-use Rattle.sheet.specs.Sheet.{recordAt}
+use Rattle.sheet.specs.Sheet.{record_at}
 use Rattle.sheet_reader.proofs.fields_at.Statement.{statement}
 use Rattle.sheet_reader.proofs.fields_at.Tie as tie
 
@@ -49,7 +49,7 @@ word-at-requires-8 : tie.Need-word-at-requires-8
 word-at-requires-8 c κs = search rules
 
 returns : tie.Need-returns
-unfolding recordAt
+unfolding record_at
 returns c = λ i. record { f0 = c.before.before.before.before.before.before.before.word_at.ensures i; f1 = c.before.before.before.before.before.before.word-at2.ensures i; f2 = c.before.before.before.before.before.word-at3.ensures i; f3 = c.before.before.before.before.word-at4.ensures i; f4 = c.before.before.before.word-at5.ensures i; f5 = c.before.before.word-at6.ensures i; f6 = c.before.word-at7.ensures i; f7 = c.word-at8.ensures i }
 
 pub fields-at-spec : {M : Type 1} → statement M

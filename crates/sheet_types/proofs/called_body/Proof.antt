@@ -1,11 +1,11 @@
 use mathlib.Core.Path.{◌∙◌}
 use borrow.Author.Rules.{rules}
-use Rattle.sheet_types.proofs.Laws.{called-past, called-there}
+use Rattle.sheet_types.proofs.Laws.{called_past, called-there}
 use Rattle.sheet_types.proofs.called_body.Statement.{statement}
 use Rattle.sheet_types.proofs.called_body.Tie as tie
 
 returns : tie.Need-returns
-returns c = called-past _ _ _ c.if1.true
+returns c = called_past _ _ _ c.if1.true
 
 cast-read : tie.Need-overflow-cast-read
 cast-read c = search rules

@@ -1,7 +1,7 @@
 use native.Mathlib.Omega.{arith}
 use mathlib.Core.Path.{sym, ◌∙◌}
 use borrow.Author.Rules.{rules}
-use Rattle.sheet_types.proofs.Laws.{parameters-present, parameters-absent}
+use Rattle.sheet_types.proofs.Laws.{parameters-present, parameters_absent}
 use Rattle.sheet_types.proofs.called_range.Statement.{statement}
 use Rattle.sheet_types.proofs.called_range.Tie as tie
 
@@ -15,7 +15,7 @@ enum_told : tie.Need-enum-told
 enum_told c = search rules
 
 returns : tie.Need-returns
-returns c = (parameters-absent _ (sym c.before.before.called-body.ensures ∙ c.enum_told.given.1), omega arith, omega arith)
+returns c = (parameters_absent _ (sym c.before.before.called-body.ensures ∙ c.enum_told.given.1), omega arith, omega arith)
 
 cast-t7 : tie.Need-overflow-cast-t7
 cast-t7 c = search rules

@@ -1,7 +1,7 @@
 use mathlib.Core.Path.{sym, ◌∙◌}
 use borrow.Author.Rules.{rules}
-use Rattle.sheet_rules.proofs.Fields.{holds-present, holds-absent}
-use Rattle.sheet_rules.specs.Types.{hasClass}
+use Rattle.sheet_rules.proofs.Fields.{holds-present, holds_absent}
+use Rattle.sheet_rules.specs.Types.{has_class}
 use Rattle.sheet_types.proofs.has_class.Statement.{statement}
 use Rattle.sheet_types.proofs.has_class.Tie as tie
 
@@ -15,11 +15,11 @@ enum_told : tie.Need-enum-told
 enum_told c = search rules
 
 returns : tie.Need-returns
-unfolding hasClass
-returns c = sym (holds-absent _ _ (sym c.before.before.read.ensures ∙ c.enum_told.given.1))
+unfolding has_class
+returns c = sym (holds_absent _ _ (sym c.before.before.read.ensures ∙ c.enum_told.given.1))
 
 returns-2 : tie.Need-returns-2
-unfolding hasClass
+unfolding has_class
 returns-2 c = sym (holds-present _ _ _ (sym c.before.before.before.before.read.ensures ∙ c.before.before.r.given.1))
 
 pub has-class-spec : {M : Type 1} → statement M

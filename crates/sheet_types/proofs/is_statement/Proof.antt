@@ -1,5 +1,5 @@
 use borrow.Author.Rules.{rules}
-use Rattle.sheet_rules.specs.Types.{isStatement}
+use Rattle.sheet_rules.specs.Types.{is_statement}
 use Rattle.sheet_types.proofs.is_statement.Statement.{statement}
 use Rattle.sheet_types.proofs.is_statement.Tie as tie
 
@@ -13,15 +13,15 @@ enum-told-3 : tie.Need-enum-told-3
 enum-told-3 c = search rules
 
 returns : tie.Need-returns
-unfolding isStatement
+unfolding is_statement
 returns c = search rules
 
 returns-2 : tie.Need-returns-2
-unfolding isStatement
+unfolding is_statement
 returns-2 c = search rules
 
 returns-3 : tie.Need-returns-3
-unfolding isStatement
+unfolding is_statement
 returns-3 c = search rules
 
 pub is-statement-spec : {M : Type 1} → statement M

@@ -1,7 +1,7 @@
 use native.Mathlib.Omega.{arith}
 use mathlib.Core.Path.{sym, ◌∙◌}
 use borrow.Author.Rules.{rules}
-use Rattle.sheet_types.proofs.Laws.{range-present, range-absent}
+use Rattle.sheet_types.proofs.Laws.{range-present, range_absent}
 use Rattle.sheet_types.proofs.name_range.Statement.{statement}
 use Rattle.sheet_types.proofs.name_range.Tie as tie
 
@@ -15,7 +15,7 @@ enum_told : tie.Need-enum-told
 enum_told c = search rules
 
 returns : tie.Need-returns
-returns c = (range-absent _ _ (sym c.before.before.read.ensures ∙ c.enum_told.given.1), omega arith, omega arith)
+returns c = (range_absent _ _ (sym c.before.before.read.ensures ∙ c.enum_told.given.1), omega arith, omega arith)
 
 cast-t6 : tie.Need-overflow-cast-t6
 cast-t6 c = search rules

@@ -1,5 +1,5 @@
 use borrow.Author.Rules.{rules}
-use Rattle.sheet_rules.specs.Fields.{field_of, fieldAt, type_at}
+use Rattle.sheet_rules.specs.Fields.{field_of, field_at, type_at}
 use Rattle.sheet_types.proofs.type_at.Statement.{statement}
 use Rattle.sheet_types.proofs.type_at.Tie as tie
 
@@ -7,7 +7,7 @@ field-at-requires : tie.Need-field-at-requires
 field-at-requires c κs = search rules
 
 returns : tie.Need-returns
-unfolding fieldAt field_of type_at
+unfolding field_at field_of type_at
 returns c = c.field_at.ensures.0
 
 pub type-at-spec : {M : Type 1} → statement M

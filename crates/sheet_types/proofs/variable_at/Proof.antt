@@ -1,5 +1,5 @@
 use borrow.Author.Rules.{rules}
-use Rattle.sheet_types.proofs.Laws.{variable-0, variable-1, variable-parameter, variable-local}
+use Rattle.sheet_types.proofs.Laws.{variable_0, variable_1, variable_parameter, variable_local}
 use Rattle.sheet_types.proofs.variable_at.Statement.{statement}
 use Rattle.sheet_types.proofs.variable_at.Tie as tie
 
@@ -34,16 +34,16 @@ add-result-4 : tie.Need-overflow-add-result-4
 add-result-4 c = search rules
 
 returns : tie.Need-returns
-returns c = variable-0 _ _ _ _ c.before.match.keys1
+returns c = variable_0 _ _ _ _ c.before.match.keys1
 
 returns-2 : tie.Need-returns-2
-returns-2 c = variable-1 _ _ _ _ c.before.match.keys2
+returns-2 c = variable_1 _ _ _ _ c.before.match.keys2
 
 returns-3 : tie.Need-returns-3
-returns-3 c = variable-parameter _ _ _ _ c.before.before.before.match.rest.0.1 c.before.before.before.match.rest.1 c.before.if1.true
+returns-3 c = variable_parameter _ _ _ _ c.before.before.before.match.rest.0.1 c.before.before.before.match.rest.1 c.before.if1.true
 
 returns-4 : tie.Need-returns-4
-returns-4 c = variable-local _ _ _ _ c.before.before.before.before.match.rest.0.1 c.before.before.before.before.match.rest.1 c.before.before.if1.false
+returns-4 c = variable_local _ _ _ _ c.before.before.before.before.match.rest.0.1 c.before.before.before.before.match.rest.1 c.before.before.if1.false
 
 pub variable-at-spec : {M : Type 1} → statement M
 variable-at-spec =
