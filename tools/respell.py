@@ -119,12 +119,12 @@ def main():
     bare = re.compile(r"(?<![\w'\-◌.])" + one_of(again) + r"(?![\w'\-◌])") if again else None
     for f in files("crates/**/*.antt") + files("crates/*/src/**/*.rt"):
         text = new = open(f, encoding="utf-8").read()
-        if f.endswith(".rt") or re.search(r"/proofs/[^/]+/", f):
-            new = respell_walk(text, out, again)
-        else:
-            new = anywhere.sub(lambda m: out[m.group(1)], new)
         if bare and f.endswith(".antt"):
             new = bare.sub(lambda m: out[m.group(1)], new)
+        if f.endswith(".rt") or re.search(r"/proofs/[^/]+/", f):
+            new = respell_walk(new, out, again)
+        else:
+            new = anywhere.sub(lambda m: out[m.group(1)], new)
         if new != text:
             open(f, "w", encoding="utf-8").write(new)
     spelled = {out.get(n, n) for n in names}

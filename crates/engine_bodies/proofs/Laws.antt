@@ -22,7 +22,7 @@ use Rattle.sheet_rules.specs.Indices.{cells_before}
 use Rattle.sheet_rules.specs.Shape.{chart_shape, tree_shape, body_shape}
 use Rattle.sheet_rules.specs.Types.{type_of}
 use Rattle.sheet_rules.specs.Static.{body_static}
-use Rattle.machine.specs.Values.{in_type, is_bound_lem, binding_at, first_cell}
+use Rattle.machine.specs.Values.{in_type, is_bound, binding_at, first_cell}
 use Rattle.machine.specs.Eval.{Context}
 use Rattle.machine.specs.Run.{World, world, datum, locals_of, run_of}
 use Rattle.machine.specs.Play.{ended, answer, limit_of, ran_body, event_end, body_event}
@@ -58,11 +58,11 @@ module _ {s directory table : List ℕ} {st : List ℤ} {e n : ℕ} {c : Record}
   called = h.called
 
   pub not_external : externals_of s ≤ e
-  unfolding is_bound_lem
+  unfolding is_bound
   not_external = leb-true _ _ (and_first _ _ called.element.bound)
 
   pub few-elements : e < 64
-  unfolding is_bound_lem
+  unfolding is_bound
   few-elements = let l : e < components_of s = ltb-true _ _ (and_second _ _ called.element.bound) in omega (arith, components_limit s ok)
 
   pub few-cells : (chart_variables c).count ≤ 32

@@ -22,7 +22,7 @@ use Rattle.sheet_rules.specs.Shape.{chart_shape, cells_bound, cells_of}
 use Rattle.sheet_rules.specs.Check.{check_of}
 use Rattle.sheet_rules.proofs.Fields.{holds-present, holds_absent, number-present, sum_more}
 use Rattle.sheet_rules.proofs.Bindings.{behind-chart, first_next}
-use Rattle.machine.specs.Values.{is_bound_lem, binding_at, chart_of, first_cell}
+use Rattle.machine.specs.Values.{is_bound, binding_at, chart_of, first_cell}
 use Rattle.machine_passed.proofs.Records.{elements-rest, components_limit, two_externals, chart-shape, one_record}
 use Rattle.machine_passed.proofs.Charts.{number_bound, bound-element, chart_of_lem, element-chart, chart-element}
 use Rattle.sheet_rules.proofs.Sums.{sum_rises}
@@ -54,9 +54,9 @@ module _ (s : List ℕ) (ok : check_of s ≡ Passed) where
   chart_variables_lem e c p = let x = chart-element s e c p in leb-true _ _ (and_first _ _ (and_second _ _ (and_second _ _ (and_second _ _ (chart-shape s ok (bound_chart x.0) c x.1.chart)))))
 
   -- element e has a row, and its chart is the one that its first record names
-  module _ (e : ℕ) (h : is_bound_lem s e ≡ true) where
+  module _ (e : ℕ) (h : is_bound s e ≡ true) where
     pub row_below : (externals_of s ≤ e) × (e < externals_of s + 64)
-    unfolding is_bound_lem
+    unfolding is_bound
     row_below = (leb-true _ _ (and_first _ _ h), (let l : e < components_of s = ltb-true _ _ (and_second _ _ h) in omega (arith, components_limit s ok)))
 
     pub row_chart : (t : List ℕ) → CellTable s t → (i n : ℕ) → i ≡ e - externals_of s → n ≡ field_at s bindings (get_or t (34 * i + 33) 0) 0 → record_of s charts n ≡ chart_of s e
@@ -69,7 +69,7 @@ module _ (s : List ℕ) (ok : check_of s ≡ Passed) where
 
   -- element i among those bound, whose first binding record is k
   module _ (i k : ℕ) (l : i < elements_of s) (at : k ≡ first_binding s i) where
-    is_bound_lem : is_bound_lem s (externals_of s + i) ≡ true
+    is_bound_lem : is_bound s (externals_of s + i) ≡ true
     is_bound_lem = number_bound s i l
 
     pub bound_is : chart_bound s k ≡ chart_of s (externals_of s + i)

@@ -23,7 +23,7 @@ use Rattle.sheet_rules.specs.Indices.{cells_taken, cells_before}
 use Rattle.sheet_rules.specs.Shape.{cells_bound, cells_of}
 use Rattle.sheet_rules.specs.Check.{check_of}
 use Rattle.sheet_rules.proofs.Fields.{sum_more}
-use Rattle.machine.specs.Values.{is_below, is_zero, chart_of, first_cell, same_word_lem}
+use Rattle.machine.specs.Values.{is_below, is_zero, chart_of, first_cell, same_word}
 use Rattle.machine.specs.State.{places, cell_at, cell_of, place_at, state_length, word_of, waiting, counted, put_words, with_telegram, Changed, on, off, lost, appended}
 use Rattle.machine.specs.Valid.{cell_fits, OfSheet}
 use Rattle.machine.specs.Play.{then_slice, clock_telegram, fires, ticks, sliced_cell, sliced_each, sliced_variable, sliced_cells, sliced_element, sliced_from}
@@ -102,11 +102,11 @@ module _ (s : List ℕ) where
     unfolding ticks
     ticks_onward t = go (eqb t timer_type) (eqb t timeout_type) refl refl
       where
-        timer : (b : Bool) → eqb t timer_type ≡ true → same_word_lem (word_of st (at + 1)) (pos 2147483647) ≡ b → Onward s (at + 8) st (ticks s e t at st)
+        timer : (b : Bool) → eqb t timer_type ≡ true → same_word (word_of st (at + 1)) (pos 2147483647) ≡ b → Onward s (at + 8) st (ticks s e t at st)
         timer true p r = let f : ticks s e t at st ≡ off 6 = rw (ticks, p, r) refl in rw f tt
         timer false p r = let f : ticks s e t at st ≡ on (set st (at + 1) (word_of st (at + 1) +ℤ pos 1)) = rw (ticks, p, r) refl in rw f (set_onward st at whole head behind inside (word_of st (at + 1) +ℤ pos 1))
 
-        timeout : (b : Bool) → eqb t timer_type ≡ false → eqb t timeout_type ≡ true → same_word_lem (word_of st (at + 1)) (pos 1) ≡ b → Onward s (at + 8) st (ticks s e t at st)
+        timeout : (b : Bool) → eqb t timer_type ≡ false → eqb t timeout_type ≡ true → same_word (word_of st (at + 1)) (pos 1) ≡ b → Onward s (at + 8) st (ticks s e t at st)
         timeout true p q r = let f : ticks s e t at st ≡ fires s e at (replicate 8 (pos 0)) st = rw (ticks, p, q, r) refl in rw f (fires_onward (replicate 8 (pos 0)) (omega arith))
         timeout false p q r = let f : ticks s e t at st ≡ on (set st (at + 1) (word_of st (at + 1) -ℤ pos 1)) = rw (ticks, p, q, r) refl in rw f (set_onward st at whole head behind inside (word_of st (at + 1) -ℤ pos 1))
 
@@ -115,8 +115,8 @@ module _ (s : List ℕ) where
         cycler false p q r = let f : ticks s e t at st ≡ on (set st (at + 1) (word_of st (at + 1) -ℤ pos 1)) = rw (ticks, p, q, r) refl in rw f (set_onward st at whole head behind inside (word_of st (at + 1) -ℤ pos 1))
 
         go : (a b : Bool) → eqb t timer_type ≡ a → eqb t timeout_type ≡ b → Onward s (at + 8) st (ticks s e t at st)
-        go true b p q = timer (same_word_lem (word_of st (at + 1)) (pos 2147483647)) p refl
-        go false true p q = timeout (same_word_lem (word_of st (at + 1)) (pos 1)) p q refl
+        go true b p q = timer (same_word (word_of st (at + 1)) (pos 2147483647)) p refl
+        go false true p q = timeout (same_word (word_of st (at + 1)) (pos 1)) p q refl
         go false false p q = cycler (is_zero (word_of st (at + 1))) p q refl
 
     cell_onward : (t : ℕ) → Onward s (at + 8) st (sliced_cell s e t at st)

@@ -16,7 +16,7 @@ use Rattle.sheet.specs.Table.{look_up}
 use Rattle.sheet_rules.specs.Forms.{binary_of}
 use Rattle.sheet_rules.proofs.Forms.{binary_mod}
 use Rattle.machine_division.specs.Division.{quotient, remainder}
-use Rattle.machine.specs.Values.{is_zero, same_word_lem}
+use Rattle.machine.specs.Values.{is_zero, same_word}
 use Rattle.machine.specs.Eval.{bool_word, is_one, int_out, dividing}
 use Rattle.engine_ints.specs.declared.Work.TheVariants.{Word}
 use Rattle.engine_ints.specs.Work.{work_of, combined_work, binary_work}
@@ -37,7 +37,7 @@ two_ways m n = elim (ℕ_discrete m n) [
   | no e ↦ ne_eqb m n e ∙ sym (elim (dec_lt m n) [ yes l ↦ and-false _ _ (lt-leb n m l) | no l ↦ false-and _ _ (lt-leb m n (omega arith)) ])
 ]
 
-pub same_bits : (a b : ℤ) → SFits w32 a → SFits w32 b → eqb (of_z w32 a) (of_z w32 b) ≡ same_word_lem a b
+pub same_bits : (a b : ℤ) → SFits w32 a → SFits w32 b → eqb (of_z w32 a) (of_z w32 b) ≡ same_word a b
 same_bits (pos m) (pos n) h k = two_ways m n
 same_bits (pos m) (negsuc n) h k = ne_eqb m (4294967296 - suc n) (λ e. let p = h.sfits in let q = k.sfits in omega arith) ∙ sym (false-and _ _ refl)
 same_bits (negsuc m) (pos n) h k = ne_eqb (4294967296 - suc m) n (λ e. let p = h.sfits in let q = k.sfits in omega arith) ∙ sym (and-false _ _ refl)
@@ -66,7 +66,7 @@ module _ (op : ℕ) (a b : ℤ) (l : ℕ) where
   unfolding combined_work binary_of look_up
   binary_9 e = by_operator 9 e
 
-  pub binary_10 : op ≡ 10 → Word (bool_word (same_word_lem a b)) l ≡ binary_work op a b l
+  pub binary_10 : op ≡ 10 → Word (bool_word (same_word a b)) l ≡ binary_work op a b l
   unfolding combined_work binary_of look_up
   binary_10 e = by_operator 10 e
 

@@ -6,7 +6,7 @@ use Rattle.sheet_rules.specs.Forms.{Binary, both, equal, less, plus, minus, time
 use Rattle.machine_division.specs.Division.{quotient, remainder}
 use Rattle.machine.specs.declared.Out.{Out}
 use Rattle.machine.specs.declared.Out.TheVariants as out
-use Rattle.machine.specs.Values.{is_zero, same_word_lem}
+use Rattle.machine.specs.Values.{is_zero, same_word}
 use Rattle.machine.specs.Eval.{bool_word, int_out, dividing, is_one}
 use Rattle.engine_ints.specs.declared.Work.{Work}
 use Rattle.engine_ints.specs.declared.Work.TheVariants.{Word, Refused, Stuck}
@@ -24,7 +24,7 @@ then_work Stuck K = Stuck
 
 unfoldable pub combined_work : Binary → ℤ → ℤ → ℕ → Work
 combined_work both a b l = Word (bool_word (is_one a and is_one b)) l
-combined_work equal a b l = Word (bool_word (same_word_lem a b)) l
+combined_work equal a b l = Word (bool_word (same_word a b)) l
 combined_work less a b l = Word (bool_word (lt_z a b)) l
 combined_work plus a b l = work_of (int_out (a +ℤ b) l)
 combined_work minus a b l = work_of (int_out (a -ℤ b) l)

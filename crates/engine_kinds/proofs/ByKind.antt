@@ -9,7 +9,7 @@ use Rattle.sheet_rules.specs.Types.{reacts_to}
 use Rattle.machine.specs.declared.Answer.{Answer}
 use Rattle.machine.specs.declared.Handed.TheVariants.{Nothing}
 use Rattle.machine.specs.declared.Telegram.{Telegram}
-use Rattle.machine.specs.Values.{is_bound_lem}
+use Rattle.machine.specs.Values.{is_bound}
 use Rattle.machine.specs.State.{is_internal}
 use Rattle.machine.specs.Valid.{telegram_fits, OfSheet}
 use Rattle.machine.specs.Play.{Outcome, ended, answer, element_body, goes_from, inner_of, oldest, taking, reacting, panicking, delivered, outside, deliver, corrupt, inner, slice, limit_of}
@@ -101,7 +101,7 @@ module _ {s d c : List ℕ} {old st : List ℤ} {e : Event} {j : ℕ} (h : Happe
       deliver-happens g = by (Deliver a r) q (delivers h.playing.passed o a r (at (Deliver a r) q) w old (undo (Deliver a r) q) _ g)
 
     module _ (a r : ℤ) (q : e ≡ Corrupt a r) (n : ℕ) (i : n ≡ nat_abs t.receiver) where
-      pub corrupted_bound : is_bound_lem s n ≡ true
+      pub corrupted_bound : is_bound s n ≡ true
       unfolding sought_at receiver_bound
       corrupted_bound = corrupt-bound h.playing.passed o a r (at (Corrupt a r) q) w (sym (ap (receiver_bound s) q) ∙ h.bound) n i
 

@@ -14,7 +14,7 @@ use Rattle.sheet.proofs.All.{and_second}
 use Rattle.sheet_rules.specs.Fields.{field_of, components_of}
 use Rattle.sheet_rules.specs.Forms.{read, form_of}
 use Rattle.sheet_rules.specs.Bindings.{constant_record, constant_field, constant_of}
-use Rattle.machine.specs.Values.{is_bound_lem}
+use Rattle.machine.specs.Values.{is_bound}
 use Rattle.machine.specs.State.{cell_at, word_of}
 use Rattle.machine.specs.Eval.{literal_value, eval_of}
 use Rattle.machine_passed.proofs.Records.{components_limit}
@@ -57,7 +57,7 @@ module _ (st : List ℤ) (p q : Place) (l : ℕ) (found : q ≡ p) where
 
 module _ (s w : List ℕ) (st lo : List ℤ) (ready : Ready s w st lo) where
   pub element_low : element_in w < 65536
-  unfolding is_bound_lem context_at
+  unfolding is_bound context_at
   element_low = let h : element_in w < components_of s = ltb-true _ _ (and_second _ _ ready.running.placed.element.bound) in omega (arith, components_limit s ready.running.passed)
 
   -- the number of the element's first binding record

@@ -15,7 +15,7 @@ use Rattle.machine.specs.declared.Answer.{Answer}
 use Rattle.sheet_rules.specs.Fields.{number_or0}
 use Rattle.machine.specs.State.{put_words}
 use Rattle.machine.specs.Play.{default_limit, limit_by, limit_of}
-use Rattle.machine.specs.Lists.{Played, played, nowhere, then_played, after_answer, goes_on_lem, events_of, EventGives}
+use Rattle.machine.specs.Lists.{Played, played, nowhere, then_played, after_answer, goes_on, events_of, EventGives}
 use Rattle.sheet_rules.specs.declared.Checked.TheVariants.{Passed}
 use Rattle.sheet_rules.specs.Check.{check_of}
 use Rattle.machine.specs.Valid.{OfSheet}
@@ -77,7 +77,7 @@ module _ (s : List ℕ) (events : List ℤ) where
   one-event : check_of s ≡ Passed → (st ev : List ℤ) (evs : List (List ℤ)) (a : Answer) (new : List ℤ) → OfSheet s st → EventGives s (limit_of s) st st ev a new → in_words (events_of s (limit_of s) st (ev ∷ evs)) ≡ behind (answer_words a) (in_words (events_of s (limit_of s) new evs))
   unfolding events_of then_played
   one-event ok st ev evs a new p g =
-      ap (λ w. in_words (then_played w (λ a new. after_answer a (events_of s (limit_of s) (goes_on_lem a st new) evs)))) (sym g)
+      ap (λ w. in_words (then_played w (λ a new. after_answer a (events_of s (limit_of s) (goes_on a st new) evs)))) (sym g)
       ∙ ap (λ st. in_words (after_answer a (events_of s (limit_of s) st evs))) (goes_on_is s ok st ev a new p g)
       ∙ behind-answer a (events_of s (limit_of s) new evs)
 

@@ -26,7 +26,7 @@ use Rattle.sheet_rules.specs.Indices.{index_at, is_plain, cells_taken}
 use Rattle.sheet_rules.specs.Types.{variable_at, read_type, clock_type, indexed_by, read_element_type, lower_type, type_in, type_of}
 use Rattle.machine.specs.Values.{is_below, is_zero, in_type}
 use Rattle.machine.specs.State.{cell_at, cell_of, word_of}
-use Rattle.machine.specs.Eval.{and_then, needs, on_record, val, bool_word, not_val, on_ints, combined, binary_val, literal_value, within, of_type, Context, parameter_val, variable_at_cell, inside, out_of_range, reached, element_as, element_val, read_as_lem, read_val, clock_word, clock_val, eval_in, eval_of}
+use Rattle.machine.specs.Eval.{and_then, needs, on_record, val, bool_word, not_val, on_ints, combined, binary_val, literal_value, within, of_type, Context, parameter_val, variable_at_cell, inside, out_of_range, reached, element_as, element_val, read_as, read_val, clock_word, clock_val, eval_in, eval_of}
 use Rattle.sheet_rules.proofs.Fields.{holds-present}
 use Rattle.sheet_rules.proofs.Bindings.{constant_inside}
 use Rattle.sheet_rules.proofs.Forms.{is_expression_form}
@@ -208,19 +208,19 @@ module _ (s w : List ℕ) (st lo : List ℤ) (ready : Ready s w st lo) where
       abbrev declared : ℕ
       declared = type_at s (variable_at x.chart x.body r.f1 r.f2)
 
-      read_as_lem : (l : ℕ) → eval_in s x st lo (eval_of s x st lo) r l read ≡ read_as_lem s x st lo r.f1 r.f2 declared l
+      read_as_lem : (l : ℕ) → eval_in s x st lo (eval_of s x st lo) r l read ≡ read_as s x st lo r.f1 r.f2 declared l
       unfolding eval_in read_val
       read_as_lem l =
           let d = declared_record s _ (variable-declared s ready.running.passed _ _ placed.element.chart x.body placed.body r.f1 r.f2 read-inside) in
-          needs_met _ _ (and-true _ _ (lt-ltb _ _ read-inside) read_plain) ∙ on-present _ d.0 _ d.1 ∙ ap (λ t. read_as_lem s x st lo r.f1 r.f2 t l) d.2
+          needs_met _ _ (and-true _ _ (lt-ltb _ _ read-inside) read_plain) ∙ on-present _ d.0 _ d.1 ∙ ap (λ t. read_as s x st lo r.f1 r.f2 t l) d.2
 
       pub variable_word : r.f1 ≡ 1 → (l : ℕ) → work_of (eval_of s x st lo n (suc l)) ≡ Word (word_of st (cell_at (cell_in w r.f2))) l
-      unfolding read_as_lem variable_at_cell word_of
-      variable_word one l = within_word read q l (val declared (word_of st (cell_of s x.element x.chart r.f2 0))) (read_as_lem l ∙ ap (λ p. read_as_lem s x st lo p r.f2 declared l) one) ∙ ap (λ i. Word (word_of st i) l) (plain_is_lem s w ready.running r.f2 (variable-below one))
+      unfolding read_as variable_at_cell word_of
+      variable_word one l = within_word read q l (val declared (word_of st (cell_of s x.element x.chart r.f2 0))) (read_as_lem l ∙ ap (λ p. read_as s x st lo p r.f2 declared l) one) ∙ ap (λ i. Word (word_of st i) l) (plain_is_lem s w ready.running r.f2 (variable-below one))
 
       pub local_word : r.f1 ≡ 2 → (l : ℕ) → work_of (eval_of s x st lo n (suc l)) ≡ Word (word_of lo r.f2) l
-      unfolding read_as_lem
-      local_word two l = within_word read q l (val declared (word_of lo r.f2)) (read_as_lem l ∙ ap (λ p. read_as_lem s x st lo p r.f2 declared l) two ∙ needs_met _ _ (lt-ltb _ _ (local_inside two)))
+      unfolding read_as
+      local_word two l = within_word read q l (val declared (word_of lo r.f2)) (read_as_lem l ∙ ap (λ p. read_as s x st lo p r.f2 declared l) two ∙ needs_met _ _ (lt-ltb _ _ (local_inside two)))
 
       -- a chart parameter: the constant in the element's binding
       module _ (none : r.f1 ≡ 0) where
@@ -229,10 +229,10 @@ module _ (s w : List ℕ) (st lo : List ℤ) (ready : Ready s w st lo) where
         constant_val l c = needs (is_literal (operator c)) (of_type declared (literal_value x.element c) (within s (literal_value x.element c) l))
 
         parameter_as : (l : ℕ) → eval_in s x st lo (eval_of s x st lo) r l read ≡ on_record (constant_binding s x.binding r.f2) (λ b. on_record (record_of s nodes (constant_of b r.f2)) (constant_val l))
-        unfolding read_as_lem parameter_val variables_at
+        unfolding read_as parameter_val variables_at
         parameter_as l =
             let h : r.f2 < (chart_parameters x.chart).count = subst (λ p. r.f2 < variables_at x.chart x.body p) none read-inside in
-            read_as_lem l ∙ ap (λ p. read_as_lem s x st lo p r.f2 declared l) none ∙ needs_met _ _ (constant_inside r.f2 (omega (arith, few-parameters s ready.running.passed x placed st lo cells ready.locals)))
+            read_as_lem l ∙ ap (λ p. read_as s x st lo p r.f2 declared l) none ∙ needs_met _ _ (constant_inside r.f2 (omega (arith, few-parameters s ready.running.passed x placed st lo cells ready.locals)))
 
         -- no such binding record
         pub parameter_unbound : constant_binding s x.binding r.f2 ≡ Absent → (l : ℕ) → work_of (eval_of s x st lo n (suc l)) ≡ Stuck

@@ -16,7 +16,7 @@ use Rattle.sheet_limits.proofs.Records.{itself}
 use Rattle.sheet_limits.proofs.Written.{with_limit_lem, has_limit}
 use Rattle.sheet_limits.proofs.Check.{same_check_of, same_check_call}
 use Rattle.machine.specs.Play.{Outcome, ended, default_limit, written_limit, limit_by, limit_of}
-use Rattle.machine.specs.Lists.{Played, played, after_answer, goes_on_lem}
+use Rattle.machine.specs.Lists.{Played, played, after_answer, goes_on}
 use Rattle.machine_passed.proofs.Records.{head-there}
 use Rattle.machine.proofs.Limit.{limit_zero, limit_given}
 use Rattle.machine_limits.proofs.State.{same_state_length}
@@ -66,8 +66,8 @@ module _ (before today : Engine) (m : MeetsBy former_limit before) (n : Meets to
       let r = today.event (rewritten s) st c.lent c.words in
       let gives = n.event (rewritten s) (rewritten_bytes s y) st c.lent c.words u ws.1 ws.0 in
       let on = goes_on-words r.answer st r.state u (event-words (rewritten s) st c.lent c.words r.answer r.state gives) in
-      ap (λ r. after_answer r.answer (called_from before s (goes_on_lem r.answer st r.state) calls)) (event-kept st c.lent c.words u ws.1 ws.0)
-      ∙ ap (after_answer r.answer) (calls-kept calls ws.2 (goes_on_lem r.answer st r.state) on)
+      ap (λ r. after_answer r.answer (called_from before s (goes_on r.answer st r.state) calls)) (event-kept st c.lent c.words u ws.1 ws.0)
+      ∙ ap (after_answer r.answer) (calls-kept calls ws.2 (goes_on r.answer st r.state) on)
 
   run-kept : (lent : List ℤ) → Words lent → (calls : List Call) → AllWords calls → run_of_engine before s lent calls ≡ run_of_engine today (rewritten s) lent calls
   unfolding run_of_engine

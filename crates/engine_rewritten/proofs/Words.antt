@@ -19,7 +19,7 @@ use Rattle.sheet_rules.specs.Check.{check_of}
 use Rattle.sheet_limits.specs.ButLimit.{put_number, limit_place, with_limit}
 use Rattle.machine.specs.declared.Answer.{Answer}
 use Rattle.machine.specs.Play.{Outcome, ended, stuck, start_call, event_call, limit_of}
-use Rattle.machine.specs.Lists.{goes_on_lem, StartGives, EventGives}
+use Rattle.machine.specs.Lists.{goes_on, StartGives, EventGives}
 use Rattle.machine_words.specs.Words.{Bytes, Words}
 use Rattle.machine_words.proofs.Words.{of_sheet-words}
 use Rattle.machine_promise.specs.Promise.{StartKept, EventKept}
@@ -77,8 +77,8 @@ module _ (s : List ℕ) where
   event-words old lent ev a st g = subst Left (sym g) (event_either Left s old lent ev (λ n z. absurd (omega arith)) (λ ok o. event-left ok old (event_call s (limit_of s) old old ev) ((promise s ok).event old ev o)))
 
 -- after another answer the old state goes on
-pub goes_on-words : (a : Answer) (old new : List ℤ) → Words old → (a.number ≡ 0 → Words new) → Words (goes_on_lem a old new)
-unfolding goes_on_lem
+pub goes_on-words : (a : Answer) (old new : List ℤ) → Words old → (a.number ≡ 0 → Words new) → Words (goes_on a old new)
+unfolding goes_on
 goes_on-words a old new u h = go (eqb a.number 0) refl
   where
     go : (b : Bool) → eqb a.number 0 ≡ b → Words (elim b [ true ↦ new | false ↦ old ])

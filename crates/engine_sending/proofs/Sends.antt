@@ -14,7 +14,7 @@ use Rattle.engine_queue.specs.Changed.{changed_to}
 use Rattle.machine.specs.declared.Ran.TheVariants.{Done, Refused, Stuck}
 use Rattle.machine.specs.declared.Telegram.{Telegram}
 use Rattle.sheet_rules.specs.Fields.{components_of}
-use Rattle.machine.specs.Values.{is_bound_lem}
+use Rattle.machine.specs.Values.{is_bound}
 use Rattle.machine.specs.State.{on, off, lost, appended}
 use Rattle.machine.specs.Run.{World, world, telegram, append}
 use Rattle.machine_passed.proofs.Records.{components_limit}
@@ -27,7 +27,7 @@ use Rattle.engine_ready.specs.Words.{four_words}
 
 module _ (s w : List ℕ) (run : Running s w) where
   pub element-small : element_in w < 64
-  unfolding is_bound_lem context_at
+  unfolding is_bound context_at
   element-small = let h : element_in w < components_of s = ltb-true _ _ (and_second _ _ run.placed.element.bound) in omega (arith, components_limit s run.passed)
 
 -- ---- a telegram appended

@@ -15,7 +15,7 @@ use Rattle.sheet.specs.Names.{names}
 use Rattle.sheet.specs.Sheet.{count_of}
 use Rattle.sheet.proofs.All.{true_false}
 use Rattle.machine.proofs.Appending.{appending}
-use Rattle.machine.specs.Values.{fits32, is_below, is_zero, same_word_lem}
+use Rattle.machine.specs.Values.{fits32, is_below, is_zero, same_word}
 use Rattle.machine.specs.State.{place_at, state_length, word_of, put_words, Changed, on, off, lost, appended}
 use Rattle.machine.specs.Play.{then_slice, clock_telegram, ticks}
 use Rattle.machine_states.proofs.Words.{with_length, with_before}
@@ -28,7 +28,7 @@ use Rattle.engine_ticks.specs.Running.{Running}
 
 -- ---- words
 
-pub next_int : (w : ℤ) → mag w < 2147483648 → le_z (pos 0) w ≡ true → same_word_lem w (pos 2147483647) ≡ false → mag (w +ℤ pos 1) < 2147483648
+pub next_int : (w : ℤ) → mag w < 2147483648 → le_z (pos 0) w ≡ true → same_word w (pos 2147483647) ≡ false → mag (w +ℤ pos 1) < 2147483648
 unfolding fits32
 next_int w h from q = ltb-true _ _ (timer_int w (lt-ltb _ _ h) from q)
 
@@ -120,19 +120,19 @@ module _ (s : List ℕ) (e at : ℕ) (st : List ℤ) where
   abbrev Named : Type 0
   Named = is_below (word_of st (at + 3)) (count_of s names) ≡ true
 
-  pub timer_last : same_word_lem (word_of st (at + 1)) (pos 2147483647) ≡ true → ticks s e 4 at st ≡ off 6
+  pub timer_last : same_word (word_of st (at + 1)) (pos 2147483647) ≡ true → ticks s e 4 at st ≡ off 6
   unfolding ticks
   timer_last q = rw (ticks, q) refl
 
-  pub timer_goes : same_word_lem (word_of st (at + 1)) (pos 2147483647) ≡ false → ticks s e 4 at st ≡ on (set st (at + 1) (word_of st (at + 1) +ℤ pos 1))
+  pub timer_goes : same_word (word_of st (at + 1)) (pos 2147483647) ≡ false → ticks s e 4 at st ≡ on (set st (at + 1) (word_of st (at + 1) +ℤ pos 1))
   unfolding ticks
   timer_goes q = rw (ticks, q) refl
 
-  pub timeout_goes : same_word_lem (word_of st (at + 1)) (pos 1) ≡ false → ticks s e 5 at st ≡ on (set st (at + 1) (word_of st (at + 1) -ℤ pos 1))
+  pub timeout_goes : same_word (word_of st (at + 1)) (pos 1) ≡ false → ticks s e 5 at st ≡ on (set st (at + 1) (word_of st (at + 1) -ℤ pos 1))
   unfolding ticks
   timeout_goes q = rw (ticks, q) refl
 
-  pub timeout_fires : Named → same_word_lem (word_of st (at + 1)) (pos 1) ≡ true → ticks s e 5 at st ≡ then_slice (appended s st (clock_telegram e st at)) (λ st'. on (put_words st' at (replicate 8 (pos 0))))
+  pub timeout_fires : Named → same_word (word_of st (at + 1)) (pos 1) ≡ true → ticks s e 5 at st ≡ then_slice (appended s st (clock_telegram e st at)) (λ st'. on (put_words st' at (replicate 8 (pos 0))))
   unfolding ticks
   timeout_fires n q = rw (ticks, q) (fires-named s e at (replicate 8 (pos 0)) st n)
 

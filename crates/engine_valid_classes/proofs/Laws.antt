@@ -15,7 +15,7 @@ use Rattle.sheet_rules.specs.Fields.{one_if, sum_below, count_below}
 use Rattle.sheet_rules.proofs.Fields.{sum_more}
 use Rattle.sheet_rules.proofs.Sums.{sum_same, count-on}
 use Rattle.machine.specs.declared.Telegram.{Telegram}
-use Rattle.machine.specs.Values.{is_below, same_word_lem}
+use Rattle.machine.specs.Values.{is_below, same_word}
 use Rattle.machine.specs.State.{state_length, waiting, telegram_in, telegram_of, is_internal, class_of, same_class, waiting_like, class_limit}
 use Rattle.machine.specs.Valid.{classes_fit}
 use Rattle.machine_states.proofs.Frame.{all_true}
@@ -27,7 +27,7 @@ use Rattle.engine_valid_classes.specs.Classes.{EndsFit, class_number}
 
 -- ---- numbers of classes
 
-same_words_lem : (a b : ℤ) (n : ℕ) → is_below a n ≡ true → is_below b n ≡ true → nat_abs a ≡ nat_abs b → same_word_lem a b ≡ true
+same_words_lem : (a b : ℤ) (n : ℕ) → is_below a n ≡ true → is_below b n ≡ true → nat_abs a ≡ nat_abs b → same_word a b ≡ true
 unfolding is_below
 same_words_lem (pos a) (pos b) n h k e = and-true _ _ (le-leb a b (omega arith)) (le-leb b a (omega arith))
 same_words_lem (pos a) (negsuc b) n h k e = absurd (true_false k refl)

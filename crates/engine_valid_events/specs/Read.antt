@@ -7,5 +7,5 @@ use Rattle.machine_events.specs.declared.Event.TheVariants.{Malformed}
 use Rattle.machine_events.specs.Event.{event_as}
 
 -- the words of an event of that kind if they are well formed
-abbrev pub read_as_lem : List ℕ → List ℤ → Kind → Event
-read_as_lem s ev k = elim (well_formed s ev k) [ true ↦ event_as ev k | false ↦ Malformed ]
+abbrev pub read_as : List ℕ → List ℤ → Kind → Event
+read_as s ev k = elim (well_formed s ev k) [ true ↦ event_as ev k | false ↦ Malformed ]

@@ -12,9 +12,9 @@ use Rattle.sheet.specs.All.{all_below}
 use Rattle.sheet.proofs.All.{and_first, and_second, all-at}
 use Rattle.sheet_rules.specs.Fields.{components_of, externals_of, elements_of}
 use Rattle.sheet_rules.proofs.Fields.{holds_absent}
-use Rattle.machine.specs.Values.{is_bound_lem, chart_of}
+use Rattle.machine.specs.Values.{is_bound, chart_of}
 use Rattle.machine.specs.State.{places, state_length, word_of, waiting, telegram_in}
-use Rattle.machine.specs.Valid.{element_fits, internal_fits, telegram_fits, head_fits, cells_fit_lem, waiting_fit}
+use Rattle.machine.specs.Valid.{element_fits, internal_fits, telegram_fits, head_fits, cells_fit, waiting_fit}
 use Rattle.machine_passed.proofs.Charts.{number_bound}
 use Rattle.machine_states.proofs.Parts.{below_abs, below_more, same_word_lem}
 use Rattle.machine_states.proofs.Telegrams.{internal_part}
@@ -27,11 +27,11 @@ use Rattle.engine_valid_classes.specs.Classes.{EndsFit}
 
 -- ---- the cells of all elements
 
-pub element_in_lem : (s : List ℕ) (from count i : ℕ) → from ≡ externals_of s → count ≡ elements_of s → i < count → is_bound_lem s (from + i) ≡ true
+pub element_in_lem : (s : List ℕ) (from count i : ℕ) → from ≡ externals_of s → count ≡ elements_of s → i < count → is_bound s (from + i) ≡ true
 element_in_lem s from count i p q l = rw p (number_bound s i (rw q at l))
 
-pub cells_are : (s : List ℕ) (st : List ℤ) (from : ℕ) → from ≡ externals_of s → all_below (elements_of s) (λ i. element_fits s st (from + i)) ≡ cells_fit_lem s st
-unfolding cells_fit_lem
+pub cells_are : (s : List ℕ) (st : List ℤ) (from : ℕ) → from ≡ externals_of s → all_below (elements_of s) (λ i. element_fits s st (from + i)) ≡ cells_fit s st
+unfolding cells_fit
 cells_are s st from p = rw p refl
 
 pub no_element : (s : List ℕ) (st : List ℤ) (e : ℕ) → chart_of s e ≡ Absent → element_fits s st e ≡ false

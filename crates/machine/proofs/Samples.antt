@@ -10,11 +10,11 @@ use Rattle.sheet.specs.declared.Record.{Record}
 use Rattle.sheet_rules.specs.Forms.{binary_of}
 use Rattle.sheet_rules.proofs.Samples.{sheet_of, check}
 use Rattle.machine_division.specs.Division.{quotient, remainder}
-use Rattle.machine.specs.Values.{fits32, is_below, record_by, is_zero, in_data_type, in_type, default_in, default_of, has_default, is_bound_lem, binding_at, binding_of, chart_of, first_cell}
+use Rattle.machine.specs.Values.{fits32, is_below, record_by, is_zero, in_data_type, in_type, default_in, default_of, has_default, is_bound, binding_at, binding_of, chart_of, first_cell}
 use Rattle.machine.specs.State.{cell_at, cell_of, place_at, state_length, word_of, waiting, set_waiting, telegram_in, telegram_of, put_words, with_telegram, class_of, same_class, waiting_like, appended, places_from, without_telegram}
 use Rattle.machine.specs.Valid.{data_fit}
-use Rattle.machine.specs.Eval.{Context, val, is_variable, is_plain_variable, and_then, needs, on_record, int_out, dividing, not_val, on_ints, combined, binary_val, written, literal_value, within, of_type, parameter_val, variable_at_cell, reached, element_as, element_val, read_as_lem, read_val, clock_word, clock_val, eval_in, eval_step, eval_f, eval_of}
-use Rattle.machine.specs.Run.{World, go_on, then_operand, with_record, provided, before, next_value, values_from, then_values, are_of, words_in, local_at, list_from, locals_of, locals_there, append, armed, clock_set, fewer, assigned, has_variable, assign_of, element_assigned, assign_element_of, name_values, external_send_of, internal_send_of, arm_of, clock_act_of, entered, call_of, choice_of, run_in, run_step_lem, run_f, run_of}
+use Rattle.machine.specs.Eval.{Context, val, is_variable, is_plain_variable, and_then, needs, on_record, int_out, dividing, not_val, on_ints, combined, binary_val, written, literal_value, within, of_type, parameter_val, variable_at_cell, reached, element_as, element_val, read_as, read_val, clock_word, clock_val, eval_in, eval_step, eval_f, eval_of}
+use Rattle.machine.specs.Run.{World, go_on, then_operand, with_record, provided, before, next_value, values_from, then_values, are_of, words_in, local_at, list_from, locals_of, locals_there, append, armed, clock_set, fewer, assigned, has_variable, assign_of, element_assigned, assign_element_of, name_values, external_send_of, internal_send_of, arm_of, clock_act_of, entered, call_of, choice_of, run_in, run_step, run_f, run_of}
 use Rattle.machine.specs.Kinds.{kind_of}
 use Rattle.machine.specs.Play.{Outcome, ended, stuck, limit_by, body_from, body_where, ran_body, element_body, alone, event_end, limit_of}
 use Rattle.machine.specs.Play.{default_cell, alike, default_cells, element_cells, cells_from, default_state, has_head, element_there, elements_there}
@@ -55,17 +55,17 @@ headless declarations names bodies nodes bindings = [] ∷ [] ∷ declarations �
 
 -- what node n gives, with l steps left; the body's variables are 0
 unfoldable pub gives : List (List ℕ) → Context → List ℤ → ℕ → ℕ → Out
-unfolding check fits32 is_below record_by is_zero in_data_type in_type default_in default_of has_default is_bound_lem binding_at binding_of chart_of first_cell cell_at cell_of
+unfolding check fits32 is_below record_by is_zero in_data_type in_type default_in default_of has_default is_bound binding_at binding_of chart_of first_cell cell_at cell_of
     place_at state_length word_of waiting set_waiting telegram_in telegram_of put_words with_telegram class_of same_class waiting_like appended places_from without_telegram and_then
     needs on_record int_out quotient remainder dividing not_val on_ints combined binary_val written literal_value within of_type parameter_val is_variable
-    is_plain_variable variable_at_cell reached element_as element_val read_as_lem read_val clock_word clock_val eval_in eval_step eval_f eval_of
+    is_plain_variable variable_at_cell reached element_as element_val read_as read_val clock_word clock_val eval_in eval_step eval_f eval_of
 gives ss x st n l = eval_of (sheet_of ss) x st (replicate 16 (pos 0)) n l
 
 -- what it does
 unfoldable pub runs : List (List ℕ) → Context → List ℤ → ℕ → ℕ → World
 unfolding gives go_on then_operand with_record provided before next_value values_from then_values are_of words_in local_at list_from locals_of locals_there append armed
     clock_set fewer assigned has_variable assign_of element_assigned assign_element_of name_values external_send_of internal_send_of arm_of clock_act_of entered call_of
-    choice_of run_in run_step_lem run_f run_of
+    choice_of run_in run_step run_f run_of
 runs ss x st n l = run_of (sheet_of ss) 0 x n l st (replicate 16 (pos 0))
 
 -- ---- start and events, without the tests of sheet, state and event that a call makes before

@@ -20,7 +20,7 @@ use Rattle.sheet_rules.specs.Bindings.{constant_binding, constant_field, constan
 use Rattle.sheet_rules.specs.Shape.{variables_at}
 use Rattle.sheet_rules.specs.Types.{variable_at, chart_variable_index}
 use Rattle.machine_division.specs.Division.{quotient, remainder}
-use Rattle.machine.specs.Values.{fits32, is_below, is_zero, same_word_lem, in_type}
+use Rattle.machine.specs.Values.{fits32, is_below, is_zero, same_word, in_type}
 use Rattle.machine.specs.State.{cell_of, word_of}
 
 -- ---- how parts follow each other
@@ -70,7 +70,7 @@ on_ints x y o = needs (eqb x.kind int_type and eqb y.kind int_type) o
 
 unfoldable pub combined : Binary → Value → Value → ℕ → Out
 combined both x y l = needs (eqb x.kind bool_type and eqb y.kind bool_type) (Val (val bool_type (bool_word (is_one x.word and is_one y.word))) l)
-combined equal x y l = needs (eqb x.kind y.kind) (Val (val bool_type (bool_word (same_word_lem x.word y.word))) l)
+combined equal x y l = needs (eqb x.kind y.kind) (Val (val bool_type (bool_word (same_word x.word y.word))) l)
 combined less x y l = on_ints x y (Val (val bool_type (bool_word (lt_z x.word y.word))) l)
 combined plus x y l = on_ints x y (int_out (x.word +ℤ y.word) l)
 combined minus x y l = on_ints x y (int_out (x.word -ℤ y.word) l)
@@ -168,15 +168,15 @@ module _ (s : List ℕ) (x : Context) (st : List ℤ) where
 
 module _ (s : List ℕ) (x : Context) (st lo : List ℤ) where
   -- f1: 0 chart parameter, 1 chart variable, 2 body parameter or local; f2 its number; t its declared type
-  unfoldable pub read_as_lem : ℕ → ℕ → ℕ → ℕ → Out
-  read_as_lem place n t l =
+  unfoldable pub read_as : ℕ → ℕ → ℕ → ℕ → Out
+  read_as place n t l =
       elim (eqb place Names.chart_parameter) [
         | true ↦ parameter_val s x n t l
         | false ↦ elim (eqb place Names.chart_variable) [ true ↦ within s (val t (word_of st (variable_at_cell s x n 0))) l | false ↦ needs (ltb n body_words) (within s (val t (word_of lo n)) l) ]
       ]
 
   unfoldable pub read_val : ℕ → ℕ → ℕ → Out
-  read_val place n l = needs (ltb n (variables_at x.chart x.body place) and is_plain (index_at s (variable_at x.chart x.body place n))) (on_type s (variable_at x.chart x.body place n) (λ t. read_as_lem place n t l))
+  read_val place n l = needs (ltb n (variables_at x.chart x.body place) and is_plain (index_at s (variable_at x.chart x.body place n))) (on_type s (variable_at x.chart x.body place n) (λ t. read_as place n t l))
 
   -- ---- a node
 

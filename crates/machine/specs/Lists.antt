@@ -18,13 +18,13 @@ after_answer a (played answers st) = played (a ∷ answers) st
 after_answer a nowhere = nowhere
 
 -- "A list goes on from the last accepted state": "Accepted is answer 0"
-unfoldable pub goes_on_lem : Answer → List ℤ → List ℤ → List ℤ
-goes_on_lem a old new = elim (eqb a.number 0) [ true ↦ new | false ↦ old ]
+unfoldable pub goes_on : Answer → List ℤ → List ℤ → List ℤ
+goes_on a old new = elim (eqb a.number 0) [ true ↦ new | false ↦ old ]
 
 -- "Each event gets the same sheet .. and the state that the last accepted one (or start) left": here it lends that state's words as the result too. Within a limit
 unfoldable pub events_of : List ℕ → ℕ → List ℤ → List (List ℤ) → Played
 events_of s limit st [] = played [] st
-events_of s limit st (ev ∷ evs) = then_played (event_call s limit st st ev) (λ a new. after_answer a (events_of s limit (goes_on_lem a st new) evs))
+events_of s limit st (ev ∷ evs) = then_played (event_call s limit st st ev) (λ a new. after_answer a (events_of s limit (goes_on a st new) evs))
 
 -- The machine's own run, "fed with the sheet and the events alone": start on a state of the right length, and after answer 0 the events.
 unfoldable pub play_of : List ℕ → ℕ → List (List ℤ) → Played

@@ -17,7 +17,7 @@ use Rattle.machine.specs.declared.Ran.TheVariants.{Done, Refused, Stuck}
 use Rattle.sheet_rules.specs.Fields.{holds, number_or0, declared_so, type_at, components_of, externals_of, ports_of, elements_of, in_section}
 use Rattle.sheet_rules.specs.Indices.{cells_taken}
 use Rattle.sheet_rules.specs.Types.{reacts_to}
-use Rattle.machine.specs.Values.{is_below, record_by, is_zero, same_word_lem, default_of, has_default, binding_at, chart_of, first_cell}
+use Rattle.machine.specs.Values.{is_below, record_by, is_zero, same_word, default_of, has_default, binding_at, chart_of, first_cell}
 use Rattle.machine.specs.State.{places, cell_at, state_length, word_of, waiting, telegram_of, put_words, Changed, on, off, lost, counted, appended, without_telegram, is_internal}
 use Rattle.machine.specs.Valid.{data_fit, name_fits, datum_of, content_fits}
 use Rattle.machine.specs.Run.{World, with_record, provided, locals_of, locals_there, telegram, run_of}
@@ -159,10 +159,10 @@ unfoldable pub oldest : List ℕ → List ℤ → (Telegram → Bool) → ℕ
 oldest s st p = oldest_from s st p (waiting st) 0
 
 abbrev pub goes_from : ℤ → ℤ → Telegram → Bool
-goes_from a b t = not (is_internal t) and same_word_lem t.sender a and same_word_lem t.receiver b
+goes_from a b t = not (is_internal t) and same_word t.sender a and same_word t.receiver b
 
 abbrev pub inner_of : ℤ → Telegram → Bool
-inner_of r t = is_internal t and same_word_lem t.receiver r
+inner_of r t = is_internal t and same_word t.receiver r
 
 -- the telegram found is removed and taken on; "no such telegram waits": 5
 unfoldable pub taking : List ℕ → List ℤ → (Telegram → Bool) → (Telegram → List ℤ → Outcome) → Outcome
@@ -254,9 +254,9 @@ fires s e at ws st = elim (is_below (word_of st (at + 3)) (count_of s names)) [ 
 unfoldable pub ticks : List ℕ → ℕ → ℕ → ℕ → List ℤ → Changed
 ticks s e t at st =
     elim (eqb t timer_type) [
-      | true ↦ elim (same_word_lem (word_of st (at + 1)) (pos 2147483647)) [ true ↦ off 6 | false ↦ on (set st (at + 1) (word_of st (at + 1) +ℤ pos 1)) ]
+      | true ↦ elim (same_word (word_of st (at + 1)) (pos 2147483647)) [ true ↦ off 6 | false ↦ on (set st (at + 1) (word_of st (at + 1) +ℤ pos 1)) ]
       | false ↦ elim (eqb t timeout_type) [
-        | true ↦ elim (same_word_lem (word_of st (at + 1)) (pos 1)) [ true ↦ fires s e at (replicate 8 (pos 0)) st | false ↦ on (set st (at + 1) (word_of st (at + 1) -ℤ pos 1)) ]
+        | true ↦ elim (same_word (word_of st (at + 1)) (pos 1)) [ true ↦ fires s e at (replicate 8 (pos 0)) st | false ↦ on (set st (at + 1) (word_of st (at + 1) -ℤ pos 1)) ]
         | false ↦ elim (is_zero (word_of st (at + 1))) [ true ↦ fires s e at (pos 1 ∷ (word_of st (at + 2) -ℤ pos 1) ∷ []) st | false ↦ on (set st (at + 1) (word_of st (at + 1) -ℤ pos 1)) ]
       ]
     ]

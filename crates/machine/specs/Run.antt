@@ -264,14 +264,14 @@ module _ (s : List ℕ) (x : Context) where
   run_in f depth n r l st lo assign_element = assign_element_of r l st lo
   run_in f depth n r l st lo unknown = world Stuck st lo
 
-unfoldable pub run_step_lem : List ℕ → Runs → Runs
-run_step_lem s f depth x n zero st lo = world (Refused 10 0) st lo
-run_step_lem s f depth x n (suc l) st lo = with_record (record_of s nodes n) st lo (λ r. run_in s x f depth n r l st lo (form_of (operator r)))
+unfoldable pub run_step : List ℕ → Runs → Runs
+run_step s f depth x n zero st lo = world (Refused 10 0) st lo
+run_step s f depth x n (suc l) st lo = with_record (record_of s nodes n) st lo (λ r. run_in s x f depth n r l st lo (form_of (operator r)))
 
 -- fuel is not the paper's: each visit takes a step, so enough of it makes no difference
 unfoldable pub run_f : List ℕ → ℕ → Runs
 run_f s zero depth x n left st lo = world Stuck st lo
-run_f s (suc k) depth x n left st lo = run_step_lem s (fewer left (run_f s k)) depth x n left st lo
+run_f s (suc k) depth x n left st lo = run_step s (fewer left (run_f s k)) depth x n left st lo
 
 -- what node n does, with that many steps left
 unfoldable pub run_of : List ℕ → Runs

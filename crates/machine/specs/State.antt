@@ -7,7 +7,7 @@ use Rattle.machine.specs.declared.Telegram.{Telegram}
 use Rattle.sheet_rules.specs.Fields.{count_below}
 use Rattle.sheet_rules.specs.Indices.{cells_before}
 use Rattle.sheet_rules.specs.Shape.{cells_of}
-use Rattle.machine.specs.Values.{is_below, same_word_lem, first_cell}
+use Rattle.machine.specs.Values.{is_below, same_word, first_cell}
 
 -- ---- where things lie: "8 head words ..; 8 words per variable ..; 128 telegram places of 8 words"
 
@@ -48,7 +48,7 @@ unfoldable pub telegram_of : List ℕ → List ℤ → ℕ → Telegram
 telegram_of s st j = telegram_in st (place_at s j)
 
 abbrev pub is_internal : Telegram → Bool
-is_internal t = same_word_lem t.port (negsuc 0)
+is_internal t = same_word t.port (negsuc 0)
 
 abbrev pub words_of : Telegram → List ℤ
 words_of t = t.sender ∷ t.receiver ∷ t.port ∷ t.name ∷ t.d0 ∷ t.d1 ∷ t.d2 ∷ t.d3 ∷ []
@@ -80,7 +80,7 @@ unfoldable pub class_of : Telegram → ℕ
 class_of t = elim (is_internal t) [ true ↦ internal | false ↦ external ]
 
 unfoldable pub same_class : Telegram → Telegram → Bool
-same_class t u = same_word_lem t.sender u.sender and same_word_lem t.receiver u.receiver and eqb (class_of t) (class_of u)
+same_class t u = same_word t.sender u.sender and same_word t.receiver u.receiver and eqb (class_of t) (class_of u)
 
 -- how many wait that have t's sender, receiver and class
 unfoldable pub waiting_like : List ℕ → List ℤ → Telegram → ℕ

@@ -10,7 +10,7 @@ use Rattle.machine.specs.declared.Telegram.{Telegram}
 use Rattle.sheet_rules.specs.Fields.{holds, declared_so, components_of, externals_of, ports_of, elements_of}
 use Rattle.sheet_rules.specs.Indices.{cells_taken}
 use Rattle.sheet_rules.specs.Types.{has_class, has_reaction, name_range}
-use Rattle.machine.specs.Values.{fits32, is_below, is_zero, same_word_lem, in_type, is_bound_lem, chart_of}
+use Rattle.machine.specs.Values.{fits32, is_below, is_zero, same_word, in_type, is_bound, chart_of}
 use Rattle.machine.specs.State.{places, cell_of, place_at, state_length, word_of, waiting, counted, telegram_of, is_internal, waiting_like, class_limit}
 
 -- ---- data: "Surplus data are zero." "Data, also a clock's, fit their name's types"
@@ -67,7 +67,7 @@ datum_of t j = get_or (t.d0 ∷ t.d1 ∷ t.d2 ∷ t.d3 ∷ []) j (pos 0)
 
 -- "internal ones go from a bound element to itself"
 unfoldable pub internal_fits : List ℕ → Telegram → Bool
-internal_fits s t = same_word_lem t.sender t.receiver and is_bound_lem s (nat_abs t.receiver) and name_fits s internal t.name (datum_of t) and reaction_awaits s (nat_abs t.receiver) t.name
+internal_fits s t = same_word t.sender t.receiver and is_bound s (nat_abs t.receiver) and name_fits s internal t.name (datum_of t) and reaction_awaits s (nat_abs t.receiver) t.name
 
 -- "Waiting telegrams never have both ends external"
 unfoldable pub external_fits : List ℕ → Telegram → Bool
@@ -81,8 +81,8 @@ telegram_fits s t = is_below t.sender (components_of s) and is_below t.receiver 
 unfoldable pub head_fits : List ℤ → Bool
 head_fits st = counted st and zero_words st 0 1
 
-unfoldable pub cells_fit_lem : List ℕ → List ℤ → Bool
-cells_fit_lem s st = all_below (elements_of s) (λ i. element_fits s st (externals_of s + i))
+unfoldable pub cells_fit : List ℕ → List ℤ → Bool
+cells_fit s st = all_below (elements_of s) (λ i. element_fits s st (externals_of s + i))
 
 unfoldable pub waiting_fit : List ℕ → List ℤ → Bool
 waiting_fit s st = all_below (waiting st) (λ j. telegram_fits s (telegram_of s st j))
@@ -96,12 +96,12 @@ unfoldable pub classes_fit : List ℕ → List ℤ → Bool
 classes_fit s st = all_below (waiting st) (λ j. leb (waiting_like s st (telegram_of s st j)) class_limit)
 
 unfoldable pub content_fits : List ℕ → List ℤ → Bool
-content_fits s st = head_fits st and cells_fit_lem s st and waiting_fit s st and unused_zero s st and classes_fit s st
+content_fits s st = head_fits st and cells_fit s st and waiting_fit s st and unused_zero s st and classes_fit s st
 
 pub record OfSheet (s : List ℕ) (st : List ℤ) : Type 0 where
   pub whole : length st ≡ state_length s
   pub head : head_fits st ≡ true
-  pub cells : cells_fit_lem s st ≡ true
+  pub cells : cells_fit s st ≡ true
   pub telegrams : waiting_fit s st ≡ true
   pub unused : unused_zero s st ≡ true
   pub classes : classes_fit s st ≡ true

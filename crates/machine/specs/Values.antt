@@ -32,8 +32,8 @@ is_zero (pos k) = eqb k 0
 is_zero (negsuc k) = false
 
 -- two words are equal
-abbrev pub same_word_lem : ℤ → ℤ → Bool
-same_word_lem a b = le_z a b and le_z b a
+abbrev pub same_word : ℤ → ℤ → Bool
+same_word a b = le_z a b and le_z b a
 
 -- ---- data types
 
@@ -67,15 +67,15 @@ has_default s d = declared_so s d (λ t. elim (is_clock t) [ true ↦ true | fal
 
 -- ---- bound elements: the components from the head's f1 on
 
-unfoldable pub is_bound_lem : List ℕ → ℕ → Bool
-is_bound_lem s e = leb (externals_of s) e and ltb e (components_of s)
+unfoldable pub is_bound : List ℕ → ℕ → Bool
+is_bound s e = leb (externals_of s) e and ltb e (components_of s)
 
 -- the number of the first record that binds element e
 unfoldable pub binding_at : List ℕ → ℕ → ℕ
 binding_at s e = first_binding s (e - externals_of s)
 
 unfoldable pub binding_of : List ℕ → ℕ → Found
-binding_of s e = elim (is_bound_lem s e) [ true ↦ record_of s bindings (binding_at s e) | false ↦ Absent ]
+binding_of s e = elim (is_bound s e) [ true ↦ record_of s bindings (binding_at s e) | false ↦ Absent ]
 
 unfoldable pub chart_of : List ℕ → ℕ → Found
 chart_of s e = elim (binding_of s e) [ Present b ↦ record_of s charts (bound_chart b) | Absent ↦ Absent ]

@@ -14,7 +14,7 @@ use Rattle.machine.specs.State.{state_length}
 use Rattle.machine.specs.Valid.{OfSheet}
 use Rattle.machine.specs.Play.{Outcome, ended, stuck, limit_of, is_event, event_call}
 use Rattle.sheet_rules.specs.Check.{check_of}
-use Rattle.machine.specs.Lists.{Played, played, nowhere, then_played, after_answer, goes_on_lem, events_of, play_of, StartGives, EventGives}
+use Rattle.machine.specs.Lists.{Played, played, nowhere, then_played, after_answer, goes_on, events_of, play_of, StartGives, EventGives}
 use Rattle.machine_states.proofs.Parts.{of_content}
 use Rattle.machine_words.specs.Words.{Bytes}
 use Rattle.machine_words.proofs.Words.{of_sheet-words}
@@ -49,8 +49,8 @@ Plays e s (c ∷ calls) = ((st : List ℤ) → OfSheet s st → EventGives s (li
 
 module _ (s : List ℕ) (ok : check_of s ≡ Passed) where
   module _ (st lent ev : List ℤ) (o : OfSheet s st) (l : length lent ≡ state_length s) (a : Answer) (result : List ℤ) (g : EventGives s (limit_of s) st lent ev a result) where
-    lent_same : (new : List ℤ) × (ended a new ≡ event_call s (limit_of s) st st ev) × (goes_on_lem a st result ≡ goes_on_lem a st new)
-    unfolding goes_on_lem
+    lent_same : (new : List ℤ) × (ended a new ≡ event_call s (limit_of s) st st ev) × (goes_on a st result ≡ goes_on a st new)
+    unfolding goes_on
     lent_same = go (is_event s ev) refl
       where
         go : (b : Bool) → is_event s ev ≡ b → (new : List ℤ) × (ended a new ≡ event_call s (limit_of s) st st ev) × (◌≡◌ {A = List ℤ} (elim (eqb a.number 0) [ true ↦ result | false ↦ st ]) (elim (eqb a.number 0) [ true ↦ new | false ↦ st ]))
@@ -67,10 +67,10 @@ module _ (s : List ℕ) (ok : check_of s ≡ Passed) where
     calls_same (c ∷ calls) st o l m =
         let a = (e.event s st c.lent c.words).answer in
         let k = lent_same st c.lent c.words o l.0 a (e.event s st c.lent c.words).state (m.0 st o) in
-        let o' : OfSheet s (goes_on_lem a st k.0) = on-kept s ok st o a k.0 (subst (EventKept s st) (sym k.1) ((promise s ok).event st c.words o)) in
+        let o' : OfSheet s (goes_on a st k.0) = on-kept s ok st o a k.0 (subst (EventKept s st) (sym k.1) ((promise s ok).event st c.words o)) in
         ap (λ new. after_answer a (called_from e s new calls)) k.2
-        ∙ ap (after_answer a) (calls_same calls (goes_on_lem a st k.0) o' l.1 m.1)
-        ∙ ap (λ w. then_played w (λ a new. after_answer a (events_of s (limit_of s) (goes_on_lem a st new) (events_called calls)))) k.1
+        ∙ ap (after_answer a) (calls_same calls (goes_on a st k.0) o' l.1 m.1)
+        ∙ ap (λ w. then_played w (λ a new. after_answer a (events_of s (limit_of s) (goes_on a st new) (events_called calls)))) k.1
 
     module _ (lent : List ℤ) (l : length lent ≡ state_length s) (begun : Starts e s lent) where
       abbrev a : Answer

@@ -15,7 +15,7 @@ use Rattle.machine.specs.State.{state_length}
 use Rattle.machine.specs.Valid.{OfSheet}
 use Rattle.sheet_rules.specs.Check.{check_of}
 use Rattle.machine.specs.Play.{ended, limit_of}
-use Rattle.machine.specs.Lists.{goes_on_lem, StartGives, EventGives}
+use Rattle.machine.specs.Lists.{goes_on, StartGives, EventGives}
 use Rattle.machine_promise.specs.Promise.{StartKept, EventKept}
 use Rattle.machine_promise.proofs.Promise.{promise}
 
@@ -30,8 +30,8 @@ module _ (s : List ℕ) (ok : check_of s ≡ Passed) (old ev : List ℤ) (a : An
   goes_on_lem = ⊎_elim (λ z. kept.1 z) (λ b. subst (OfSheet s) (sym (kept.2 (λ z. omega arith))) o) kept.0
 
   -- a refused event left the old state
-  pub goes_on_is : goes_on_lem a old st ≡ st
-  unfolding goes_on_lem
+  pub goes_on_is : goes_on a old st ≡ st
+  unfolding goes_on
   goes_on_is = go (eqb a.number 0) refl
     where
       go : (b : Bool) → eqb a.number 0 ≡ b → ◌≡◌ {A = List ℤ} (elim b [ true ↦ st | false ↦ old ]) st

@@ -11,7 +11,7 @@ use Rattle.sheet_rules.specs.declared.Checked.TheVariants.{Passed}
 use Rattle.machine.specs.State.{state_length}
 use Rattle.machine.specs.Play.{Outcome, ended, stuck, limit_of, start_call, event_call}
 use Rattle.sheet_rules.specs.Check.{check_of}
-use Rattle.machine.specs.Lists.{Played, played, nowhere, then_played, after_answer, goes_on_lem, events_of, play_of, StartGives}
+use Rattle.machine.specs.Lists.{Played, played, nowhere, then_played, after_answer, goes_on, events_of, play_of, StartGives}
 use Rattle.machine_events.proofs.Laws.{start_is}
 use Rattle.machine_claim.specs.Claim.{AllWithin}
 use Rattle.machine_claim.proofs.Limit.{Within, event-within}
@@ -35,7 +35,7 @@ module _ (s : List ℕ) where
   pub events_bounded : (evs : List (List ℤ)) (st : List ℤ) → Bounded s (length evs) (events_of s (limit_of s) st evs)
   unfolding events_of
   events_bounded [] st = (refl, tt)
-  events_bounded (ev ∷ evs) st = then_bounded (length evs) (event_call s (limit_of s) st st ev) _ (event-within s st st ev) (λ a new. events_bounded evs (goes_on_lem a st new))
+  events_bounded (ev ∷ evs) st = then_bounded (length evs) (event_call s (limit_of s) st st ev) _ (event-within s st st ev) (λ a new. events_bounded evs (goes_on a st new))
 
   -- whatever was lent, start's answer and state are those of the machine's own run
   pub play_is : check_of s ≡ Passed → (lent : List ℤ) → length lent ≡ state_length s → (a : Answer) (st : List ℤ) → StartGives s (limit_of s) lent a st → (evs : List (List ℤ)) → play_of s (limit_of s) evs ≡ after_answer a (elim (eqb a.number 0) [ true ↦ events_of s (limit_of s) st evs | false ↦ played [] st ])

@@ -7,7 +7,7 @@ use Rattle.machine.specs.State.{state_length}
 use Rattle.machine.specs.Valid.{OfSheet}
 use Rattle.machine.specs.Play.{default_limit, limit_of, limit_by}
 use Rattle.sheet_rules.specs.Check.{check_of}
-use Rattle.machine.specs.Lists.{Played, played, after_answer, goes_on_lem, play_of, StartGives, EventGives}
+use Rattle.machine.specs.Lists.{Played, played, after_answer, goes_on, play_of, StartGives, EventGives}
 use Rattle.machine_words.specs.Words.{Bytes, Words}
 use Rattle.machine_promise.specs.Promise.{OneOf, AllAnswered, OneReaction}
 
@@ -54,7 +54,7 @@ AllWords (c ∷ calls) = Words c.words × Words c.lent × AllWords calls
 -- "Each event gets the same sheet .. and the state that the last accepted one (or start) left, unchanged in between."
 unfoldable pub called_from : Engine → List ℕ → List ℤ → List Call → Played
 called_from e s st [] = played [] st
-called_from e s st (c ∷ calls) = let r = e.event s st c.lent c.words in after_answer r.answer (called_from e s (goes_on_lem r.answer st r.state) calls)
+called_from e s st (c ∷ calls) = let r = e.event s st c.lent c.words in after_answer r.answer (called_from e s (goes_on r.answer st r.state) calls)
 
 -- start, and after answer 0 the events
 unfoldable pub run_of_engine : Engine → List ℕ → List ℤ → List Call → Played

@@ -5,14 +5,14 @@ use native.Mathlib.Omega.{arith}
 use lib.IntN.{ℤ, pos, negsuc}
 use Rattle.sheet.specs.Table.{look_up}
 use Rattle.sheet.proofs.Table.{lines_past}
-use Rattle.machine.specs.Kinds.{no_kind_lem, kind_table, kind_of}
+use Rattle.machine.specs.Kinds.{no_kind, kind_table, kind_of}
 
 -- numbers from 6 on
-no_more : (n : ℕ) → 6 ≤ n → kind_of (pos n) ≡ no_kind_lem
+no_more : (n : ℕ) → 6 ≤ n → kind_of (pos n) ≡ no_kind
 unfolding kind_of look_up
-no_more n h = lines_past no_kind_lem 6 kind_table 6 n tt h
+no_more n h = lines_past no_kind 6 kind_table 6 n tt h
 
-pub no_kind_lem : (z : ℤ) → (z ≡ pos 1 → ⊥) → (z ≡ pos 2 → ⊥) → (z ≡ pos 3 → ⊥) → (z ≡ pos 4 → ⊥) → (z ≡ pos 5 → ⊥) → kind_of z ≡ no_kind_lem
+pub no_kind_lem : (z : ℤ) → (z ≡ pos 1 → ⊥) → (z ≡ pos 2 → ⊥) → (z ≡ pos 3 → ⊥) → (z ≡ pos 4 → ⊥) → (z ≡ pos 5 → ⊥) → kind_of z ≡ no_kind
 unfolding kind_of look_up
 no_kind_lem (pos zero) a b c d e = refl
 no_kind_lem (pos (suc zero)) a b c d e = absurd (a refl)

@@ -28,8 +28,8 @@ use Rattle.sheet_rules.specs.Types.{variable_at, chart_variable_index, clock_of}
 use Rattle.machine.specs.Values.{fits32, is_zero, in_type}
 use Rattle.machine.specs.State.{Changed, on, off, lost, appended}
 use Rattle.machine_division.specs.Division.{quotient, remainder}
-use Rattle.machine.specs.Eval.{Context, is_variable, is_plain_variable, Reached, inside, out_of_range, unfit, reached, element_as, element_val, and_then, needs, on_record, int_out, dividing, not_val, on_ints, combined, binary_val, literal_value, within, of_type, body_words, parameter_val, read_as_lem, read_val, clock_val, eval_in, eval_step, eval_f, eval_of}
-use Rattle.machine.specs.Run.{World, go_on, then_operand, with_record, provided, Values, given, refused, stuck, before, next_value, values_from, then_values, are_of, words_in, locals_of, locals_there, append, armed, clock_set, Runs, fewer, in_body, assigned, has_variable, assign_of, element_assigned, assign_element_of, name_values, external_send_of, internal_send_of, arm_of, clock_act_of, entered, call_of, choice_of, run_in, run_step_lem, run_f, run_of, world, open_calls}
+use Rattle.machine.specs.Eval.{Context, is_variable, is_plain_variable, Reached, inside, out_of_range, unfit, reached, element_as, element_val, and_then, needs, on_record, int_out, dividing, not_val, on_ints, combined, binary_val, literal_value, within, of_type, body_words, parameter_val, read_as, read_val, clock_val, eval_in, eval_step, eval_f, eval_of}
+use Rattle.machine.specs.Run.{World, go_on, then_operand, with_record, provided, Values, given, refused, stuck, before, next_value, values_from, then_values, are_of, words_in, locals_of, locals_there, append, armed, clock_set, Runs, fewer, in_body, assigned, has_variable, assign_of, element_assigned, assign_element_of, name_values, external_send_of, internal_send_of, arm_of, clock_act_of, entered, call_of, choice_of, run_in, run_step, run_f, run_of, world, open_calls}
 
 -- ---- expressions
 
@@ -113,7 +113,7 @@ parameter_in s x n t l =
 
 module _ (s : List ℕ) (x : Context) (st lo : List ℤ) where
   read_in_lem : (place n l : ℕ) → Within (suc l) (read_val s x st lo place n l)
-  unfolding read_val read_as_lem
+  unfolding read_val read_as
   read_in_lem place n l =
       needs_in (ltb n (variables_at x.chart x.body place) and is_plain (index_at s (variable_at x.chart x.body place n))) _ (suc l)
       (record_in (record_of s declarations (variable_at x.chart x.body place n)) _ (suc l) (λ r.
@@ -384,8 +384,8 @@ module _ (s : List ℕ) (x : Context) where
     run_in_in depth n r l st lo unknown = tt
 
 module _ (s : List ℕ) where
-  run_step_in : (f : Runs) → ((depth : ℕ) (x : Context) (n l : ℕ) (st lo : List ℤ) → RanWithin l (f depth x n l st lo).ran) → (depth : ℕ) (x : Context) (n l : ℕ) (st lo : List ℤ) → RanWithin l (run_step_lem s f depth x n l st lo).ran
-  unfolding run_step_lem
+  run_step_in : (f : Runs) → ((depth : ℕ) (x : Context) (n l : ℕ) (st lo : List ℤ) → RanWithin l (f depth x n l st lo).ran) → (depth : ℕ) (x : Context) (n l : ℕ) (st lo : List ℤ) → RanWithin l (run_step s f depth x n l st lo).ran
+  unfolding run_step
   run_step_in f h depth x n zero st lo = le_refl 0
   run_step_in f h depth x n (suc l) st lo = with_record_in (record_of s nodes n) st lo _ (suc l) (λ r. run_in_in s x f h depth n r l st lo (form_of (operator r)))
 

@@ -20,7 +20,7 @@ use Rattle.machine.specs.declared.Ran.TheVariants.{Done, Refused, Stuck}
 use Rattle.sheet_rules.specs.Forms.{Form, literal, read, unary, binary, clock, read_element, skip, assign, external_send, internal_send, arm, clock_act, call, choice, loop, sequence, assign_element, unknown, form_of, called_body}
 use Rattle.machine.specs.Values.{is_zero}
 use Rattle.machine.specs.Eval.{Context, eval_of}
-use Rattle.machine.specs.Run.{World, world, go_on, then_run, then_operand, with_record, provided, Values, given, refused, stuck, values_from, then_values, are_of, words_in, locals_of, locals_there, Runs, fewer, in_body, entered, call_of, choice_of, run_in, run_step_lem, run_f, run_of, open_calls}
+use Rattle.machine.specs.Run.{World, world, go_on, then_run, then_operand, with_record, provided, Values, given, refused, stuck, values_from, then_values, are_of, words_in, locals_of, locals_there, Runs, fewer, in_body, entered, call_of, choice_of, run_in, run_step, run_f, run_of, open_calls}
 use Rattle.machine_equations.proofs.Left.{Within, ValuesWithin, RanWithin, eval_left, values_left_lem, run-left}
 
 -- what runs the parts matters with fewer steps left only
@@ -125,18 +125,18 @@ module _ (s : List ℕ) where
   unfolding run_f
   enough zero k' depth x n l st lo h h' = absurd (omega arith)
   enough (suc k) zero depth x n l st lo h h' = absurd (omega arith)
-  enough (suc k) (suc k') depth x n l st lo h h' = ap (λ f. run_step_lem s f depth x n l st lo) (fewer_same l (run_f s k) (run_f s k') (λ depth x n m st lo q. enough k k' depth x n m st lo (omega arith) (omega arith)))
+  enough (suc k) (suc k') depth x n l st lo h h' = ap (λ f. run_step s f depth x n l st lo) (fewer_same l (run_f s k) (run_f s k') (λ depth x n m st lo q. enough k k' depth x n m st lo (omega arith) (omega arith)))
 
-  run_step_lem : (depth : ℕ) (x : Context) (n l : ℕ) (st lo : List ℤ) → run_of s depth x n l st lo ≡ run_step_lem s (fewer l (run_of s)) depth x n l st lo
+  run_step_lem : (depth : ℕ) (x : Context) (n l : ℕ) (st lo : List ℤ) → run_of s depth x n l st lo ≡ run_step s (fewer l (run_of s)) depth x n l st lo
   unfolding run_f run_of
-  run_step_lem depth x n l st lo = ap (λ f. run_step_lem s f depth x n l st lo) (fewer_same l (run_f s l) (run_of s) (λ depth x n m st lo q. enough l (suc m) depth x n m st lo q (omega arith)))
+  run_step_lem depth x n l st lo = ap (λ f. run_step s f depth x n l st lo) (fewer_same l (run_f s l) (run_of s) (λ depth x n m st lo q. enough l (suc m) depth x n m st lo q (omega arith)))
 
   -- "a visit that would pass [the limit] is refused"
   pub run_none : (depth : ℕ) (x : Context) (n : ℕ) (st lo : List ℤ) → run_of s depth x n 0 st lo ≡ world (Refused 10 0) st lo
-  unfolding run_step_lem
+  unfolding run_step
   run_none depth x n st lo = run_step_lem depth x n 0 st lo
 
   -- "Visiting a node adds one step, then its operands go in field order, then its own act."
   pub run-visit : (depth : ℕ) (x : Context) (n l : ℕ) (st lo : List ℤ) → run_of s depth x n (suc l) st lo ≡ with_record (record_of s nodes n) st lo (λ r. run_in s x (run_of s) depth n r l st lo (form_of (operator r)))
-  unfolding run_step_lem guarded
+  unfolding run_step guarded
   run-visit depth x n l st lo = run_step_lem depth x n (suc l) st lo ∙ same_record (record_of s nodes n) st lo _ _ (λ r. free_run s x depth l n r st lo (form_of (operator r)))

@@ -15,7 +15,7 @@ use Rattle.machine.specs.declared.Answer.{Answer}
 use Rattle.machine.specs.declared.Ran.{Ran}
 use Rattle.machine.specs.declared.Ran.TheVariants.{Done, Refused, Stuck}
 use Rattle.sheet_rules.specs.Fields.{components_of, externals_of, elements_of}
-use Rattle.machine.specs.Values.{is_bound_lem}
+use Rattle.machine.specs.Values.{is_bound}
 use Rattle.machine.specs.State.{state_length}
 use Rattle.machine.specs.Valid.{OfSheet}
 use Rattle.machine.specs.Eval.{Context}
@@ -55,7 +55,7 @@ module _ (s : List ℕ) where
 
 module _ (s : List ℕ) (ok : check_of s ≡ Passed) where
   -- an initial body on a state of the sheet
-  initial_well : (e : ℕ) → is_bound_lem s e ≡ true → (st : List ℤ) → OfSheet s st → ((x : Context) × Ends s x (first_run s e st).ran (first_run s e st).st (first_run s e st).lo) × RanWithin (limit_of s) (first_run s e st).ran
+  initial_well : (e : ℕ) → is_bound s e ≡ true → (st : List ℤ) → OfSheet s st → ((x : Context) × Ends s x (first_run s e st).ran (first_run s e st).st (first_run s e st).lo) × RanWithin (limit_of s) (first_run s e st).ran
   initial_well e h st o =
       let x = bound-element s ok e h in
       let i = initial-there s ok _ x.1 x.2.chart in
@@ -71,8 +71,8 @@ module _ (s : List ℕ) (ok : check_of s ≡ Passed) where
     pub few : first + count ≤ 64
     few = omega (arith, elements-rest s ok, components_limit s ok)
 
-    pub here_bound : is_bound_lem s (first + i) ≡ true
-    unfolding is_bound_lem
+    pub here_bound : is_bound s (first + i) ≡ true
+    unfolding is_bound
     here_bound = and-true _ _ (le-leb (externals_of s) (first + i) (omega arith)) (lt-ltb (first + i) (components_of s) (omega (arith, elements-rest s ok)))
 
     module _ (st : List ℤ) (o : OfSheet s st) (r : Ran) (st' : List ℤ) (a : r ≡ (first_run s (first + i) st).ran) (b : st' ≡ (first_run s (first + i) st).st) where

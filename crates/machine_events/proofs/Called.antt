@@ -21,7 +21,7 @@ use Rattle.sheet_rules.specs.Fields.{type_at, externals_of}
 use Rattle.sheet_rules.specs.Shape.{is_reaction}
 use Rattle.sheet_rules.specs.Types.{name_range, reacts_to, has_reaction}
 use Rattle.sheet_rules.specs.Static.{body_of}
-use Rattle.machine.specs.Values.{is_below, in_type, is_bound_lem, chart_of}
+use Rattle.machine.specs.Values.{is_below, in_type, is_bound, chart_of}
 use Rattle.machine.specs.Valid.{data_fit, datum_of, external_fits, telegram_fits}
 use Rattle.machine.specs.Run.{datum}
 use Rattle.machine.specs.Play.{body_where, has_panic, is_initial, reacts_on, element_body, alone, body_event, reacting, panicking, bodies_there, delivered, ran_body, limit_of}
@@ -47,7 +47,7 @@ absent_differs b e = true_false {b = false} (ap there e) refl
     there Absent = false
 
 -- a bound element has a chart
-pub has_chart : (s : List ℕ) → check_of s ≡ Passed → (e : ℕ) → is_bound_lem s e ≡ true → chart_of s e ≡ Absent → ⊥
+pub has_chart : (s : List ℕ) → check_of s ≡ Passed → (e : ℕ) → is_bound s e ≡ true → chart_of s e ≡ Absent → ⊥
 has_chart s ok e h q = let x = bound-element s ok e h in absent_differs x.1 (sym q ∙ element-chart s e x.0 x.1 x.2)
 
 module _ (s : List ℕ) (ok : check_of s ≡ Passed) (e : ℕ) (b c : Record) (x : Element s e b c) where

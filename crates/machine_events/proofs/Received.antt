@@ -16,7 +16,7 @@ use Rattle.sheet_rules.specs.declared.Checked.TheVariants.{Passed}
 use Rattle.machine.specs.declared.Telegram.{Telegram}
 use Rattle.sheet_rules.specs.Fields.{holds, externals_of}
 use Rattle.sheet_rules.specs.Types.{name_range, reacts_to, has_reaction}
-use Rattle.machine.specs.Values.{is_below, is_bound_lem, chart_of}
+use Rattle.machine.specs.Values.{is_below, is_bound, chart_of}
 use Rattle.machine.specs.State.{is_internal}
 use Rattle.machine.specs.Valid.{data_fit, name_fits, reaction_awaits, datum_of, internal_fits, external_fits, telegram_fits}
 use Rattle.machine.specs.Play.{Outcome, has_panic, reacts_on, element_body, body_event, reacting, panicking, delivered, limit_of}
@@ -67,8 +67,8 @@ module _ (s : List ℕ) (ok : check_of s ≡ Passed) where
       data_fit_lem = and_second _ _ (and_second _ _ (and_second _ _ (and_second _ _ part)))
 
       module _ (far : is_below t.receiver (externals_of s) ≡ false) (e : ℕ) (same : e ≡ nat_abs t.receiver) where
-        pub receiver-bound : is_bound_lem s e ≡ true
-        receiver-bound = subst (λ e. is_bound_lem s e ≡ true) (sym same) (bound_word_lem s t.receiver (receiver-below s ok t fits) far)
+        pub receiver-bound : is_bound s e ≡ true
+        receiver-bound = subst (λ e. is_bound s e ≡ true) (sym same) (bound_word_lem s t.receiver (receiver-below s ok t fits) far)
 
         module _ (c : Record) (chart : chart_of s e ≡ Present c) (port name j : ℕ) (on : port ≡ nat_abs t.port) (of : name ≡ nat_abs t.name) (h : StandsAt s c (reacts_on port name) j) where
           stands : StandsAt s c (reacts_on (nat_abs t.port) (nat_abs t.name)) j
@@ -110,9 +110,9 @@ module _ (s : List ℕ) (ok : check_of s ≡ Passed) where
       inner_fit = and_second _ _ (and_second _ _ named)
 
       module _ (e : ℕ) (same : e ≡ nat_abs t.receiver) where
-        pub inner_bound : is_bound_lem s e ≡ true
+        pub inner_bound : is_bound s e ≡ true
         unfolding internal_fits
-        inner_bound = subst (λ e. is_bound_lem s e ≡ true) (sym same) (and_first _ _ (and_second _ _ inside))
+        inner_bound = subst (λ e. is_bound s e ≡ true) (sym same) (and_first _ _ (and_second _ _ inside))
 
         module _ (c : Record) (chart : chart_of s e ≡ Present c) (name j : ℕ) (of : name ≡ nat_abs t.name) (h : StandsAt s c (reacts_to name) j) (zs : List ℤ) (read : zs ≡ data_in t) where
           awaited : has_reaction s c (nat_abs t.name) ≡ true

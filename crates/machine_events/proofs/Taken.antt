@@ -17,7 +17,7 @@ use Rattle.sheet_rules.specs.declared.Checked.TheVariants.{Passed}
 use Rattle.sheet_rules.specs.Fields.{components_of, externals_of}
 use Rattle.sheet_rules.specs.Types.{reacts_to}
 use Rattle.sheet_rules.specs.Check.{check_of}
-use Rattle.machine.specs.Values.{is_below, is_bound_lem}
+use Rattle.machine.specs.Values.{is_below, is_bound}
 use Rattle.machine.specs.State.{waiting, telegram_of, without_telegram, is_internal}
 use Rattle.machine.specs.Valid.{name_fits, internal_fits, telegram_fits, OfSheet}
 use Rattle.machine.specs.Play.{Outcome, ended, answer, element_body, goes_from, inner_of, oldest, taking, reacting, panicking, with_number, delivered, deliver, corrupt, inner, bound_word, limit_of}
@@ -66,9 +66,9 @@ module _ {s : List ℕ} (ok : check_of s ≡ Passed) {st : List ℤ} (o : OfShee
   to : t.receiver ≡ r
   to = same_word_lem _ _ (and_second _ _ (and_second _ _ outer))
 
-  pub corrupt-bound : bound_word s r ≡ true → (e : ℕ) → e ≡ nat_abs t.receiver → is_bound_lem s e ≡ true
+  pub corrupt-bound : bound_word s r ≡ true → (e : ℕ) → e ≡ nat_abs t.receiver → is_bound s e ≡ true
   corrupt-bound b e i =
-      ap (is_bound_lem s) (i ∙ ap nat_abs to) ∙ bound_word_lem s r (and_first (is_below r (components_of s)) (not (is_below r (externals_of s))) b) (not-true _ (and_second (is_below r (components_of s)) (not (is_below r (externals_of s))) b))
+      ap (is_bound s) (i ∙ ap nat_abs to) ∙ bound_word_lem s r (and_first (is_below r (components_of s)) (not (is_below r (externals_of s))) b) (not-true _ (and_second (is_below r (components_of s)) (not (is_below r (externals_of s))) b))
 
   pub delivers : (old : List ℤ) → (ltb (oldest s st (goes_from a r)) (waiting st) and not (is_below r (externals_of s)) ≡ true → old ≡ st) → (x : Outcome) → x ≡ delivered s (limit_of s) old t st' → x ≡ deliver s (limit_of s) st a r
   unfolding deliver

@@ -11,7 +11,7 @@ use Rattle.sheet_rules.specs.declared.Checked.{Checked}
 use Rattle.sheet_rules.specs.declared.Checked.TheVariants.{Passed, Shape, Static}
 use Rattle.sheet_rules.specs.Check.{check_of}
 use Rattle.machine.specs.Play.{Outcome, turned_down, if_passed, start_call, event_call}
-use Rattle.machine.specs.Lists.{played, then_played, after_answer, goes_on_lem, events_of, play_of}
+use Rattle.machine.specs.Lists.{played, then_played, after_answer, goes_on, events_of, play_of}
 use Rattle.sheet_limits.specs.ButLimit.{ButLimit}
 use Rattle.sheet_limits.proofs.Check.{same_check_of}
 use Rattle.machine_limits.proofs.State.{same_state_length}
@@ -45,7 +45,7 @@ module _ {s s' : List ℕ} (h : ButLimit s s') (l l' : ℕ) (limits : check_of s
   events_of_at : (st : List ℤ) (evs : List (List ℤ)) → events_of s l st evs ≡ events_of s' l' st evs
   unfolding events_of
   events_of_at st [] = refl
-  events_of_at st (ev ∷ evs) = λ q. then_played (same_event_call q st st ev) (λ a new. after_answer a (events_of_at (goes_on_lem a st new) evs q))
+  events_of_at st (ev ∷ evs) = λ q. then_played (same_event_call q st st ev) (λ a new. after_answer a (events_of_at (goes_on a st new) evs q))
 
   pub same_events_of : events_of s l ≡ events_of s' l'
   same_events_of = λ q st evs. events_of_at st evs q

@@ -19,7 +19,7 @@ use Rattle.machine.specs.declared.Out.{Out}
 use Rattle.machine.specs.declared.Out.TheVariants.{Val, Refused, Stuck}
 use Rattle.machine.specs.Values.{is_zero}
 use Rattle.machine.specs.State.{word_of}
-use Rattle.machine.specs.Eval.{and_then, needs, on_record, val, literal_value, within, is_variable, is_plain_variable, of_type, on_type, parameter_val, body_words, variable_at_cell, reached, clock_word, clock_val, element_as, element_val, read_as_lem, read_val, eval_in, eval_step, eval_f, eval_of, Context, Reached, inside, out_of_range, unfit}
+use Rattle.machine.specs.Eval.{and_then, needs, on_record, val, literal_value, within, is_variable, is_plain_variable, of_type, on_type, parameter_val, body_words, variable_at_cell, reached, clock_word, clock_val, element_as, element_val, read_as, read_val, eval_in, eval_step, eval_f, eval_of, Context, Reached, inside, out_of_range, unfit}
 use Rattle.sheet_limits.specs.ButLimit.{ButLimit}
 use Rattle.sheet_limits.proofs.Fields.{same_declared_so}
 use Rattle.sheet_limits.proofs.Indices.{same_index_at}
@@ -76,8 +76,8 @@ module _ {s s' : List ℕ} (h : ButLimit s s') where
   unfolding element_val
   same_element_val = λ q x st n i l. needs (ltb n (chart_variables x.chart).count) (same_on_type q ((chart_variables x.chart).first + n) (λ t. same_element_as q x st n t (reached (same_chart_variable_index h q x.chart n) i) l))
 
-  pub same_read_as : read_as_lem s ≡ read_as_lem s'
-  unfolding read_as_lem
+  pub same_read_as : read_as s ≡ read_as s'
+  unfolding read_as
   same_read_as = λ q x st lo place n t l.
       elim (eqb place Names.chart_parameter) [
         | true ↦ same_parameter_val q x n t l

@@ -16,7 +16,7 @@ use Rattle.machine.specs.declared.Telegram.{Telegram}
 use Rattle.machine.specs.declared.Handed.TheVariants.{Nothing, Outside}
 use Rattle.machine.specs.declared.Ran.{Ran}
 use Rattle.machine.specs.declared.Ran.TheVariants.{Done, Refused, Stuck}
-use Rattle.machine.specs.Values.{is_below, is_zero, same_word_lem}
+use Rattle.machine.specs.Values.{is_below, is_zero, same_word}
 use Rattle.machine.specs.State.{places, cell_at, word_of, waiting, put_words, on, off, lost, counted}
 use Rattle.machine.specs.Valid.{datum_of}
 use Rattle.machine.specs.Run.{with_record, provided}
@@ -207,9 +207,9 @@ module _ {s s' : List ℕ} (h : ButLimit s s') where
   unfolding ticks
   same_ticks = λ q e t at st.
       elim (eqb t timer_type) [
-        | true ↦ elim (same_word_lem (word_of st (at + 1)) (pos 2147483647)) [ true ↦ off 6 | false ↦ on (set st (at + 1) (word_of st (at + 1) +ℤ pos 1)) ]
+        | true ↦ elim (same_word (word_of st (at + 1)) (pos 2147483647)) [ true ↦ off 6 | false ↦ on (set st (at + 1) (word_of st (at + 1) +ℤ pos 1)) ]
         | false ↦ elim (eqb t timeout_type) [
-          | true ↦ elim (same_word_lem (word_of st (at + 1)) (pos 1)) [ true ↦ same_fires q e at (replicate 8 (pos 0)) st | false ↦ on (set st (at + 1) (word_of st (at + 1) -ℤ pos 1)) ]
+          | true ↦ elim (same_word (word_of st (at + 1)) (pos 1)) [ true ↦ same_fires q e at (replicate 8 (pos 0)) st | false ↦ on (set st (at + 1) (word_of st (at + 1) -ℤ pos 1)) ]
           | false ↦ elim (is_zero (word_of st (at + 1))) [ true ↦ same_fires q e at (pos 1 ∷ (word_of st (at + 2) -ℤ pos 1) ∷ []) st | false ↦ on (set st (at + 1) (word_of st (at + 1) -ℤ pos 1)) ]
         ]
       ]

@@ -19,7 +19,7 @@ use Rattle.machine.specs.declared.Ran.TheVariants.{Done, Refused, Stuck}
 use Rattle.machine.specs.Values.{is_zero}
 use Rattle.machine.specs.State.{on, off, lost}
 use Rattle.machine.specs.Eval.{Context, body_words, Reached, inside, out_of_range, unfit, reached}
-use Rattle.machine.specs.Run.{world, then_run, then_operand, with_record, provided, values_from, then_values, are_of, words_in, datum, telegram, local_at, list_from, locals_of, locals_there, append, armed, clock_set, open_calls, Runs, fewer, in_body, assigned, has_variable, assign_of, element_assigned, assign_element_of, name_values, external_send_of, internal_send_of, arm_of, clock_act_of, entered, call_of, choice_of, run_in, run_step_lem, run_f, run_of}
+use Rattle.machine.specs.Run.{world, then_run, then_operand, with_record, provided, values_from, then_values, are_of, words_in, datum, telegram, local_at, list_from, locals_of, locals_there, append, armed, clock_set, open_calls, Runs, fewer, in_body, assigned, has_variable, assign_of, element_assigned, assign_element_of, name_values, external_send_of, internal_send_of, arm_of, clock_act_of, entered, call_of, choice_of, run_in, run_step, run_f, run_of}
 use Rattle.sheet_limits.specs.ButLimit.{ButLimit}
 use Rattle.sheet_limits.proofs.Fields.{same_declared_so, same_type_at}
 use Rattle.sheet_limits.proofs.Forms.{same_called_body}
@@ -182,12 +182,12 @@ module _ {s s' : List ℕ} (h : ButLimit s s') where
   pub same_run_in : run_in s ≡ run_in s'
   same_run_in = λ q x f depth n r l st lo a. run_in_at x f depth n r l st lo a q
 
-  run_step_at : (f : Runs) (depth : ℕ) (x : Context) (n a : ℕ) → run_step_lem s f depth x n a ≡ run_step_lem s' f depth x n a
-  unfolding run_step_lem
+  run_step_at : (f : Runs) (depth : ℕ) (x : Context) (n a : ℕ) → run_step s f depth x n a ≡ run_step s' f depth x n a
+  unfolding run_step
   run_step_at f depth x n zero = λ q st lo. world (Refused 10 0) st lo
   run_step_at f depth x n (suc l) = λ q st lo. with_record (same_nodes h q n) st lo (λ r. same_run_in q x f depth n r l st lo (form_of (operator r)))
 
-  pub same_run_step : run_step_lem s ≡ run_step_lem s'
+  pub same_run_step : run_step s ≡ run_step s'
   same_run_step = λ q f depth x n a. run_step_at f depth x n a q
 
   run_f_at : (a : ℕ) → run_f s a ≡ run_f s' a

@@ -9,9 +9,9 @@ use lib.Signed.{le_z, lt_z}
 use Rattle.sheet.specs.All.{◌and◌, all_below}
 use Rattle.sheet.specs.Names.{names, external, internal, chart_variables, timer_type, timeout_type, is_clock}
 use Rattle.sheet_rules.specs.Fields.{holds}
-use Rattle.machine.specs.Values.{fits32, is_below, is_zero, same_word_lem}
+use Rattle.machine.specs.Values.{fits32, is_below, is_zero, same_word}
 use Rattle.machine.specs.State.{places, word_of, waiting, is_internal, class_limit}
-use Rattle.machine.specs.Valid.{data_fit, name_fits, reaction_awaits, zero_words, running_clock, clock_cell, cell_fits, variable_fits, element_fits, datum_of, internal_fits, external_fits, telegram_fits, head_fits, cells_fit_lem, waiting_fit, unused_zero, classes_fit, content_fits, OfSheet}
+use Rattle.machine.specs.Valid.{data_fit, name_fits, reaction_awaits, zero_words, running_clock, clock_cell, cell_fits, variable_fits, element_fits, datum_of, internal_fits, external_fits, telegram_fits, head_fits, cells_fit, waiting_fit, unused_zero, classes_fit, content_fits, OfSheet}
 use Rattle.sheet_limits.specs.ButLimit.{ButLimit}
 use Rattle.sheet_limits.proofs.Fields.{same_components_of, same_declared_so, same_elements_of, same_externals_of, same_ports_of}
 use Rattle.sheet_limits.proofs.Indices.{same_cells_taken}
@@ -64,7 +64,7 @@ module _ {s s' : List ℕ} (h : ButLimit s s') where
 
   pub same_internal_fits : internal_fits s ≡ internal_fits s'
   unfolding internal_fits
-  same_internal_fits = λ q t. same_word_lem t.sender t.receiver and same_is_bound h q (nat_abs t.receiver) and same_name_fits q internal t.name (datum_of t) and same_reaction_awaits q (nat_abs t.receiver) t.name
+  same_internal_fits = λ q t. same_word t.sender t.receiver and same_is_bound h q (nat_abs t.receiver) and same_name_fits q internal t.name (datum_of t) and same_reaction_awaits q (nat_abs t.receiver) t.name
 
   pub same_external_fits : external_fits s ≡ external_fits s'
   unfolding external_fits
@@ -74,8 +74,8 @@ module _ {s s' : List ℕ} (h : ButLimit s s') where
   unfolding telegram_fits
   same_telegram_fits = λ q t. is_below t.sender (same_components_of h q) and is_below t.receiver (same_components_of h q) and elim (is_internal t) [ true ↦ same_internal_fits q t | false ↦ same_external_fits q t ]
 
-  pub same_cells_fit : cells_fit_lem s ≡ cells_fit_lem s'
-  unfolding cells_fit_lem
+  pub same_cells_fit : cells_fit s ≡ cells_fit s'
+  unfolding cells_fit
   same_cells_fit = λ q st. all_below (same_elements_of h q) (λ i. same_element_fits q st (same_externals_of h q + i))
 
   pub same_waiting_fit : waiting_fit s ≡ waiting_fit s'

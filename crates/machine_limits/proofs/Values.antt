@@ -10,7 +10,7 @@ use Rattle.sheet.specs.Names.{default_member, bound_chart, is_clock, names}
 use Rattle.sheet.specs.All.{◌and◌}
 use Rattle.sheet_rules.specs.Fields.{number_or0, sum_below}
 use Rattle.sheet_rules.specs.DataTypes.{DataType, bool, int, component, port, enumerated_type, no_data, data_type_of}
-use Rattle.machine.specs.Values.{fits32, is_below, record_by, in_data_type, in_type, default_in, default_of, has_default, is_bound_lem, binding_at, binding_of, chart_of, first_cell}
+use Rattle.machine.specs.Values.{fits32, is_below, record_by, in_data_type, in_type, default_in, default_of, has_default, is_bound, binding_at, binding_of, chart_of, first_cell}
 use Rattle.sheet_limits.specs.ButLimit.{ButLimit}
 use Rattle.sheet_limits.proofs.Fields.{same_components_of, same_declared_so, same_externals_of, same_members_of, same_ports_of}
 use Rattle.sheet_limits.proofs.Records.{same_bindings, same_charts, same_enumerated_types, same_record_of}
@@ -66,8 +66,8 @@ module _ {s s' : List ℕ} (h : ButLimit s s') where
   unfolding has_default
   same_has_default = λ q d. same_declared_so h q d (λ t. elim (is_clock t) [ true ↦ true | false ↦ same_in_type q t (same_default_of q t) ])
 
-  pub same_is_bound : is_bound_lem s ≡ is_bound_lem s'
-  unfolding is_bound_lem
+  pub same_is_bound : is_bound s ≡ is_bound s'
+  unfolding is_bound
   same_is_bound = λ q e. leb (same_externals_of h q) e and ltb e (same_components_of h q)
 
   pub same_binding_at : binding_at s ≡ binding_at s'

@@ -19,7 +19,7 @@ use Rattle.sheet_rules.specs.Bindings.{chart_bound}
 use Rattle.sheet_rules.specs.Shape.{tree_shape, trees_shape, constants_shape, records_shape, binding_shape}
 use Rattle.sheet_rules.specs.Types.{reacts_to, has_reaction}
 use Rattle.sheet_rules.specs.Static.{body_of, has_role, bodies_with, body_static, bodies_static, chart_static, no_twin, constants_static, binding_static}
-use Rattle.machine.specs.Values.{is_bound_lem, binding_at, binding_of, chart_of}
+use Rattle.machine.specs.Values.{is_bound, binding_at, binding_of, chart_of}
 use Rattle.machine.specs.Play.{body_from, body_where, is_initial, has_panic}
 use Rattle.sheet_rules.specs.Check.{check_of}
 use Rattle.sheet_rules.proofs.Fields.{holds-present}
@@ -45,11 +45,11 @@ module _ (s : List ℕ) (e : ℕ) where
   unfolding chart_of
   element-chart b c x = rw (chart_of, element-binding b c x) x.chart
 
-  binding-element : (b : Record) → binding_of s e ≡ Present b → (is_bound_lem s e ≡ true) × (record_of s bindings (binding_at s e) ≡ Present b)
+  binding-element : (b : Record) → binding_of s e ≡ Present b → (is_bound s e ≡ true) × (record_of s bindings (binding_at s e) ≡ Present b)
   unfolding binding_of
-  binding-element b h = go (is_bound_lem s e) refl h
+  binding-element b h = go (is_bound s e) refl h
     where
-      go : (t : Bool) → is_bound_lem s e ≡ t → ◌≡◌ {A = Found} (elim t [ true ↦ record_of s bindings (binding_at s e) | false ↦ Absent ]) (Present b) → (is_bound_lem s e ≡ true) × (record_of s bindings (binding_at s e) ≡ Present b)
+      go : (t : Bool) → is_bound s e ≡ t → ◌≡◌ {A = Found} (elim t [ true ↦ record_of s bindings (binding_at s e) | false ↦ Absent ]) (Present b) → (is_bound s e ≡ true) × (record_of s bindings (binding_at s e) ≡ Present b)
       go true q h = (q, h)
       go false q h = no_record h
 
@@ -62,13 +62,13 @@ module _ (s : List ℕ) (e : ℕ) where
       go Absent q h = no_record h
 
   -- the chart of a bound element is the one that its first record names
-  pub chart_of_lem : is_bound_lem s e ≡ true → chart_bound s (binding_at s e) ≡ chart_of s e
+  pub chart_of_lem : is_bound s e ≡ true → chart_bound s (binding_at s e) ≡ chart_of s e
   unfolding chart_bound chart_of binding_of
   chart_of_lem h = rw (chart_of, binding_of, h) refl
 
 -- the elements are the components from the first bound one on
-pub number_bound : (s : List ℕ) (i : ℕ) → i < elements_of s → is_bound_lem s (externals_of s + i) ≡ true
-unfolding elements_of is_bound_lem
+pub number_bound : (s : List ℕ) (i : ℕ) → i < elements_of s → is_bound s (externals_of s + i) ≡ true
+unfolding elements_of is_bound
 number_bound s i l = and-true _ _ (le-leb (externals_of s) (externals_of s + i) (omega arith)) (lt-ltb (externals_of s + i) (components_of s) (omega arith))
 
 -- ---- the body that is looked for
@@ -147,14 +147,14 @@ reaction_there s c n e = let m = some_reacts s c n e in where_some s (reacts_to 
 
 module _ (s : List ℕ) (ok : check_of s ≡ Passed) where
   -- the number of an element among those bound
-  bound-number : (e : ℕ) → is_bound_lem s e ≡ true → e - externals_of s < elements_of s
-  unfolding is_bound_lem elements_of
+  bound-number : (e : ℕ) → is_bound s e ≡ true → e - externals_of s < elements_of s
+  unfolding is_bound elements_of
   bound-number e h =
       let low : externals_of s ≤ e = leb-true _ _ (and_first _ _ h) in
       let high : e < components_of s = ltb-true _ _ (and_second _ _ h) in
       omega arith
 
-  pub bound-element : (e : ℕ) → is_bound_lem s e ≡ true → (b : Record) × (c : Record) × Element s e b c
+  pub bound-element : (e : ℕ) → is_bound s e ≡ true → (b : Record) × (c : Record) × Element s e b c
   unfolding binding_shape binding_at
   bound-element e h =
       let p = held _ _ (binding-shape s ok (e - externals_of s) (bound-number e h)) in

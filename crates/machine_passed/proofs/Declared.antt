@@ -21,7 +21,7 @@ use Rattle.sheet_rules.specs.DataTypes.{data_type_of}
 use Rattle.sheet_rules.proofs.DataTypes.{type_enumerated}
 use Rattle.sheet_rules.specs.Shape.{enumerated_shape, type_exists, name_shape, chart_shape, body_shape, variables_at}
 use Rattle.sheet_rules.specs.Types.{variable_at}
-use Rattle.machine.specs.Values.{is_below, fits32, in_data_type, in_type, default_in, default_of, has_default, is_bound_lem, chart_of}
+use Rattle.machine.specs.Values.{is_below, fits32, in_data_type, in_type, default_in, default_of, has_default, is_bound, chart_of}
 use Rattle.machine.specs.Run.{locals_there}
 use Rattle.machine.specs.Play.{has_head, element_there, elements_there, bodies_there, is_initial}
 use Rattle.sheet_rules.specs.Check.{check_of}
@@ -163,7 +163,7 @@ module _ (s : List ℕ) (ok : check_of s ≡ Passed) where
   pub element-declared : (e : ℕ) (c : Record) → chart_of s e ≡ Present c → (j : ℕ) → j < (chart_variables c).count → (chart_variables c).first + j < count_of s declarations
   element-declared e c p = let x = chart-element s e c p in chart-variable-declared (bound_chart x.0) c x.1.chart
 
-  pub element-there : (e : ℕ) → is_bound_lem s e ≡ true → element_there s e ≡ true
+  pub element-there : (e : ℕ) → is_bound s e ≡ true → element_there s e ≡ true
   unfolding element_there
   element-there e h = let x = bound-element s ok e h in let p = element-chart s e x.0 x.1 x.2 in holds-present (chart_of s e) x.1 _ p ∙ all_true _ _ (λ j l. has_default_lem _ (element-declared e x.1 p j l))
 
@@ -171,6 +171,6 @@ module _ (s : List ℕ) (ok : check_of s ≡ Passed) where
   unfolding elements_there
   elements-there = and-true _ _ has_head_lem (all_true (elements_of s) _ (λ i l. element-there (externals_of s + i) (number_bound s i l)))
 
-  pub bodies-there : (e : ℕ) → is_bound_lem s e ≡ true → bodies_there s e ≡ true
+  pub bodies-there : (e : ℕ) → is_bound s e ≡ true → bodies_there s e ≡ true
   unfolding bodies_there
   bodies-there e h = let x = bound-element s ok e h in holds-present (chart_of s e) x.1 _ (element-chart s e x.0 x.1 x.2) ∙ bodies_in_section (bound_chart x.0) x.1 x.2.chart

@@ -8,7 +8,7 @@ use Rattle.sheet_rules.specs.Fields.{type_at}
 use Rattle.sheet_rules.specs.Indices.{cells_taken}
 use Rattle.sheet_rules.specs.Types.{variable_at}
 use Rattle.sheet_rules.specs.Static.{body_of}
-use Rattle.machine.specs.Values.{in_type, is_bound_lem, binding_at}
+use Rattle.machine.specs.Values.{in_type, is_bound, binding_at}
 use Rattle.machine.specs.State.{cell_of, word_of}
 use Rattle.machine.specs.Valid.{cell_fits}
 use Rattle.machine.specs.Eval.{Context}
@@ -22,7 +22,7 @@ pub record InChart (s : List ℕ) (c b : Record) : Type 0 where
 
 -- element e with its first binding record and its chart
 pub record Element (s : List ℕ) (e : ℕ) (b c : Record) : Type 0 where
-  pub bound : is_bound_lem s e ≡ true
+  pub bound : is_bound s e ≡ true
   pub binding : record_of s bindings (binding_at s e) ≡ Present b
   pub chart : record_of s charts (bound_chart b) ≡ Present c
 

@@ -21,7 +21,7 @@ use Rattle.machine.specs.declared.Handed.TheVariants.{Nothing, Outside}
 use Rattle.sheet_rules.specs.Fields.{holds, components_of, externals_of, ports_of, elements_of}
 use Rattle.sheet_rules.specs.Shape.{is_reaction}
 use Rattle.sheet_rules.specs.Types.{name_range, has_class, has_reaction}
-use Rattle.machine.specs.Values.{is_below, is_bound_lem, chart_of}
+use Rattle.machine.specs.Values.{is_below, is_bound, chart_of}
 use Rattle.machine.specs.State.{state_length, word_of, waiting, telegram_of, without_telegram, Changed, on, off, lost, is_internal}
 use Rattle.machine.specs.Valid.{data_fit, name_fits, reaction_awaits, datum_of, internal_fits, external_fits, telegram_fits, content_fits, OfSheet}
 use Rattle.machine.specs.Kinds as kind
@@ -43,8 +43,8 @@ use Rattle.machine_promise.proofs.Bodies.{body_of, reacting-kept, panicking-kept
 -- ---- words
 
 -- a component that is not external is bound
-pub bound_word_lem : (s : List ℕ) (z : ℤ) → is_below z (components_of s) ≡ true → is_below z (externals_of s) ≡ false → is_bound_lem s (nat_abs z) ≡ true
-unfolding is_bound_lem is_below
+pub bound_word_lem : (s : List ℕ) (z : ℤ) → is_below z (components_of s) ≡ true → is_below z (externals_of s) ≡ false → is_bound s (nat_abs z) ≡ true
+unfolding is_bound is_below
 bound_word_lem s (pos k) h n = and-true _ _ (le-leb (externals_of s) k (ltb-false k (externals_of s) n)) h
 bound_word_lem s (negsuc k) h n = absurd (true_false h refl)
 
@@ -110,7 +110,7 @@ module _ (s : List ℕ) (ok : check_of s ≡ Passed) where
   -- ---- 2 Deliver
 
   -- the reaction for its port and name, or without one the panic body
-  received-kept : (old st : List ℤ) → OfSheet s st → (t : Telegram) → is_below t.name (count_of s names) ≡ true → data_fit s (name_range s (nat_abs t.name)) (datum_of t) ≡ true → (e p : ℕ) → is_bound_lem s e ≡ true → EventKept s old (received s (limit_of s) old t st e p (nat_abs t.name))
+  received-kept : (old st : List ℤ) → OfSheet s st → (t : Telegram) → is_below t.name (count_of s names) ≡ true → data_fit s (name_range s (nat_abs t.name)) (datum_of t) ≡ true → (e p : ℕ) → is_bound s e ≡ true → EventKept s old (received s (limit_of s) old t st e p (nat_abs t.name))
   unfolding received is_reaction
   received-kept old st o t below h e p bound = go (element_body s e (reacts_on p (nat_abs t.name))) refl
     where
@@ -145,7 +145,7 @@ module _ (s : List ℕ) (ok : check_of s ≡ Passed) where
 
   -- ---- 3 Corrupt
 
-  corrupt-kept : (st : List ℤ) → OfSheet s st → (a r : ℤ) → is_below r (components_of s) ≡ true → is_bound_lem s (nat_abs r) ≡ true → EventKept s st (corrupt s (limit_of s) st a r)
+  corrupt-kept : (st : List ℤ) → OfSheet s st → (a r : ℤ) → is_below r (components_of s) ≡ true → is_bound s (nat_abs r) ≡ true → EventKept s st (corrupt s (limit_of s) st a r)
   unfolding corrupt
   corrupt-kept st o a r below bound = let x = bound-element s ok (nat_abs r) bound in taking-kept s st o (goes_from a r) _ (λ t st' h p o'. subst (EventKept s st) (sym (number_is r _ _ below)) (panicking-kept s ok (nat_abs r) x.0 x.1 x.2 st st' o'))
 
@@ -156,7 +156,7 @@ module _ (s : List ℕ) (ok : check_of s ≡ Passed) where
   inner-kept st o r = taking-kept s st o (inner_of r) _ (λ t st' h p o'.
       let same : t.receiver ≡ r = same_word_lem _ _ (and_second _ _ p) in
       let i = internal_part s t h (and_first _ _ p) in
-      let bound : is_bound_lem s (nat_abs r) ≡ true = subst (λ z. is_bound_lem s (nat_abs z) ≡ true) same (and_first _ _ (and_second _ _ i)) in
+      let bound : is_bound s (nat_abs r) ≡ true = subst (λ z. is_bound s (nat_abs z) ≡ true) same (and_first _ _ (and_second _ _ i)) in
       let named = and_second _ _ (and_second _ _ i) in
       let fits : data_fit s (name_range s (nat_abs t.name)) (datum_of t) ≡ true = and_second _ _ (and_second _ _ (and_first _ _ named)) in
       let x = bound-element s ok (nat_abs r) bound in

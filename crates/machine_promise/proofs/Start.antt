@@ -16,7 +16,7 @@ use Rattle.machine.specs.declared.Ran.{Ran}
 use Rattle.machine.specs.declared.Ran.TheVariants.{Done, Refused, Stuck}
 use Rattle.sheet_rules.specs.declared.Checked.TheVariants.{Passed}
 use Rattle.sheet_rules.specs.Fields.{components_of, externals_of, elements_of}
-use Rattle.machine.specs.Values.{is_bound_lem}
+use Rattle.machine.specs.Values.{is_bound}
 use Rattle.machine.specs.State.{state_length}
 use Rattle.machine.specs.Valid.{OfSheet}
 use Rattle.machine.specs.Eval.{Context}
@@ -39,7 +39,7 @@ module _ (s : List ℕ) (ok : check_of s ≡ Passed) where
 
   -- the initial bodies of n elements from e on
   from_kept : (n e k : ℕ) (st : List ℤ) → externals_of s ≤ e → e + n ≤ components_of s → OfSheet s st → StartKept s (start_from s (limit_of s) n e k st)
-  unfolding start_from is_bound_lem
+  unfolding start_from is_bound
   from_kept zero e k st l m o = (inl refl, λ z. o)
   from_kept (suc n) e k st l m o =
       let x = bound-element s ok e (and-true _ _ (le-leb (externals_of s) e l) (lt-ltb e (components_of s) (omega arith))) in

@@ -6,14 +6,14 @@ use lib.IntN.{ℤ, pos}
 use Rattle.sheet_rules.proofs.Samples.{sheet_of, rec3, rec6, body}
 use Rattle.machine.specs.declared.Handed.TheVariants.{Nothing}
 use Rattle.machine.specs.State.{state_length, waiting}
-use Rattle.machine.specs.Valid.{name_fits, reaction_awaits, zero_words, running_clock, clock_cell, cell_fits, variable_fits, element_fits, internal_fits, external_fits, telegram_fits, head_fits, cells_fit_lem, waiting_fit, unused_zero, classes_fit, content_fits}
+use Rattle.machine.specs.Valid.{name_fits, reaction_awaits, zero_words, running_clock, clock_cell, cell_fits, variable_fits, element_fits, internal_fits, external_fits, telegram_fits, head_fits, cells_fit, waiting_fit, unused_zero, classes_fit, content_fits}
 use Rattle.machine.specs.Play.{Outcome, ended, stuck, answer, rest_zero, well_formed, is_event, if_passed, start_call, event_call, limit_of}
 use Rattle.machine.proofs.Samples.{event, words, sent, row}
 
 -- a whole call, with every definition open
 unfoldable pub start : List (List ℕ) → Outcome
 unfolding event name_fits reaction_awaits zero_words running_clock clock_cell cell_fits variable_fits element_fits internal_fits external_fits telegram_fits head_fits
-    cells_fit_lem waiting_fit unused_zero classes_fit content_fits rest_zero well_formed is_event if_passed start_call event_call
+    cells_fit waiting_fit unused_zero classes_fit content_fits rest_zero well_formed is_event if_passed start_call event_call
 start ss = start_call (sheet_of ss) (limit_of (sheet_of ss)) (replicate (state_length (sheet_of ss)) (pos 0))
 
 -- what is answered, without a telegram handed outside

@@ -23,8 +23,8 @@ use Rattle.sheet_rules.proofs.Sums.{sum_same}
 use Rattle.sheet_seven.specs.Kept.{up_to_seven}
 use Rattle.sheet_seven.proofs.Kept.{sheet-kept, few}
 use Rattle.machine.specs.declared.Out.{Out}
-use Rattle.machine.specs.Values.{is_bound_lem, binding_at, binding_of, chart_of, first_cell}
-use Rattle.machine.specs.Eval.{Context, needs, on_record, literal_value, within, of_type, parameter_val, read_as_lem, read_val}
+use Rattle.machine.specs.Values.{is_bound, binding_at, binding_of, chart_of, first_cell}
+use Rattle.machine.specs.Eval.{Context, needs, on_record, literal_value, within, of_type, parameter_val, read_as, read_val}
 use Rattle.machine_seven.specs.Before as before
 use Rattle.machine_seven.specs.Kept.{StoredKept, EveryStored}
 
@@ -46,7 +46,7 @@ module _ (s : List ℕ) (h : up_to_seven s ≡ true) where
 
   kept-binding : (e : ℕ) → binding_of s e ≡ before.binding_of s e
   unfolding binding_of before.binding_of
-  kept-binding e = ap (λ (k : ℕ). elim (is_bound_lem s e) as (λ b. Found) [ true ↦ record_of s bindings k | false ↦ Absent ]) (at e)
+  kept-binding e = ap (λ (k : ℕ). elim (is_bound s e) as (λ b. Found) [ true ↦ record_of s bindings k | false ↦ Absent ]) (at e)
 
   kept-chart : (e : ℕ) → chart_of s e ≡ before.chart_of s e
   unfolding chart_of before.chart_of
@@ -58,7 +58,7 @@ module _ (s : List ℕ) (h : up_to_seven s ≡ true) where
 
   kept-held : (e : ℕ) (b : Record) → before.binding_of s e ≡ Present b → record_of s bindings (binding_at s e) ≡ Present b
   unfolding before.binding_of
-  kept-held e b p = ap (record_of s bindings) (at e) ∙ go (is_bound_lem s e) p
+  kept-held e b p = ap (record_of s bindings) (at e) ∙ go (is_bound s e) p
     where
       go : (t : Bool) → ◌≡◌ {A = Found} (elim t [ true ↦ record_of s bindings (e - externals_of s) | false ↦ Absent ]) (Present b) → record_of s bindings (e - externals_of s) ≡ Present b
       go true q = q
@@ -73,10 +73,10 @@ module _ (s : List ℕ) (h : up_to_seven s ≡ true) where
         ap (λ (i : ℕ). needs (is_field i) (on_record (constant_binding s x.binding n) (λ b. node (field_of b i)))) z.1
         ∙ ap (λ (f : Found). needs (is_field (1 + n)) (on_record f (λ b. node (field_of b (1 + n))))) (ap (record_of s bindings) z.0 ∙ bound)
 
-    kept_as : (st lo : List ℤ) (place n t l : ℕ) → ltb n (variables_at x.chart x.body place) ≡ true → read_as_lem s x st lo place n t l ≡ before.read_as s x b st lo place n t l
-    unfolding read_as_lem before.read_as variables_at
+    kept_as : (st lo : List ℤ) (place n t l : ℕ) → ltb n (variables_at x.chart x.body place) ≡ true → read_as s x st lo place n t l ≡ before.read_as s x b st lo place n t l
+    unfolding read_as before.read_as variables_at
     kept_as st lo zero n t l m = kept_parameter n t l (ltb-true _ _ m)
-    kept_as st lo (suc place) n t l m = rw (read_as_lem, before.read_as, ne_eqb (suc place) 0 (λ q. absurd (omega arith))) refl
+    kept_as st lo (suc place) n t l m = rw (read_as, before.read_as, ne_eqb (suc place) 0 (λ q. absurd (omega arith))) refl
 
     kept-reading : (st lo : List ℤ) (place n l : ℕ) → read_val s x st lo place n l ≡ before.read_val s x b st lo place n l
     unfolding read_val before.read_val

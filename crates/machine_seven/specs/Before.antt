@@ -15,12 +15,12 @@ use Rattle.sheet_rules.specs.Shape.{variables_at}
 use Rattle.sheet_rules.specs.Types.{variable_at}
 use Rattle.sheet_seven.specs.Before.{constant_of, cells_bound}
 use Rattle.machine.specs.declared.Out.{Out}
-use Rattle.machine.specs.Values.{is_bound_lem}
+use Rattle.machine.specs.Values.{is_bound}
 use Rattle.machine.specs.State.{word_of}
 use Rattle.machine.specs.Eval.{Context, needs, on_record, val, literal_value, within, of_type, on_type, body_words, variable_at_cell}
 
 unfoldable pub binding_of : List ℕ → ℕ → Found
-binding_of s e = elim (is_bound_lem s e) [ true ↦ record_of s bindings (e - externals_of s) | false ↦ Absent ]
+binding_of s e = elim (is_bound s e) [ true ↦ record_of s bindings (e - externals_of s) | false ↦ Absent ]
 
 unfoldable pub chart_of : List ℕ → ℕ → Found
 chart_of s e = elim (binding_of s e) [ Present b ↦ record_of s charts (bound_chart b) | Absent ↦ Absent ]
@@ -34,12 +34,12 @@ module _ (s : List ℕ) (x : Context) (b : Record) where
   parameter_val n t l = needs (is_field (1 + n)) (on_record (record_of s nodes (constant_of b n)) (λ r. needs (is_literal (operator r)) (of_type t (literal_value x.element r) (within s (literal_value x.element r) l))))
 
   module _ (st lo : List ℤ) where
-    unfoldable pub read_as_lem : ℕ → ℕ → ℕ → ℕ → Out
-    read_as_lem place n t l =
+    unfoldable pub read_as : ℕ → ℕ → ℕ → ℕ → Out
+    read_as place n t l =
         elim (eqb place Names.chart_parameter) [
           | true ↦ parameter_val n t l
           | false ↦ elim (eqb place Names.chart_variable) [ true ↦ within s (val t (word_of st (variable_at_cell s x n 0))) l | false ↦ needs (ltb n body_words) (within s (val t (word_of lo n)) l) ]
         ]
 
     unfoldable pub read_val : ℕ → ℕ → ℕ → Out
-    read_val place n l = needs (ltb n (variables_at x.chart x.body place) and is_plain (index_at s (variable_at x.chart x.body place n))) (on_type s (variable_at x.chart x.body place n) (λ t. read_as_lem place n t l))
+    read_val place n l = needs (ltb n (variables_at x.chart x.body place) and is_plain (index_at s (variable_at x.chart x.body place n))) (on_type s (variable_at x.chart x.body place n) (λ t. read_as place n t l))

@@ -29,10 +29,10 @@ use Rattle.sheet_rules.specs.DataTypes.{data_type_of}
 use Rattle.sheet_rules.specs.Indices.{index_at, is_plain, cells_taken}
 use Rattle.sheet_rules.specs.Types.{literal_type, variable_at, chart_variable_index, read_element_type, assign_element_type, read_type, clock_type, lower_type, type_in, type_step, type_of, assign_type, external_type, internal_type, arm_type, clock_act_type, call_type, choice_type, loop_type, sequence_type}
 use Rattle.sheet_rules.specs.Static.{constant_static, constants_static}
-use Rattle.machine.specs.Values.{fits32, is_below, is_zero, in_data_type, in_type, is_bound_lem}
+use Rattle.machine.specs.Values.{fits32, is_below, is_zero, in_data_type, in_type, is_bound}
 use Rattle.machine.specs.State.{cell_of, word_of}
 use Rattle.machine.specs.Valid.{zero_words, running_clock, clock_cell, cell_fits}
-use Rattle.machine.specs.Eval.{needs, on_record, val, not_val, literal_value, within, of_type, Context, is_variable, is_plain_variable, Reached, inside, out_of_range, unfit, reached, element_as, element_val, on_type, body_words, parameter_val, variable_at_cell, read_as_lem, read_val, clock_word, clock_val, eval_in, eval_of}
+use Rattle.machine.specs.Eval.{needs, on_record, val, not_val, literal_value, within, of_type, Context, is_variable, is_plain_variable, Reached, inside, out_of_range, unfit, reached, element_as, element_val, on_type, body_words, parameter_val, variable_at_cell, read_as, read_val, clock_word, clock_val, eval_in, eval_of}
 use Rattle.sheet_rules.specs.Check.{check_of}
 use Rattle.sheet_rules.specs.Bindings.{constant_binding}
 use Rattle.sheet_rules.proofs.Fields.{holds-present}
@@ -61,7 +61,7 @@ zero_is (negsuc k) e = absurd (true_false e refl)
 
 module _ (s : List ℕ) (ok : check_of s ≡ Passed) (x : Context) (placed : Placed s x) (st lo : List ℤ) (cells : Cells s x st) (locals : Locals s x lo) where
   below-components : x.element < components_of s
-  unfolding is_bound_lem
+  unfolding is_bound
   below-components = ltb-true _ _ (and_second _ _ placed.element.bound)
 
   pub few-parameters : (chart_parameters x.chart).count ≤ 14
@@ -104,20 +104,20 @@ module _ (s : List ℕ) (ok : check_of s ≡ Passed) (x : Context) (placed : Pla
       ltb n (variables_at x.chart x.body place) ≡ true →
       is_clock (type_at s (variable_at x.chart x.body place n)) ≡ false →
       is_plain (index_at s (variable_at x.chart x.body place n)) ≡ true →
-      Gives s (type_at s (variable_at x.chart x.body place n)) (read_as_lem s x st lo place n (type_at s (variable_at x.chart x.body place n)) l)
+      Gives s (type_at s (variable_at x.chart x.body place n)) (read_as s x st lo place n (type_at s (variable_at x.chart x.body place n)) l)
 
   read-gives : (place n l : ℕ) → Reads place n l
-  unfolding read_as_lem variable_at variables_at
+  unfolding read_as variable_at variables_at
   read-gives zero n l h c p = parameter_gives n _ l (ltb-true _ _ h) refl
   read-gives (suc zero) n l h c p = variable-gives n _ l 0 (ltb-true _ _ h) (has_cell s _ p) refl c
   read-gives (suc (suc zero)) n l h c p = local_gives n _ l (ltb-true _ _ h) refl
   read-gives (suc (suc (suc k))) n l h c p = absurd (let z = ltb-true n 0 (rw (no_place k) at h) in omega arith)
 
   -- its declaration is there
-  read-declared : (place n l : ℕ) → ltb n (variables_at x.chart x.body place) ≡ true → is_clock (type_at s (variable_at x.chart x.body place n)) ≡ false → is_plain (index_at s (variable_at x.chart x.body place n)) ≡ true → Gives s (type_at s (variable_at x.chart x.body place n)) (on_type s (variable_at x.chart x.body place n) (λ t. read_as_lem s x st lo place n t l))
+  read-declared : (place n l : ℕ) → ltb n (variables_at x.chart x.body place) ≡ true → is_clock (type_at s (variable_at x.chart x.body place n)) ≡ false → is_plain (index_at s (variable_at x.chart x.body place n)) ≡ true → Gives s (type_at s (variable_at x.chart x.body place n)) (on_type s (variable_at x.chart x.body place n) (λ t. read_as s x st lo place n t l))
   read-declared place n l h c p =
       let d = declared_record s _ (variable-declared s ok _ _ placed.element.chart x.body placed.body place n (ltb-true _ _ h)) in
-      subst (Gives s _) (sym (on-present _ d.0 _ d.1 ∙ ap (λ t. read_as_lem s x st lo place n t l) d.2)) (read-gives place n l h c p)
+      subst (Gives s _) (sym (on-present _ d.0 _ d.1 ∙ ap (λ t. read_as s x st lo place n t l) d.2)) (read-gives place n l h c p)
 
   -- ---- clocks: 17 its running word, 18 its value
 

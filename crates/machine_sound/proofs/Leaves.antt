@@ -26,7 +26,7 @@ use Rattle.sheet_rules.specs.DataTypes.{enumerated_type, data_type_of}
 use Rattle.sheet_rules.proofs.DataTypes.{type_enumerated}
 use Rattle.sheet_rules.specs.Shape.{literal_fields, literal_shape}
 use Rattle.sheet_rules.specs.Types.{given, is_of, same_type, written_type, literal_type, of_ints, combined_type, binary_type, not_type}
-use Rattle.machine.specs.Values.{fits32, is_below, is_zero, same_word_lem, in_data_type, in_type}
+use Rattle.machine.specs.Values.{fits32, is_below, is_zero, same_word, in_data_type, in_type}
 use Rattle.machine_division.specs.Division.{quotient, remainder}
 use Rattle.machine.specs.Eval.{and_then, needs, val, bool_word, int_out, dividing, is_one, not_val, on_ints, combined, binary_val, written, literal_value, within}
 use Rattle.machine_sound.specs.Gives.{Gives}
@@ -146,7 +146,7 @@ module _ (s : List ℕ) where
   combined-gives equal t y z e =
       let a = asked _ _ e in
       let m = same_types_lem y z a.0 in
-      two_gives t bool_type m.0 m.0 y z (λ a b l. Val (val bool_type (bool_word (same_word_lem a.word b.word))) l) (λ a b. eqb a.kind b.kind) (λ a b i j. eq-eqb _ _ (i ∙ sym j)) m.1 m.2 a.1 (λ a b l. gives-bool (same_word_lem a.word b.word) l)
+      two_gives t bool_type m.0 m.0 y z (λ a b l. Val (val bool_type (bool_word (same_word a.word b.word))) l) (λ a b. eqb a.kind b.kind) (λ a b i j. eq-eqb _ _ (i ∙ sym j)) m.1 m.2 a.1 (λ a b l. gives-bool (same_word a.word b.word) l)
   combined-gives less t y z e = ints_gives t bool_type y z _ e (λ a b l. gives-bool (lt_z a.word b.word) l)
   combined-gives plus t y z e = ints_gives t int_type y z _ e (λ a b l. gives-int (a.word +ℤ b.word) l)
   combined-gives minus t y z e = ints_gives t int_type y z _ e (λ a b l. gives-int (a.word -ℤ b.word) l)

@@ -16,7 +16,7 @@ use Rattle.sheet_rules.specs.Fields.{one_if, sum_below, count_below}
 use Rattle.sheet_rules.proofs.Fields.{sum_more}
 use Rattle.sheet_rules.proofs.Sums.{sum_same, sum_some, count_closed}
 use Rattle.machine.specs.declared.Telegram.{Telegram}
-use Rattle.machine.specs.Values.{same_word_lem}
+use Rattle.machine.specs.Values.{same_word}
 use Rattle.machine.specs.State.{places, state_length, waiting, telegram_of, is_internal, class_of, same_class, waiting_like, class_limit, with_telegram, without_telegram}
 use Rattle.machine.specs.Valid.{classes_fit}
 use Rattle.machine_states.proofs.Frame.{all_true}
@@ -41,9 +41,9 @@ module _ (t u : Telegram) (h : same_class t u ≡ true) where
   one_class : (x : Telegram) → same_class t x ≡ same_class u x
   unfolding same_class
   one_class x =
-      ap (λ (z : ℤ). same_word_lem z x.sender and same_word_lem t.receiver x.receiver and eqb (class_of t) (class_of x)) class-words.0
-      ∙ ap (λ (z : ℤ). same_word_lem u.sender x.sender and same_word_lem z x.receiver and eqb (class_of t) (class_of x)) class-words.1
-      ∙ ap (λ (n : ℕ). same_word_lem u.sender x.sender and same_word_lem u.receiver x.receiver and eqb n (class_of x)) class-words.2
+      ap (λ (z : ℤ). same_word z x.sender and same_word t.receiver x.receiver and eqb (class_of t) (class_of x)) class-words.0
+      ∙ ap (λ (z : ℤ). same_word u.sender x.sender and same_word z x.receiver and eqb (class_of t) (class_of x)) class-words.1
+      ∙ ap (λ (n : ℕ). same_word u.sender x.sender and same_word u.receiver x.receiver and eqb n (class_of x)) class-words.2
 
   like_one : (s : List ℕ) (st : List ℤ) → waiting_like s st t ≡ waiting_like s st u
   unfolding waiting_like

@@ -15,7 +15,7 @@ use Rattle.sheet.specs.All.{◌and◌, all_below}
 use Rattle.sheet.specs.Names.{names, internal, timer_type, timeout_type, is_clock}
 use Rattle.sheet.specs.Sheet.{count_of}
 use Rattle.sheet.proofs.All.{true_false, and_first, and_second, and-true}
-use Rattle.machine.specs.Values.{fits32, is_below, is_zero, chart_of, same_word_lem}
+use Rattle.machine.specs.Values.{fits32, is_below, is_zero, chart_of, same_word}
 use Rattle.machine.specs.State.{word_of}
 use Rattle.machine.specs.Valid.{name_fits, reaction_awaits, zero_words, running_clock, clock_cell, cell_fits, telegram_fits}
 use Rattle.machine.specs.Run.{telegram}
@@ -34,7 +34,7 @@ timer_value (pos a) h = le-leb 0 (a + 1) (omega arith)
 timer_value (negsuc a) h = absurd (true≢false (sym h))
 
 -- a Timer that isn't at the last of the Ints
-pub timer_int : (w : ℤ) → fits32 w ≡ true → le_z (pos 0) w ≡ true → same_word_lem w (pos 2147483647) ≡ false → fits32 (w +ℤ pos 1) ≡ true
+pub timer_int : (w : ℤ) → fits32 w ≡ true → le_z (pos 0) w ≡ true → same_word w (pos 2147483647) ≡ false → fits32 (w +ℤ pos 1) ≡ true
 unfolding fits32
 timer_int (pos a) f h n =
     let m : a < 2147483648 = ltb-true a 2147483648 f in
@@ -46,7 +46,7 @@ timer_int (pos a) f h n =
 timer_int (negsuc a) f h n = absurd (true≢false (sym h))
 
 -- "1 ≤ value ≤ period", above 1: minus 1
-pub timeout_value : (w period : ℤ) → le_z (pos 1) w and le_z w period ≡ true → same_word_lem w (pos 1) ≡ false → le_z (pos 1) (w -ℤ pos 1) and le_z (w -ℤ pos 1) period ≡ true
+pub timeout_value : (w period : ℤ) → le_z (pos 1) w and le_z w period ≡ true → same_word w (pos 1) ≡ false → le_z (pos 1) (w -ℤ pos 1) and le_z (w -ℤ pos 1) period ≡ true
 timeout_value (pos a) (pos b) h n =
     let l : 1 ≤ a = leb-true 1 a (and_first (leb 1 a) (leb a b) h) in
     let m : a ≤ b = leb-true a b (and_second (leb 1 a) (leb a b) h) in

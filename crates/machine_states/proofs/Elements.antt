@@ -13,7 +13,7 @@ use Rattle.sheet.proofs.All.{and_first, and_second}
 use Rattle.sheet_rules.specs.Fields.{sum_below, components_of, externals_of, elements_of}
 use Rattle.sheet_rules.specs.Indices.{cells_taken, cells_before}
 use Rattle.sheet_rules.specs.Shape.{cells_bound, cells_of}
-use Rattle.machine.specs.Values.{is_bound_lem, binding_at, chart_of, first_cell}
+use Rattle.machine.specs.Values.{is_bound, binding_at, chart_of, first_cell}
 use Rattle.sheet_rules.proofs.Fields.{number-present}
 use Rattle.sheet_rules.proofs.Sums.{sum_rises}
 use Rattle.machine_passed.proofs.Records.{one_record}
@@ -33,7 +33,7 @@ unfolding cells_before
 variable-cells s c j n l = sum_rises (λ i. cells_taken s ((chart_variables c).first + i)) j n l
 
 module _ (s : List ℕ) (e : ℕ) (c : Record) (p : chart_of s e ≡ Present c) where
-  pub element-bound : is_bound_lem s e ≡ true
+  pub element-bound : is_bound s e ≡ true
   element-bound = (chart-element s e c p).1.bound
 
   pub element-count : cells_bound s (e - externals_of s) ≡ cells_before s c (chart_variables c).count
@@ -41,11 +41,11 @@ module _ (s : List ℕ) (e : ℕ) (c : Record) (p : chart_of s e ≡ Present c) 
   element-count = number-present _ c _ (chart_of_lem s e element-bound ∙ p)
 
   pub element_from : externals_of s ≤ e
-  unfolding is_bound_lem
+  unfolding is_bound
   element_from = leb-true _ _ (and_first _ _ element-bound)
 
   pub element-below : e < components_of s
-  unfolding is_bound_lem
+  unfolding is_bound
   element-below = ltb-true _ _ (and_second _ _ element-bound)
 
   pub element-number : e - externals_of s < elements_of s

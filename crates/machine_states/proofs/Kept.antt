@@ -18,7 +18,7 @@ use Rattle.sheet_rules.specs.Fields.{type_at}
 use Rattle.sheet_rules.specs.Indices.{cells_taken, cells_before}
 use Rattle.machine.specs.Values.{is_below, in_type, chart_of, first_cell}
 use Rattle.machine.specs.State.{places, cell_at, cell_of, place_at, state_length, word_of, waiting, telegram_of, waiting_like, class_limit, put_words, with_telegram, without_telegram, last_refusal, Changed, on, off, lost, appended}
-use Rattle.machine.specs.Valid.{cell_fits, telegram_fits, head_fits, cells_fit_lem, OfSheet}
+use Rattle.machine.specs.Valid.{cell_fits, telegram_fits, head_fits, cells_fit, OfSheet}
 use Rattle.machine_states.proofs.Frame.{Same, zero_from_lem, zero_same, telegram_same, cell_same}
 use Rattle.machine_states.proofs.Words.{length-put, word_put_in, word_put_before, word_put_behind, word_set, word_set_other, with_length, with_head_lem, with_waiting, with_before, with_behind, with_last_lem, with_earlier, without_length, without_head_lem, without_waiting, without_before, without_last_lem, without_closed, without_earlier, without_later}
 use Rattle.machine_states.proofs.Classes.{at_most, classes_fit_lem, like_kept, with_most, without_most}
@@ -112,7 +112,7 @@ unfolding head_fits is_below
 head_of s st o st' n e l h = and-true _ _ (ap (λ (z : ℤ). is_below z (places + 1)) e ∙ lt-ltb n (places + 1) (omega arith)) (zero_from_lem st' 0 st 0 1 (λ k m q. h (0 + k) (omega arith) (omega arith)) ∙ head_zero s st o)
 
 -- the cells, where all their words are as they were
-cells_of : (s : List ℕ) (st : List ℤ) → OfSheet s st → (st' : List ℤ) → ((i : ℕ) → 0 < i → i < place_at s 0 → word_of st' i ≡ word_of st i) → cells_fit_lem s st' ≡ true
+cells_of : (s : List ℕ) (st : List ℤ) → OfSheet s st → (st' : List ℤ) → ((i : ℕ) → 0 < i → i < place_at s 0 → word_of st' i ≡ word_of st i) → cells_fit s st' ≡ true
 cells_of s st o st' h = cells_fit_lem s st' (has_chart s st o) (has_declared s st o) (λ e c p j l v m. cell_same st' (cell_of s e c j v) st (cell_of s e c j v) (λ k b. h (cell_of s e c j v + k) (omega (arith, cell_late s st o e c p j l v m)) (omega (arith, cell_inside s st o e c p j l v m))) s e _ ∙ cell_of_lem s st o e c p j l v m)
 
 pub telegram-kept : (s : List ℕ) (st : List ℤ) → OfSheet s st → (t : Telegram) → waiting st < places → waiting_like s st t < class_limit → telegram_fits s t ≡ true → OfSheet s (with_telegram s st t)

@@ -16,9 +16,9 @@ use Rattle.sheet.proofs.All.{true_false, and_first, and_second, and-true, all-at
 use Rattle.sheet.specs.All.{all_below}
 use Rattle.sheet_rules.specs.Fields.{declared_so, type_at, externals_of, elements_of}
 use Rattle.sheet_rules.specs.Indices.{cells_taken}
-use Rattle.machine.specs.Values.{is_below, is_zero, same_word_lem, chart_of}
+use Rattle.machine.specs.Values.{is_below, is_zero, same_word, chart_of}
 use Rattle.machine.specs.State.{places, cell_of, place_at, state_length, word_of, waiting, counted, telegram_of}
-use Rattle.machine.specs.Valid.{zero_words, cell_fits, variable_fits, element_fits, telegram_fits, head_fits, cells_fit_lem, waiting_fit, unused_zero, content_fits, OfSheet}
+use Rattle.machine.specs.Valid.{zero_words, cell_fits, variable_fits, element_fits, telegram_fits, head_fits, cells_fit, waiting_fit, unused_zero, content_fits, OfSheet}
 use Rattle.sheet_rules.proofs.Fields.{holds-present, holds_absent}
 use Rattle.machine_passed.proofs.Declared.{declared_so_lem, declared-below, declared_true}
 use Rattle.machine_states.proofs.Frame.{all_true}
@@ -41,7 +41,7 @@ unfolding is_below
 below_more (pos k) n m l h = lt-ltb k m (omega (arith, ltb-true k n h))
 below_more (negsuc k) n m l h = h
 
-pub same_word_lem : (a b : ℤ) → same_word_lem a b ≡ true → a ≡ b
+pub same_word_lem : (a b : ℤ) → same_word a b ≡ true → a ≡ b
 same_word_lem (pos a) (pos b) e = ap pos (let h = leb-true a b (and_first _ _ e) in let k = leb-true b a (and_second _ _ e) in omega arith)
 same_word_lem (pos a) (negsuc b) e = absurd (true_false (and_first _ _ e) refl)
 same_word_lem (negsuc a) (pos b) e = absurd (true_false (and_second _ _ e) refl)
@@ -78,7 +78,7 @@ module _ (s : List ℕ) (st : List ℤ) (o : OfSheet s st) where
   head_zero = and_second _ _ o.head
 
   element-fits : (i : ℕ) → i < elements_of s → element_fits s st (externals_of s + i) ≡ true
-  unfolding cells_fit_lem
+  unfolding cells_fit
   element-fits i l = all-at (elements_of s) _ o.cells i l
 
   -- every element has a chart
@@ -114,8 +114,8 @@ module _ (s : List ℕ) (st : List ℤ) where
   pub cells_fit_lem : ((i : ℕ) → i < elements_of s → chart_of s (externals_of s + i) ≡ Absent → ⊥) →
       ((e : ℕ) (c : Record) → chart_of s e ≡ Present c → (j : ℕ) → j < (chart_variables c).count → (chart_variables c).first + j < count_of s declarations) →
       ((e : ℕ) (c : Record) → chart_of s e ≡ Present c → (j : ℕ) → j < (chart_variables c).count → (k : ℕ) → k < cells_taken s ((chart_variables c).first + j) →
-      cell_fits s e (type_at s ((chart_variables c).first + j)) st (cell_of s e c j k) ≡ true) → cells_fit_lem s st ≡ true
-  unfolding cells_fit_lem element_fits variable_fits
+      cell_fits s e (type_at s ((chart_variables c).first + j)) st (cell_of s e c j k) ≡ true) → cells_fit s st ≡ true
+  unfolding cells_fit element_fits variable_fits
   cells_fit_lem some declared fits = all_true (elements_of s) _ (λ i l. go i l (chart_of s (externals_of s + i)) refl)
     where
       go : (i : ℕ) → i < elements_of s → (f : Found) → chart_of s (externals_of s + i) ≡ f → element_fits s st (externals_of s + i) ≡ true

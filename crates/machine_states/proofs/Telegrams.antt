@@ -15,7 +15,7 @@ use Rattle.sheet.specs.Names.{external, internal}
 use Rattle.sheet.proofs.All.{and_second, and-true, false-and}
 use Rattle.machine.specs.declared.Telegram.{Telegram}
 use Rattle.sheet_rules.specs.Fields.{components_of, externals_of, ports_of}
-use Rattle.machine.specs.Values.{is_below, same_word_lem, chart_of}
+use Rattle.machine.specs.Values.{is_below, same_word, chart_of}
 use Rattle.machine.specs.State.{is_internal}
 use Rattle.machine.specs.Valid.{name_fits, reaction_awaits, datum_of, internal_fits, external_fits, telegram_fits}
 use Rattle.machine.specs.Run.{telegram, datum}
@@ -36,7 +36,7 @@ unfolding is_below
 with_port t n h = go t.port refl h
   where
     go : (z : ℤ) → t.port ≡ z → is_below z n ≡ true → is_internal t ≡ false
-    go (pos k) e q = ap (λ (z : ℤ). same_word_lem z (negsuc 0)) e ∙ false-and _ _ refl
+    go (pos k) e q = ap (λ (z : ℤ). same_word z (negsuc 0)) e ∙ false-and _ _ refl
     go (negsuc k) e q = absurd (true≢false (sym q))
 
 pub external-fits : (s : List ℕ) (t : Telegram) → is_below t.sender (components_of s) ≡ true → is_below t.receiver (components_of s) ≡ true → is_below t.sender (externals_of s) and is_below t.receiver (externals_of s) ≡ false → is_below t.port (ports_of s) ≡ true → name_fits s external t.name (datum_of t) ≡ true → telegram_fits s t ≡ true

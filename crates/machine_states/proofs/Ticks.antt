@@ -20,7 +20,7 @@ use Rattle.sheet_rules.specs.declared.Checked.TheVariants.{Passed}
 use Rattle.machine.specs.declared.Telegram.{Telegram}
 use Rattle.sheet_rules.specs.Fields.{type_at, externals_of, elements_of}
 use Rattle.sheet_rules.specs.Indices.{cells_taken, cells_before}
-use Rattle.machine.specs.Values.{is_below, is_zero, chart_of, first_cell, same_word_lem}
+use Rattle.machine.specs.Values.{is_below, is_zero, chart_of, first_cell, same_word}
 use Rattle.machine.specs.State.{places, cell_at, cell_of, place_at, word_of, waiting, put_words, with_telegram, Changed, on, off, lost, appended}
 use Rattle.machine.specs.Valid.{OfSheet}
 use Rattle.machine.specs.Play.{then_slice, fires, ticks, sliced_cell, sliced_each, sliced_variable, sliced_cells, sliced_element, sliced_from, clock_telegram}
@@ -88,9 +88,9 @@ module _ (s : List ℕ) (st : List ℤ) (o : OfSheet s st) (e : ℕ) (c : Record
 
     tick_timer : eqb kind timer_type ≡ true → ChangeKept s (ticks s e kind cell st)
     unfolding ticks
-    tick_timer a = go (same_word_lem (word_of st (cell + 1)) (pos 2147483647)) refl
+    tick_timer a = go (same_word (word_of st (cell + 1)) (pos 2147483647)) refl
       where
-        go : (b : Bool) → same_word_lem (word_of st (cell + 1)) (pos 2147483647) ≡ b → ChangeKept s (ticks s e kind cell st)
+        go : (b : Bool) → same_word (word_of st (cell + 1)) (pos 2147483647) ≡ b → ChangeKept s (ticks s e kind cell st)
         go true q = let f : ticks s e kind cell st ≡ off 6 = rw (ticks, a, q) refl in rw f (omega arith, omega arith)
         go false q =
             let f : ticks s e kind cell st ≡ on (set st (cell + 1) (word_of st (cell + 1) +ℤ pos 1)) = rw (ticks, a, q) refl in
@@ -101,9 +101,9 @@ module _ (s : List ℕ) (st : List ℤ) (o : OfSheet s st) (e : ℕ) (c : Record
 
     tick_timeout : eqb kind timer_type ≡ false → eqb kind timeout_type ≡ true → ChangeKept s (ticks s e kind cell st)
     unfolding ticks
-    tick_timeout a b = go (same_word_lem (word_of st (cell + 1)) (pos 1)) refl
+    tick_timeout a b = go (same_word (word_of st (cell + 1)) (pos 1)) refl
       where
-        go : (t : Bool) → same_word_lem (word_of st (cell + 1)) (pos 1) ≡ t → ChangeKept s (ticks s e kind cell st)
+        go : (t : Bool) → same_word (word_of st (cell + 1)) (pos 1) ≡ t → ChangeKept s (ticks s e kind cell st)
         go true q = let f : ticks s e kind cell st ≡ fires s e cell (replicate 8 (pos 0)) st = rw (ticks, a, b, q) refl in rw f (stop_kept a)
         go false q =
             let f : ticks s e kind cell st ≡ on (set st (cell + 1) (word_of st (cell + 1) -ℤ pos 1)) = rw (ticks, a, b, q) refl in

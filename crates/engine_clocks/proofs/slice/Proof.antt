@@ -4,7 +4,7 @@ use mathlib.Core.Path.{◌≡◌, sym, ap, subst, ◌∙◌}
 use mathlib.Core.Bool.{true}
 use borrow.Author.Rules.{rules}
 use Rattle.sheet_rules.specs.Fields.{field_at, field_of, externals_of, elements_of}
-use Rattle.machine.specs.Values.{is_bound_lem, chart_of, first_cell}
+use Rattle.machine.specs.Values.{is_bound, chart_of, first_cell}
 use Rattle.machine.specs.State.{cell_at}
 use Rattle.machine.specs.Play.{sliced_from}
 use Rattle.machine_passed.proofs.Records.{cells_limit, components_limit, elements-rest}
@@ -56,7 +56,7 @@ chart-of-requires c κs =
     let f = c.before.loop.invariant.1 in
     let n = c.before.loop.invariant.2 in
     let m : i < elements_of s = omega arith in
-    (pre.directory, pre.passed, pre.cells, subst (λ x. is_bound_lem s (x + i) ≡ true) (sym f) (number_bound s i m))
+    (pre.directory, pre.passed, pre.cells, subst (λ x. is_bound s (x + i) ≡ true) (sym f) (number_bound s i m))
 
 enum-known-c : tie.Need-enum-known-c invariant-loop decreases-loop
 enum-known-c c = search rules

@@ -2,7 +2,7 @@ use mathlib.Core.Path.{ap, ◌∙◌}
 use lib.Signed.{lt_z}
 use borrow.Author.Rules.{rules}
 use Rattle.sheet.specs.All.{◌and◌}
-use Rattle.machine.specs.Values.{same_word_lem}
+use Rattle.machine.specs.Values.{same_word}
 use Rattle.machine.specs.Eval.{is_one}
 use Rattle.engine_ints.specs.declared.Work.TheVariants.{Word}
 use Rattle.engine_ints.proofs.Range.{back}
@@ -38,7 +38,7 @@ returns : tie.Need-returns
 returns c = let x = c.before.before.args in ap (λ z. Word z x.left) (word_back _ (is_one x.a and is_one x.b) (rw (back c.before.before.ranges.a, back c.before.before.ranges.b) at c.both.ensures)) ∙ binary_9 x.op x.a x.b x.left c.before.match.keys1
 
 returns-2 : tie.Need-returns-2
-returns-2 c = let x = c.before.before.args in ap (λ z. Word z x.left) (word_back _ (same_word_lem x.a x.b) (rw (back c.before.before.ranges.a, back c.before.before.ranges.b) at c.same.ensures)) ∙ binary_10 x.op x.a x.b x.left c.before.match.keys2
+returns-2 c = let x = c.before.before.args in ap (λ z. Word z x.left) (word_back _ (same_word x.a x.b) (rw (back c.before.before.ranges.a, back c.before.before.ranges.b) at c.same.ensures)) ∙ binary_10 x.op x.a x.b x.left c.before.match.keys2
 
 returns-3 : tie.Need-returns-3
 returns-3 c = let x = c.before.before.args in ap (λ z. Word z x.left) (word_back _ (lt_z x.a x.b) (rw (back c.before.before.ranges.a, back c.before.before.ranges.b) at c.less.ensures)) ∙ binary_11 x.op x.a x.b x.left c.before.match.keys3

@@ -2,7 +2,7 @@ use native.Mathlib.Omega.{arith}
 use mathlib.Core.Path.{sym, ap, ◌∙◌}
 use borrow.Author.Rules.{rules}
 use Rattle.sheet.proofs.All.{first_fails_lem, rest_fails, first_holds}
-use Rattle.machine.specs.Values.{is_bound_lem, chart_of}
+use Rattle.machine.specs.Values.{is_bound, chart_of}
 use Rattle.machine.specs.State.{telegram_in}
 use Rattle.machine.specs.Valid.{internal_fits}
 use Rattle.sheet_types.proofs.Laws.{no, so}
@@ -42,7 +42,7 @@ is-bound-requires c κs = search rules
 
 returns-2 : tie.Need-returns-2
 unfolding internal_fits telegram_in
-returns-2 c = rest_fails _ _ (first_fails_lem _ _ (no (c.before.is_bound.ensures ∙ ap (is_bound_lem _) c.before.before.number_at.ensures) c.if2.true))
+returns-2 c = rest_fails _ _ (first_fails_lem _ _ (no (c.before.is_bound.ensures ∙ ap (is_bound _) c.before.before.number_at.ensures) c.if2.true))
 
 add-name-fits : tie.Need-overflow-add-name-fits
 add-name-fits c = search rules
@@ -96,7 +96,7 @@ returns-5 c =
     let sender = ends.before.before.word.ensures in
     let chart = ap (chart_of _) (sym number) ∙ sym asked.chart-of.ensures ∙ c.before.before.before.c.given.1 in
     first_holds _ _ _ (so (rw (read_back _ _ sender.0 sender.1, read_back _ _ receiver.0 receiver.1) at ends.same.ensures) bound.before.before.if1.false)
-    (first_holds _ _ _ (so (bound.is_bound.ensures ∙ ap (is_bound_lem _) number) named.before.if2.false)
+    (first_holds _ _ _ (so (bound.is_bound.ensures ∙ ap (is_bound _) number) named.before.if2.false)
     (first_holds _ _ _ (so (named.name-fits.ensures ∙ name_of _ _ _ _) asked.before.if3.false)
     (chart_awaits _ _ _ _ _ _ chart c.before.number-at2.ensures c.has-reaction.ensures)))
 
