@@ -1,4 +1,6 @@
 // Which sheets pass.
+#![tactic(auto)]
+
 ghost use Rattle.std.specs.Prelude.{◌≡◌, ◌≤◌, length};
 ghost use Rattle.sheet.specs.Names.{nodes};
 ghost use Rattle.sheet.specs.Sheet.{count_of, directory_of};

@@ -1,4 +1,6 @@
 // What a node that reads or assigns an element of an array is: an expression of a type, a statement, or wrong.
+#![tactic(auto)]
+
 ghost use Rattle.std.specs.Prelude.{◌≡◌};
 ghost use Rattle.sheet.specs.Sheet.{directory_of};
 ghost use Rattle.sheet_rules.specs.Types.{chart_variable_index, indexed_by, read_element_type, assign_element_type};

@@ -1,4 +1,6 @@
 // The shape of bindings.
+#![tactic(auto)]
+
 ghost use Rattle.std.specs.Prelude.{◌≡◌, ◌≤◌, ◌<◌};
 ghost use Rattle.sheet.specs.Sheet.{directory_of};
 ghost use Rattle.sheet_rules.specs.Shape.{constants_shape, second_shape, records_shape, binding_shape, bindings_shape};

@@ -1,4 +1,6 @@
 // The static rules of a chart and its bodies.
+#![tactic(auto)]
+
 ghost use Rattle.std.specs.Prelude.{◌≡◌};
 ghost use Rattle.sheet.specs.Sheet.{directory_of};
 ghost use Rattle.sheet_rules.specs.Static.{body_static, bodies_static, chart_static};

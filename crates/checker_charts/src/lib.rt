@@ -1,4 +1,6 @@
 // The shape of charts.
+#![tactic(auto)]
+
 ghost use Rattle.std.specs.Prelude.{◌≡◌};
 ghost use Rattle.sheet.specs.Sheet.{directory_of};
 ghost use Rattle.sheet_rules.specs.Shape.{bodies_up_to, chart_shape, bodies_covered};

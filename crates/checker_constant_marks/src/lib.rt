@@ -1,4 +1,6 @@
 // Marks of nodes: what a binding adds to the marks of its constants.
+#![tactic(auto)]
+
 ghost use Rattle.std.specs.Prelude.{◌≡◌, ◌+◌, ◌<◌, ◌≤◌, length};
 ghost use Rattle.sheet.specs.Names.{bindings};
 ghost use Rattle.sheet.specs.Sheet.{count_of, record_of, directory_of};

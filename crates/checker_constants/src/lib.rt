@@ -1,4 +1,6 @@
 // The constants of bindings have their parameters' types.
+#![tactic(auto)]
+
 ghost use Rattle.std.specs.Prelude.{◌≡◌, ◌≤◌};
 ghost use Rattle.sheet.specs.Sheet.{directory_of};
 ghost use Rattle.sheet_rules.specs.Static.{constant_static, constants_static, binding_static, bindings_static};

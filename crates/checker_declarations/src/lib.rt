@@ -1,4 +1,6 @@
 // The shape of the head, enumerated types, declarations and telegram names.
+#![tactic(auto)]
+
 ghost use Rattle.std.specs.Prelude.{◌≡◌};
 ghost use Rattle.sheet.specs.Sheet.{directory_of};
 ghost use Rattle.sheet_rules.specs.Shape.{head_shape, enumerated_shape, type_exists, declaration_shape, name_shape};

@@ -1,5 +1,7 @@
 // What a node of each form is, but for those that name a variable, sends and calls, by what its operands
 // are: an expression of a type, a statement, or wrong.
+#![tactic(auto)]
+
 ghost use Rattle.std.specs.Prelude.{◌≡◌};
 ghost use Rattle.sheet_rules.specs.Types.{not_type, binary_type, choice_type, loop_type, sequence_type};
 

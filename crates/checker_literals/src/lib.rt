@@ -1,4 +1,6 @@
 // The shape of literals, and of a constant of a binding, which is one.
+#![tactic(auto)]
+
 ghost use Rattle.std.specs.Prelude.{◌≡◌};
 ghost use Rattle.sheet.specs.Sheet.{directory_of};
 ghost use Rattle.sheet_rules.specs.Shape.{literal_shape, constant_shape};

@@ -1,4 +1,6 @@
 // Marks of nodes: what names a node adds to its mark, and what the bodies of a chart add to those of their roots.
+#![tactic(auto)]
+
 ghost use Rattle.std.specs.Prelude.{◌≡◌, ◌+◌, ◌<◌, ◌≤◌, length, eqb};
 ghost use Rattle.sheet.specs.Names.{root, bodies, charts};
 ghost use Rattle.sheet.specs.Sheet.{record_of, directory_of};

@@ -1,4 +1,6 @@
 // How often each node of any bytes is used: for an office's tool that shows which node is the one too many.
+#![tactic(auto)]
+
 ghost use Rattle.checker_pass.specs.Test.{MarkingGives};
 
 use checker_pass::NodeMarks;

@@ -1,4 +1,6 @@
 // The fields of a node, form by form: what they number exists, and fields not named are 0.
+#![tactic(auto)]
+
 ghost use Rattle.std.specs.Prelude.{◌≡◌, ◌+◌, ltb, eqb};
 ghost use Rattle.sheet.specs.All.{◌and◌};
 ghost use Rattle.sheet.specs.Names.{chart_variables, chart_bodies};

@@ -1,4 +1,6 @@
 // What a node that names its operands adds to their marks.
+#![tactic(auto)]
+
 ghost use Rattle.std.specs.Prelude.{◌≡◌, ◌<◌, ◌≤◌, length};
 ghost use Rattle.sheet.specs.Names.{nodes};
 ghost use Rattle.sheet.specs.Sheet.{record_of, directory_of};

@@ -1,4 +1,6 @@
 // The internal reactions of a chart by name, in an array that holds a body's number plus 1, or 0.
+#![tactic(auto)]
+
 ghost use Rattle.std.specs.Prelude.{◌≡◌, length};
 ghost use Rattle.sheet.specs.Sheet.{directory_of};
 ghost use Rattle.sheet_rules.specs.Types.{reacts_to};

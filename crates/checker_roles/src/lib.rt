@@ -1,4 +1,6 @@
 // Declaration ranges without clocks and arrays, and what a body's role asks of it.
+#![tactic(auto)]
+
 ghost use Rattle.std.specs.Prelude.{◌≡◌, ◌<◌, ◌≤◌};
 ghost use Rattle.sheet.specs.Names.{body_parameters, body_locals};
 ghost use Rattle.sheet.specs.Sheet.{directory_of};

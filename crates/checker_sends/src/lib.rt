@@ -1,4 +1,6 @@
 // Sends, armings and calls as statements, by what their operands are and whether their data match.
+#![tactic(auto)]
+
 ghost use Rattle.std.specs.Prelude.{◌≡◌, ◌<◌, length, get_or};
 ghost use Rattle.sheet.specs.Sheet.{directory_of};
 ghost use Rattle.sheet_rules.specs.Types.{internal_name, clock_of, external_type, internal_type, arm_type, call_type};

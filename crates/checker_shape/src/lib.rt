@@ -1,4 +1,6 @@
 // The shape of a sheet, record by record.
+#![tactic(auto)]
+
 ghost use Rattle.std.specs.Prelude.{◌≡◌};
 ghost use Rattle.sheet.specs.Sheet.{directory_of};
 ghost use Rattle.sheet_rules.specs.Shape.{record_shape, each_shape, section_shape};

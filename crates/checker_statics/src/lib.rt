@@ -1,4 +1,6 @@
 // The static rules beside the types of nodes.
+#![tactic(auto)]
+
 ghost use Rattle.std.specs.Prelude.{◌≡◌, List, ℕ};
 ghost use Rattle.sheet.specs.Sheet.{directory_of};
 ghost use Rattle.sheet_rules.specs.Static.{declaration_static, name_static, record_static, each_static, section_static, static};

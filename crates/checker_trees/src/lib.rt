@@ -1,4 +1,6 @@
 // The shape of the trees of nodes.
+#![tactic(auto)]
+
 ghost use Rattle.std.specs.Prelude.{◌≡◌};
 ghost use Rattle.sheet.specs.Sheet.{directory_of};
 ghost use Rattle.sheet_rules.specs.Shape.{tree_shape, trees_shape};

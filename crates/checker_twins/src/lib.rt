@@ -1,5 +1,7 @@
 // Two reactions of a chart to the same: reactions by name, from the latest one back, in arrays that hold a
 // body's number plus 1, or 0.
+#![tactic(auto)]
+
 ghost use Rattle.std.specs.Prelude.{◌≡◌, true, ◌+◌, ◌<◌, ◌≤◌, length};
 ghost use Rattle.sheet.specs.Sheet.{directory_of};
 ghost use Rattle.sheet_rules.specs.Shape.{is_reaction};

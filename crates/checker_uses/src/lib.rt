@@ -1,4 +1,6 @@
 // Each node is used exactly once: one pass over bodies, bindings and nodes, with a mark for each node.
+#![tactic(auto)]
+
 ghost use Rattle.std.specs.Prelude.{◌≡◌, ℕ, ◌≤◌, ◌<◌, length, get_or, eqb};
 ghost use Rattle.sheet.specs.All.{◌and◌};
 ghost use Rattle.sheet.specs.Names.{charts, bindings, nodes};

@@ -1,5 +1,7 @@
 // What a node that names a variable is, armings and elements of arrays aside: an expression of a type, a
 // statement, or wrong.
+#![tactic(auto)]
+
 ghost use Rattle.std.specs.Prelude.{◌≡◌};
 ghost use Rattle.sheet.specs.Sheet.{directory_of};
 ghost use Rattle.sheet_rules.specs.Types.{read_type, clock_type, assign_type, clock_act_type};

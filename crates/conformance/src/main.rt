@@ -6,6 +6,8 @@
 // incomplete last call ends it, a run after the events that came, and so does a kind or a length
 // that it doesn't take; and an answer that can't be written or an input that can't be read, which is
 // said on standard error.
+#![tactic(auto)]
+
 ghost use Rattle.std.specs.Prelude.{◌+◌, ◌≤◌, ◌≡◌, length};
 ghost use Rattle.sheet_rules.specs.Check.{check_number};
 

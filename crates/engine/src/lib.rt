@@ -1,4 +1,6 @@
 // Plays: start, one event, and one event after another.
+#![tactic(auto)]
+
 ghost use Rattle.std.specs.Prelude.{◌≡◌, length};
 ghost use Rattle.sheet.specs.Sheet.{directory_of};
 ghost use Rattle.sheet_rules.specs.declared.Checked.TheVariants.{Passed};

@@ -1,4 +1,6 @@
 // Answers that hand nothing outside, and what a refused event leaves.
+#![tactic(auto)]
+
 ghost use Rattle.std.specs.Prelude.{◌≡◌, length};
 ghost use Rattle.machine.specs.declared.Handed.TheVariants.{Nothing};
 ghost use Rattle.machine.specs.Play.{answer as answer_of};

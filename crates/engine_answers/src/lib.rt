@@ -1,4 +1,6 @@
 // Answers of a list in words: eleven for each.
+#![tactic(auto)]
+
 ghost use Rattle.std.specs.Prelude.{◌+◌, ◌<◌, ◌≤◌, ◌≡◌, length};
 ghost use Rattle.machine.specs.State.{word_of, put_words};
 ghost use Rattle.machine_lists.specs.Words.{words_of_answer, answer_words, number_below, handed_in, answer_in};

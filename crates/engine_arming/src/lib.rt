@@ -1,4 +1,6 @@
 // Clocks armed, started and stopped.
+#![tactic(auto)]
+
 ghost use Rattle.std.specs.Prelude.{◌≡◌, List, ℕ, suc, ℤ};
 ghost use Rattle.sheet.specs.declared.Found.TheVariants.{Present};
 ghost use Rattle.sheet.specs.Names.{names};

@@ -1,4 +1,6 @@
 // Runs a body of an element, for start and for events.
+#![tactic(auto)]
+
 ghost use Rattle.std.specs.Prelude.{◌≡◌, length};
 ghost use Rattle.sheet.specs.Names.{bodies};
 ghost use Rattle.sheet.specs.Sheet.{record_of};

@@ -1,5 +1,7 @@
 // Where the cells of every element's variables begin and where its binding stands: a table, filled once
 // for a call or a list.
+#![tactic(auto)]
+
 ghost use Rattle.std.specs.Prelude.{◌≡◌, true, ◌+◌, ◌<◌, ◌≤◌, length};
 ghost use Rattle.sheet.specs.Names.{chart_variables, charts};
 ghost use Rattle.sheet.specs.Sheet.{directory_of, record_of};

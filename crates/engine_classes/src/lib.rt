@@ -1,4 +1,6 @@
 // Whether a class of telegrams is full.
+#![tactic(auto)]
+
 ghost use Rattle.std.specs.Prelude.{◌≡◌, List, ℕ, ◌+◌, ◌≤◌, length, leb};
 ghost use Rattle.machine.specs.State.{places, state_length, waiting, telegram_in, same_class, waiting_like, class_limit};
 ghost use Rattle.engine_store.specs.Layout.{shortest};

@@ -1,4 +1,6 @@
 // A time slice: clocks in state order, one pass.
+#![tactic(auto)]
+
 ghost use Rattle.std.specs.Prelude.{◌≡◌, ℕ, ◌+◌, ◌<◌, ◌≤◌, get_or};
 ghost use Rattle.sheet.specs.Names.{chart_variables};
 ghost use Rattle.sheet.specs.Sheet.{directory_of};

@@ -1,4 +1,6 @@
 // Where a body runs, as a row of numbers, and where its element's variables lie in the state.
+#![tactic(auto)]
+
 ghost use Rattle.std.specs.Prelude.{◌≡◌, ℕ, ◌+◌, ◌*◌, ◌<◌, ◌≤◌, length, get_or};
 ghost use Rattle.machine.specs.State.{cell_at};
 ghost use Rattle.engine_store.specs.Layout.{longest};
@@ -33,7 +35,7 @@ pub const LOCALS: usize = 16;
 pub type Locals = [i32; LOCALS];
 
 // Where in the state an index of an array leads: to the word of an element, or outside.
-#[derive(Drop)]
+#[derive(Clone, Copy)]
 pub enum Place {
     At(usize),
     Outside,

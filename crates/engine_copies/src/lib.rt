@@ -1,4 +1,6 @@
 // All words of a state, copied or set to 0.
+#![tactic(auto)]
+
 ghost use Rattle.std.specs.Prelude.{◌≡◌, pos, length, replicate};
 
 // One state's words to another.

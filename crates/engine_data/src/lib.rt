@@ -1,4 +1,6 @@
 // Data worked out.
+#![tactic(auto)]
+
 ghost use Rattle.std.specs.Prelude.{◌≡◌, List, [], ℕ, ◌≤◌, length, ℤ};
 ghost use Rattle.sheet.specs.Sheet.{directory_of};
 ghost use Rattle.engine_ready.specs.Ready.{Ready, HasData};

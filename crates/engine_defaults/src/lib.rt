@@ -1,4 +1,6 @@
 // What runs begin with: default values, a body's fresh variables, the state of start.
+#![tactic(auto)]
+
 ghost use Rattle.std.specs.Prelude.{◌≡◌, ◌∷◌, ◌+◌, ◌<◌, ◌≤◌, length, replicate, pos};
 ghost use Rattle.sheet.specs.Sheet.{directory_of};
 ghost use Rattle.sheet.specs.Names.{chart_variables, body_parameters, body_locals};

@@ -1,5 +1,7 @@
 // A telegram that an event took goes to its receiver: it is handed outside, or a body of a bound
 // element runs.
+#![tactic(auto)]
+
 ghost use Rattle.std.specs.Prelude.{true, false, ◌≡◌, nat_abs};
 ghost use Rattle.machine.specs.declared.Handed.TheVariants.{Outside};
 ghost use Rattle.sheet_rules.specs.Fields.{externals_of};

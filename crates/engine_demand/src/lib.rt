@@ -1,1 +1,2 @@
 // Demand 3 of what playing a list returns: a definition and a theorem only.
+#![tactic(auto)]

@@ -1,4 +1,6 @@
 // What an expression gives.
+#![tactic(auto)]
+
 ghost use Rattle.std.specs.Prelude.{◌≡◌};
 ghost use Rattle.sheet.specs.Sheet.{directory_of};
 ghost use Rattle.machine.specs.Eval.{eval_of};

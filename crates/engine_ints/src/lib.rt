@@ -1,4 +1,6 @@
 // Operators on words.
+#![tactic(auto)]
+
 ghost use Rattle.std.specs.Prelude.{◌≡◌, not, false, ◌+ℤ◌, ◌-ℤ◌, ◌*ℤ◌};
 ghost use Rattle.std.specs.Int.Signed.{lt_z};
 ghost use Rattle.sheet.specs.All.{◌and◌};
@@ -8,7 +10,7 @@ ghost use Rattle.machine.specs.Eval.{bool_word, is_one, int_out, dividing};
 ghost use Rattle.engine_ints.specs.Work.{work_of, binary_work, not_work};
 
 // What an expression gives: a word and the steps left, a refusal with its number, or stuck.
-#[derive(Drop)]
+#[derive(Clone, Copy)]
 pub enum Work {
     Word { word: i32, left: u32 },
     Refused { number: u8, left: u32 },

@@ -1,4 +1,6 @@
 // What each kind of event does to a state of the sheet.
+#![tactic(auto)]
+
 ghost use Rattle.std.specs.Prelude.{List, ◌≡◌, ℕ, length};
 ghost use Rattle.machine.specs.State.{state_length};
 ghost use Rattle.machine.specs.Play.{ended, outside, slice, limit_of};

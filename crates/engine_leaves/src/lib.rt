@@ -1,5 +1,7 @@
 // What a node of an expression gives by itself: a literal, a variable, a clock's word; and what an operator or an array
 // makes of the words that its operands gave.
+#![tactic(auto)]
+
 ghost use Rattle.std.specs.Prelude.{◌≡◌, suc, ◌+◌, ◌<◌};
 ghost use Rattle.sheet.specs.declared.Found.TheVariants.{Present};
 ghost use Rattle.sheet.specs.Names.{nodes};

@@ -1,4 +1,6 @@
 // The step limit of a sheet.
+#![tactic(auto)]
+
 ghost use Rattle.std.specs.Prelude.{◌≡◌, ◌<◌};
 ghost use Rattle.sheet.specs.Sheet.{directory_of};
 ghost use Rattle.machine.specs.Play.{limit_of};

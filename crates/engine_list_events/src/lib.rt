@@ -1,4 +1,6 @@
 // Plays a list of events on from a state of the sheet.
+#![tactic(auto)]
+
 ghost use Rattle.std.specs.Prelude.{◌≡◌};
 ghost use Rattle.machine.specs.Lists.{events_of};
 ghost use Rattle.engine_cells.specs.Playing.{Playing};

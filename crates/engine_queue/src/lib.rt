@@ -1,4 +1,6 @@
 // The telegrams that wait, and one appended.
+#![tactic(auto)]
+
 ghost use Rattle.std.specs.Prelude.{◌≡◌, List, ℕ, ◌<◌, ◌≤◌, length};
 ghost use Rattle.machine.specs.State.{places, state_length, waiting, telegram_of, with_telegram, appended};
 ghost use Rattle.engine_store.specs.Layout.{shortest};

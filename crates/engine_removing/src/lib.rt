@@ -1,4 +1,6 @@
 // A telegram that waits, removed.
+#![tactic(auto)]
+
 ghost use Rattle.std.specs.Prelude.{◌≡◌, List, ℕ, ◌<◌};
 ghost use Rattle.machine.specs.State.{waiting, without_telegram};
 ghost use Rattle.machine.specs.Valid.{OfSheet};

@@ -1,4 +1,6 @@
 // Eight words of a state, read as a telegram or put.
+#![tactic(auto)]
+
 ghost use Rattle.std.specs.Prelude.{◌≡◌, [], ◌∷◌, ◌+◌, ◌≤◌, length};
 ghost use Rattle.machine.specs.State.{telegram_in, put_words};
 

@@ -1,4 +1,6 @@
 // The oldest telegram of those that an event may take.
+#![tactic(auto)]
+
 ghost use Rattle.std.specs.Prelude.{◌≡◌, List, ℕ, ◌+◌, ◌≤◌, length};
 ghost use Rattle.machine.specs.State.{state_length, telegram_in};
 ghost use Rattle.machine.specs.Play.{goes_from, inner_of, oldest};

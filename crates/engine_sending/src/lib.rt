@@ -1,4 +1,6 @@
 // Telegrams sent.
+#![tactic(auto)]
+
 ghost use Rattle.std.specs.Prelude.{◌≡◌, List, ℕ, suc, length, ℤ};
 ghost use Rattle.sheet.specs.declared.Found.TheVariants.{Present};
 ghost use Rattle.sheet.specs.Names.{data_of, names};

@@ -1,4 +1,6 @@
 // The telegram that an event takes, and whether its refusal may have work to undo.
+#![tactic(auto)]
+
 ghost use Rattle.std.specs.Prelude.{List, ◌≡◌, ℕ, length};
 ghost use Rattle.machine.specs.State.{state_length};
 ghost use Rattle.machine.specs.Valid.{OfSheet};
@@ -13,7 +15,7 @@ use machine_events::Event;
 use sheet::Directory;
 
 // A telegram that was taken from those that wait, or none: there was no such telegram.
-#[derive(Drop)]
+#[derive(Clone, Copy)]
 pub enum Taken {
     Missing,
     Took(Telegram),

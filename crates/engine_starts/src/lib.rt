@@ -1,4 +1,6 @@
 // Start on a passed sheet: the default state, then the initial bodies.
+#![tactic(auto)]
+
 ghost use Rattle.std.specs.Prelude.{true, [], ◌≡◌, pos, length, replicate};
 ghost use Rattle.machine.specs.declared.Handed.TheVariants.{Nothing};
 ghost use Rattle.machine.specs.Values.{is_bound};

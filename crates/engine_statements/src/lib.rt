@@ -1,4 +1,6 @@
 // What a statement does.
+#![tactic(auto)]
+
 ghost use Rattle.std.specs.Prelude.{◌≡◌, List, suc, length, ℤ};
 ghost use Rattle.sheet_rules.specs.Forms.{call, loop};
 ghost use Rattle.machine.specs.Run.{world, entered, run_of};

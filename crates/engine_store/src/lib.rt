@@ -1,4 +1,6 @@
 // Where things lie in a state, and a cell's words as the engine changes them.
+#![tactic(auto)]
+
 ghost use Rattle.std.specs.Prelude.{◌≡◌, [], ◌∷◌, ◌+◌, ◌-◌, ◌<◌, ◌≤◌, pos, length, set, replicate, get_or};
 ghost use Rattle.sheet_rules.specs.Shape.{most_cells};
 ghost use Rattle.machine.specs.State.{places, cell_at, put_words};

@@ -1,4 +1,6 @@
 // A running clock's tick.
+#![tactic(auto)]
+
 ghost use Rattle.std.specs.Prelude.{◌≡◌, List, true, ℕ, ◌+◌, ◌<◌, length};
 ghost use Rattle.sheet.specs.Names.{names};
 ghost use Rattle.sheet.specs.Sheet.{count_of};

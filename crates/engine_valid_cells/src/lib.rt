@@ -1,4 +1,6 @@
 // The cell of a variable: a value and zeros, or a clock, stopped or running.
+#![tactic(auto)]
+
 ghost use Rattle.std.specs.Prelude.{◌≡◌, ℕ, ◌+◌, ◌≤◌, length};
 ghost use Rattle.sheet.specs.declared.Found.TheVariants.{Present};
 ghost use Rattle.sheet.specs.Sheet.{directory_of};

@@ -1,5 +1,7 @@
 // Whether at most 16 telegrams of a class wait. A state's telegrams are gone over once, with a count for each
 // class, so that no pair of them is compared.
+#![tactic(auto)]
+
 ghost use Rattle.std.specs.Prelude.{◌≡◌, List, ℕ, ◌+◌, ◌<◌, ◌≤◌, length};
 ghost use Rattle.machine.specs.State.{state_length, telegram_in};
 ghost use Rattle.machine.specs.Valid.{classes_fit};

@@ -1,4 +1,6 @@
 // Whether the cells of an element fit, "variables in order, each per index in order".
+#![tactic(auto)]
+
 ghost use Rattle.std.specs.Prelude.{◌≡◌, ℕ, ◌+◌};
 ghost use Rattle.sheet.specs.declared.Found.TheVariants.{Present};
 ghost use Rattle.sheet.specs.All.{all_below};

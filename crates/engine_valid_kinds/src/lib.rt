@@ -1,4 +1,6 @@
 // Whether an event's nine words are well formed, kind by kind.
+#![tactic(auto)]
+
 ghost use Rattle.std.specs.Prelude.{◌≡◌, ◌<◌, ◌≤◌, length};
 ghost use Rattle.sheet.specs.Sheet.{directory_of};
 ghost use Rattle.machine.specs.State.{word_of};

@@ -1,4 +1,6 @@
 // Names with their data, and whether a chart has a reaction to them.
+#![tactic(auto)]
+
 ghost use Rattle.std.specs.Prelude.{◌≡◌, ◌+◌, ◌<◌, ◌≤◌, length};
 ghost use Rattle.sheet.specs.Names.{bodies};
 ghost use Rattle.sheet.specs.Sheet.{directory_of, record_of};

@@ -1,4 +1,6 @@
 // Whether a state is of the sheet: each sentence of the paper's State paragraph as a test.
+#![tactic(auto)]
+
 ghost use Rattle.std.specs.Prelude.{◌≡◌, ◌≤◌, length};
 ghost use Rattle.machine.specs.Valid.{head_fits, cells_fit, content_fits};
 ghost use Rattle.engine_cells.specs.Lent.{Lent};

@@ -1,4 +1,6 @@
 // Whether a telegram may wait: its eight words are sender, receiver, port, name, four data.
+#![tactic(auto)]
+
 ghost use Rattle.std.specs.Prelude.{◌≡◌, true, ◌+◌, ◌≤◌, length, pos};
 ghost use Rattle.std.specs.Int.Signed.{le_z};
 ghost use Rattle.sheet.specs.Sheet.{directory_of};

@@ -1,4 +1,6 @@
 // Values of the sheet's types, and which components are bound.
+#![tactic(auto)]
+
 ghost use Rattle.std.specs.Prelude.{◌≡◌, ◌+◌, ◌<◌, ◌≤◌, length};
 ghost use Rattle.sheet.specs.Sheet.{directory_of};
 ghost use Rattle.sheet.specs.All.{◌and◌};

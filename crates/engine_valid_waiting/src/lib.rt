@@ -1,4 +1,6 @@
 // Whether the places of a state fit: the telegrams that wait, and zeros in the unused ones.
+#![tactic(auto)]
+
 ghost use Rattle.std.specs.Prelude.{◌≡◌, List, ℕ, length};
 ghost use Rattle.machine.specs.State.{state_length};
 ghost use Rattle.machine.specs.Valid.{waiting_fit, unused_zero};

@@ -1,4 +1,6 @@
 // Words of a state and of an event, and the tests that compare them.
+#![tactic(auto)]
+
 ghost use Rattle.std.specs.Prelude.{◌≡◌, true, ◌<◌, length, pos, nat_abs};
 ghost use Rattle.std.specs.Int.Signed.{le_z, lt_z};
 ghost use Rattle.machine.specs.Values.{fits32, is_below, is_zero, same_word};

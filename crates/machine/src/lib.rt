@@ -1,4 +1,5 @@
 // The types that the definitions in specs/ speak of. There is no code here.
+#![tactic(auto)]
 
 // "An event is nine words: kind, s, r, p, n, four data."
 pub const EVENT_WORDS: usize = 9;
@@ -13,7 +14,7 @@ pub const DATA: usize = 4;
 pub type Data = [i32; DATA];
 
 // A telegram as it lies in a state: port -1 if it is internal, data that its name has not are 0.
-#[derive(Drop)]
+#[derive(Clone, Copy)]
 pub struct Telegram {
     pub sender: i32,
     pub receiver: i32,
@@ -26,14 +27,14 @@ pub struct Telegram {
 }
 
 // A value with its type.
-#[derive(Drop)]
+#[derive(Clone, Copy)]
 pub struct Value {
     pub kind: usize,
     pub word: i32,
 }
 
 // What an expression gives: a value and the steps left, a refusal with its number, or stuck.
-#[derive(Drop)]
+#[derive(Clone, Copy)]
 pub enum Out {
     Val { value: Value, left: u32 },
     Refused { number: u8, left: u32 },
@@ -41,7 +42,7 @@ pub enum Out {
 }
 
 // How a statement ends: done, refused with its number, or stuck.
-#[derive(Drop)]
+#[derive(Clone, Copy)]
 pub enum Ran {
     Done { left: u32 },
     Refused { number: u8, left: u32 },
@@ -49,7 +50,7 @@ pub enum Ran {
 }
 
 // What is handed outside: a telegram, or nothing.
-#[derive(Drop)]
+#[derive(Clone, Copy)]
 pub enum Handed {
     Nothing,
     Outside(Telegram),
@@ -57,7 +58,7 @@ pub enum Handed {
 
 // What start and event answer: the paper's number, the steps used, how many waiting telegrams were
 // dropped, and what is handed outside.
-#[derive(Drop)]
+#[derive(Clone, Copy)]
 pub struct Answer {
     pub number: u8,
     pub steps: u32,

@@ -1,1 +1,2 @@
 // Theorems only: the machine's recursion equations. There is no code here.
+#![tactic(auto)]

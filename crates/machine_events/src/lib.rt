@@ -1,8 +1,10 @@
 // What each kind of event comes to on a state of the sheet, step by step: a type and theorems. There is no code here.
+#![tactic(auto)]
+
 use machine::Telegram;
 
 // An event's words, taken apart by its kind. Malformed is every one that is turned down with 4.
-#[derive(Drop)]
+#[derive(Clone, Copy)]
 pub enum Event {
     Malformed,
     Outside(Telegram),

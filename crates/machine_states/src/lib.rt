@@ -1,1 +1,2 @@
 // Theorems about the state's words. There is no code here.
+#![tactic(auto)]

@@ -2,6 +2,8 @@
 // little-endian number, the sheet, then events of nine little-endian signed 32-bit words; the listing
 // goes to standard output, each event's line before more events are waited for. It stops at the first
 // line that can't be written and where the input can't be read, and says so on standard error.
+#![tactic(auto)]
+
 use libc::{STDERR_FILENO, STDIN_FILENO};
 
 fn say_use() {

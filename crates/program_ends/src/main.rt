@@ -1,5 +1,7 @@
 // Plays inputs that end early and inputs that aren't there to be read, each from a file as `play` plays
 // it, and writes each file's name before its listing.
+#![tactic(auto)]
+
 use libc::STDOUT_FILENO;
 
 fn play_file(name: &[u8]) {

@@ -1,5 +1,7 @@
 // Plays events as they come from a descriptor and lists their answers on standard output. An event is
 // nine little-endian signed 32-bit words; an incomplete last event is ignored.
+#![tactic(auto)]
+
 ghost use Rattle.std.specs.Prelude.{◌≡◌, length};
 ghost use Rattle.engine_cells.specs.Playing.{Playing};
 ghost use Rattle.program_events.specs.Room.{ListedRoom, RoundRoom};

@@ -1,6 +1,8 @@
 // What the programs read from a descriptor: bytes until there are enough, a sheet behind its length,
 // and events as they come. That a read failed is said on standard error here, where errno still tells
 // why, so a caller only stops.
+#![tactic(auto)]
+
 ghost use Rattle.std.specs.Prelude.{ℕ, ◌+◌, ◌*◌, ◌-◌, ◌%◌, ◌<◌, ◌≤◌, ◌≡◌, true, pos, length, get_or};
 ghost use Rattle.std.specs.Int.Signed.{lt_z};
 ghost use Rattle.io.specs.Counts.{clamp_len};
@@ -8,7 +10,7 @@ ghost use Rattle.program_input.specs.Input.{sheet_size, bytes_of_event, room_byt
 
 // How many bytes came, and whether a read failed. Where none failed, fewer than there was room for are
 // the input's end.
-#[derive(Drop)]
+#[derive(Clone, Copy)]
 pub struct Came {
     pub count: usize,
     pub failed: bool,

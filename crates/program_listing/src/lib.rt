@@ -1,4 +1,6 @@
 // Answers as text in a buffer, for the programs that print them.
+#![tactic(auto)]
+
 ghost use Rattle.std.specs.Prelude.{◌+◌, ◌≤◌, length};
 ghost use Rattle.program_text.specs.Decimal.{Put};
 ghost use Rattle.program_listing.specs.Listing.{counts_text, after_text, telegram_text, handed_text, start_line, event_line, longest_line};

@@ -1,4 +1,6 @@
 // Plays a sheet with events from a descriptor and writes the listing to standard output.
+#![tactic(auto)]
+
 ghost use Rattle.std.specs.Prelude.{◌≡◌, length};
 ghost use Rattle.sheet.specs.Sheet.{directory_of};
 ghost use Rattle.sheet_rules.specs.declared.Checked.TheVariants.{Passed};
@@ -13,7 +15,7 @@ use sheet::Directory;
 use sheet_rules::Checked;
 
 // Start's answer, and whether every line was written and no read failed.
-#[derive(Drop)]
+#[derive(Clone, Copy)]
 pub struct RunEnd {
     pub number: u8,
     pub well: bool,

@@ -1,5 +1,7 @@
 // Text and numbers in a buffer that a program writes out in large pieces. Each function puts its
 // text at `at` and gives the place behind it.
+#![tactic(auto)]
+
 ghost use Rattle.std.specs.Prelude.{◌+◌, ◌<◌, ◌≤◌, ◌≡◌, true, [], ◌∷◌, nat_abs, length};
 ghost use Rattle.program_text.specs.Decimal.{decimal, signed, Put, place_with_room};
 
@@ -68,7 +70,7 @@ pub fn write_out(fd: i32, text: &[u8]) -> bool {
 
 // The place where a text goes on in its buffer, and whether the text before it is there still or was
 // written out.
-#[derive(Drop)]
+#[derive(Clone, Copy)]
 pub struct TextEnd {
     pub at: usize,
     pub written: bool,

@@ -1,4 +1,5 @@
 // The types that the definitions in specs/ speak of, and the paper's numbers by name. There is no code here.
+#![tactic(auto)]
 
 // The eight sections of a sheet, by the numbers that the paper gives them.
 pub const HEAD: usize = 0;
@@ -29,7 +30,7 @@ pub const RECORDS: usize = 4096;
 pub type ByRecord = [u16; RECORDS];
 
 // A record of the sheet: eight 16-bit fields.
-#[derive(Drop)]
+#[derive(Clone, Copy)]
 pub struct Record {
     pub f0: u16,
     pub f1: u16,
@@ -42,14 +43,14 @@ pub struct Record {
 }
 
 // What a section holds at a number: a record, or nothing.
-#[derive(Drop)]
+#[derive(Clone, Copy)]
 pub enum Found {
     Present(Record),
     Absent,
 }
 
 // A range of records: its first one and how many.
-#[derive(Drop)]
+#[derive(Clone, Copy)]
 pub struct Range {
     pub first: usize,
     pub count: usize,

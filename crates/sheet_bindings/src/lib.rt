@@ -1,4 +1,6 @@
 // Which records bind an element, and where in them the constant for a parameter stands.
+#![tactic(auto)]
+
 ghost use Rattle.std.specs.Prelude.{◌≡◌, ◌+◌, ◌≤◌, ◌<◌};
 ghost use Rattle.sheet.specs.Sheet.{directory_of};
 ghost use Rattle.sheet_rules.specs.Bindings.{records_for, chart_bound, behind, elements_bound_in, constant_record, constant_field};

@@ -1,4 +1,6 @@
 // Numbers in a sheet's bytes, and whether its directory is right.
+#![tactic(auto)]
+
 ghost use Rattle.std.specs.Prelude.{◌≡◌, ◌+◌, ◌*◌, ◌<◌, length};
 ghost use Rattle.sheet.specs.Sheet.{word_at, directory_right};
 

@@ -1,4 +1,6 @@
 // Fields of records by number, and where a node's operands stand.
+#![tactic(auto)]
+
 ghost use Rattle.std.specs.Prelude.{◌≡◌, ◌+◌, ◌<◌};
 ghost use Rattle.sheet.specs.Names.{range};
 ghost use Rattle.sheet.specs.Sheet.{directory_of};

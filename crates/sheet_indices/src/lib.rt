@@ -1,4 +1,6 @@
 // The index of a declaration: whether it is a plain variable, whether its index is there, how many cells it takes.
+#![tactic(auto)]
+
 ghost use Rattle.std.specs.Prelude.{◌≡◌, ◌<◌};
 ghost use Rattle.sheet.specs.Sheet.{directory_of};
 ghost use Rattle.sheet_rules.specs.Indices.{index_of, index_at, is_plain, cells_by, cells_taken};

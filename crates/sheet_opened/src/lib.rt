@@ -1,12 +1,14 @@
 // A reader opened on a lent sheet: the bytes and the directory that was tested once, held together. The borrow checker
 // covers no function over a struct that holds a reference, so each of the three is proved by hand, and each leaves the
 // work to the covered functions of `sheet_reader`.
+#![tactic(auto)]
+
 ghost use Rattle.std.specs.Prelude.{◌≡◌};
 ghost use Rattle.sheet.specs.Sheet.{directory_of, record_of};
 
 use sheet::{Directory, Found};
 
-#[derive(Drop)]
+#[derive(Clone, Copy)]
 pub struct Reader<'a> {
     pub sheet: &'a [u8],
     pub directory: Directory,

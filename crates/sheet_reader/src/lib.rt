@@ -1,4 +1,6 @@
 // The sheet's reader: any record of any bytes, by section and number.
+#![tactic(auto)]
+
 ghost use Rattle.std.specs.Prelude.{◌≡◌, ◌+◌, ◌*◌, ◌<◌, ◌≤◌, length};
 ghost use Rattle.sheet.specs.Sheet.{count_of, count_in, record_at, record_of, directory_of};
 

@@ -1,4 +1,6 @@
 // The types of declarations, variables and literals; classes and data of names; the body that a call names.
+#![tactic(auto)]
+
 ghost use Rattle.std.specs.Prelude.{◌≡◌, ◌+◌, ◌<◌};
 ghost use Rattle.sheet.specs.Names.{is_clock};
 ghost use Rattle.sheet.specs.Sheet.{directory_of};
