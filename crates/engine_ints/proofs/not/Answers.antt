@@ -1,0 +1,13 @@
+use mathlib.Core.Path.{ap, ◌∙◌}
+use borrow.Author.Rules.{rules}
+use Rattle.machine.specs.Values.{is_zero}
+use Rattle.machine.specs.Eval.{bool_word}
+use Rattle.engine_ints.specs.declared.Work.TheVariants.{Word}
+use Rattle.engine_ints.specs.Work.{not_work}
+use Rattle.engine_ints.proofs.Range.{zero_bits}
+use Rattle.engine_ints.proofs.Words.{word_back}
+use Rattle.engine_ints.proofs.not.Goals as goal
+
+pub returns : goal.returns
+unfolding not_work
+returns c = ap (λ z. Word z c.args.left) (word_back _ (is_zero c.args.z) (c.bool_word.ensures ∙ ap bool_word (zero_bits _ c.ranges.z)))

@@ -1,0 +1,8 @@
+use mathlib.Core.Path.{refl}
+use native.Mathlib.Omega.{arith}
+use borrow.Author.Rules.{rules}
+use Rattle.program_text.proofs.Laws.{placed_one}
+use Rattle.program_text.proofs.put.Goals as goal
+
+pub returns : goal.returns
+returns c = (record { text = placed_one c.args.out.now c.args.at c.args.b c.requires; end = refl }, omega arith)

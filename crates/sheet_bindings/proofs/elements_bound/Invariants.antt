@@ -1,0 +1,14 @@
+use native.Mathlib.Omega.{arith}
+use mathlib.Core.Path.{◌≡◌, sym}
+use Prim.Native.Nat.{◌+◌, ◌-◌, ◌≤◌}
+use borrow.Author.Rules.{rules}
+use Rattle.sheet.specs.Sheet.{count_of}
+use Rattle.sheet.proofs.Sheet.{count_limit, count_opened}
+use Rattle.sheet_rules.proofs.Bindings.{Walk, walk_begins, walk_on_lem, walk_ends, behind_near}
+use Rattle.sheet_bindings.proofs.elements_bound.Given as goal
+
+abbrev pub invariant-loop-k : goal.invariant-loop-k
+invariant-loop-k l = (l.count ≡ count_of l.sheet 7) × (l.n ≤ l.k) × (l.k ≤ l.count + 1) × Walk l.sheet l.k l.n
+
+abbrev pub decreases-loop-k : goal.decreases-loop-k
+decreases-loop-k l = l.count + 1 - l.k

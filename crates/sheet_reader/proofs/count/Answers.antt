@@ -1,0 +1,6 @@
+use borrow.Author.Rules.{rules}
+use Rattle.sheet.proofs.Sheet.{count_opened}
+use Rattle.sheet_reader.proofs.count.Goals as goal
+
+pub returns : goal.returns
+returns c = count_opened _ _ _ c.count_in.ensures _ c.directory-opened.ensures

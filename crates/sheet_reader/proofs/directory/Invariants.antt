@@ -1,0 +1,21 @@
+use native.Mathlib.Omega.{arith}
+use Prim.Native.Nat.{ℕ, ◌+◌, ◌*◌, ◌-◌, ◌/◌, ◌<◌, ◌≤◌}
+use mathlib.Core.Path.{◌≡◌, refl, sym, ap, ◌∙◌}
+use mathlib.Core.List.{List}
+use mathlib.Core.Bool.{true}
+use native.Mathlib.Decide.{dec_lt}
+use lib.ListN.{length, get_or, set, length-set}
+use lib.Seq.{get_or-set_same, get_or-set_other}
+use borrow.Author.Rules.{rules}
+use Rattle.sheet.specs.Sheet.{offset_of, length_of, directory_right, count_of}
+use Rattle.sheet.proofs.Sheet.{directory_wrong, directory_is, directory-inside, count-right}
+use Rattle.sheet_reader.proofs.directory.Given as goal
+
+abbrev pub Entries : List ℕ → List ℕ → ℕ → Type 0
+Entries s d k = (j : ℕ) → j < k → (get_or d (2 * j) 0 ≡ offset_of s j) × (get_or d (2 * j + 1) 0 ≡ count_of s j)
+
+abbrev pub invariant-loop-k : goal.invariant-loop-k
+invariant-loop-k l = (l.k ≤ 8) × (32 ≤ length l.sheet) × (length l.sections ≡ 16) × Entries l.sheet l.sections l.k
+
+abbrev pub decreases-loop-k : goal.decreases-loop-k
+decreases-loop-k l = 8 - l.k
