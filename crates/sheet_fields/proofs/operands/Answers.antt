@@ -86,27 +86,27 @@ returns-in-44 c = (of_number _ _ _ 44 _ c.in-44.is refl, record { first = omega 
 
 pub returns-in-9-to-16 : goal.returns-in-9-to-16
 unfolding operands_in
-returns-in-9-to-16 c = (of-form _ _ _ binary _ (form-binary _ (beyond c.if-op-lt8.false c.in_default-1.rest.0.0.0.0.0.0.0.1) (below_is_lem _ _ c.in-9-to-16.if-op-lt17-own.true)) refl, record { first = omega arith; count = omega arith; tail = omega arith })
+returns-in-9-to-16 c = (of-form _ _ _ binary _ (form-binary _ (beyond c.in-9-to-16.if-op-lt8-own.false c.in-9-to-16.in_default-own.rest.0.0.0.0.0.0.0.1) (below_is_lem _ _ c.in-9-to-16.if-op-lt17-own.true)) refl, record { first = omega arith; count = omega arith; tail = omega arith })
 
 pub returns-in-36-to-37 : goal.returns-in-36-to-37
 unfolding operands_in
-returns-in-36-to-37 c = let beyond-here = beyond (beyond (beyond c.if-op-lt33.false c.in_default-1.rest.0.0.0.0.0.1) c.in_default-1.rest.0.0.0.0.1) c.in_default-1.rest.0.0.0.1 in
+returns-in-36-to-37 c = let beyond-here = beyond (beyond (beyond c.in-36-to-37.if-op-lt33-own.false c.in-36-to-37.in_default-own.rest.0.0.0.0.0.1) c.in-36-to-37.in_default-own.rest.0.0.0.0.1) c.in-36-to-37.in_default-own.rest.0.0.0.1 in
     let form-arm-here = form-arm _ beyond-here (below_is_lem _ _ c.in-36-to-37.if-op-lt38-own.true) in (
       of-name _ _ _ arm 2 1 _ form-arm-here refl c.field_at-tail-in-36-to-37.ensures.0,
       record { first = omega arith; count = omega arith; tail = c.field_at-tail-in-36-to-37.ensures.1 },
     )
 
 pub returns-in-42-to-43 : goal.returns-in-42-to-43
-returns-in-42-to-43 c = (two-42-43 _ _ _ (beyond (beyond c.if-op-lt40.false c.in_default-1.rest.0.0.1) c.in_default-1.rest.0.1) (below_is_lem _ _ c.in-42-to-43.if-op-lt44-own.true), record { first = omega arith; count = omega arith; tail = omega arith })
+returns-in-42-to-43 c = (two-42-43 _ _ _ (beyond (beyond c.in-42-to-43.if-op-lt40-own.false c.in-42-to-43.in_default-own.rest.0.0.1) c.in-42-to-43.in_default-own.rest.0.1) (below_is_lem _ _ c.in-42-to-43.if-op-lt44-own.true), record { first = omega arith; count = omega arith; tail = omega arith })
 
 pub returns-in_default : goal.returns-in_default
 returns-in_default c = (none-below-8 _ _ _ c.in_default.if-op-lt8-own.true, record { first = omega arith; count = omega arith; tail = omega arith })
 
 pub returns-in_default-2 : goal.returns-in_default-2
-returns-in_default-2 c = (none-17-to-32 _ _ _ c.if-op-lt17.false c.in_default.if-op-lt33-own.true c.in_default-1.rest.0.0.0.0.0.0.1, record { first = omega arith; count = omega arith; tail = omega arith })
+returns-in_default-2 c = (none-17-to-32 _ _ _ c.in_default.if-op-lt17-own.false c.in_default.if-op-lt33-own.true c.in_default.in_default-own.rest.0.0.0.0.0.0.1, record { first = omega arith; count = omega arith; tail = omega arith })
 
 pub returns-in_default-3 : goal.returns-in_default-3
-returns-in_default-3 c = (none-38-39 _ _ _ c.if-op-lt38.false c.in_default.if-op-lt40-own.true, record { first = omega arith; count = omega arith; tail = omega arith })
+returns-in_default-3 c = (none-38-39 _ _ _ c.in_default.if-op-lt38-own.false c.in_default.if-op-lt40-own.true, record { first = omega arith; count = omega arith; tail = omega arith })
 
 pub returns-in_default-4 : goal.returns-in_default-4
-returns-in_default-4 c = (none-from-45 _ _ _ c.in_default.if-op-lt44-own.false c.in_default-1.rest.1, record { first = omega arith; count = omega arith; tail = omega arith })
+returns-in_default-4 c = (none-from-45 _ _ _ c.in_default.if-op-lt44-own.false c.in_default.in_default-own.rest.1, record { first = omega arith; count = omega arith; tail = omega arith })
