@@ -24,9 +24,9 @@ unfolding same_type
 same_type_lem x y t e = rw e refl
 
 -- the `else` of a `let Typed::Expression .. else`
-pub not_same : (x y : Typed) → OneOf (1 ∷ 2 ∷ []) (tag_of the_type x) → same_type x y ≡ false
+pub not_same : (x y : Typed) → ((t : ℕ) → x ≡ Expression t → ⊥) → same_type x y ≡ false
 unfolding same_type
-not_same (Expression t) y h = ⊎_elim (λ (e : ◌≡◌ {A = ℕ} 0 1). absurd (omega arith)) (λ (e : ◌≡◌ {A = ℕ} 0 2). absurd (omega arith)) h
+not_same (Expression t) y h = absurd (h t refl)
 not_same Statement y h = refl
 not_same Wrong y h = refl
 

@@ -1,0 +1,17 @@
+use mathlib.Core.Path.{sym, ◌∙◌}
+use borrow.Author.Rules.{rules}
+use Rattle.sheet_rules.specs.Shape.{binding_shape}
+use Rattle.sheet_rules.proofs.Fields.{holds-present, holds_absent}
+use Rattle.checker_bindings.proofs.binding_fits.Goals as goal
+
+pub returns-in_default : goal.returns-in_default
+unfolding binding_shape
+returns-in_default c = sym (holds_absent _ _ (sym c.read.ensures ∙ c.in_default.is))
+
+pub returns-in_default-read : goal.returns-in_default-read
+unfolding binding_shape
+returns-in_default-read c = sym (holds-present _ _ _ (sym c.read.ensures ∙ c.in-Present.is) ∙ holds_absent _ _ (sym c.read-2.ensures ∙ c.in_default-read.is))
+
+pub returns : goal.returns
+unfolding binding_shape
+returns c = c.records_fit.ensures ∙ sym (holds-present _ _ _ (sym c.read.ensures ∙ c.in-Present.is) ∙ holds-present _ _ _ (sym c.read-2.ensures ∙ c.in-Present-read.is))

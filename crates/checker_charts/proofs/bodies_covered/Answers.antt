@@ -1,0 +1,11 @@
+use mathlib.Core.Path.{ap, ◌∙◌}
+use lib.Dec.{eqb}
+use mathlib.Core.Path.{ap₂}
+use borrow.Author.Rules.{rules}
+use Rattle.sheet.proofs.Sheet.{count_opened}
+use Rattle.sheet_rules.specs.Shape.{bodies_up_to, bodies_covered}
+use Rattle.checker_charts.proofs.bodies_covered.Goals as goal
+
+pub returns : goal.returns
+unfolding bodies_covered
+returns c = ap₂ eqb (c.bodies_up_to.ensures ∙ ap (bodies_up_to _) (count_opened _ _ _ c.count_in.ensures _ c.requires)) (count_opened _ _ _ c.count_in-2.ensures _ c.requires)

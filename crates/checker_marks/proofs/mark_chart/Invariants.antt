@@ -1,0 +1,16 @@
+use borrow.Author.Rules.{rules}
+use native.Mathlib.Omega.{arith}
+use Prim.Native.Nat.{◌-◌, ◌≤◌}
+use mathlib.Core.Path.{◌≡◌, sym, ◌∙◌}
+use Rattle.sheet_rules.specs.Fields.{sum_below}
+use Rattle.checker_pass.specs.Marks.{Marked}
+use Rattle.checker_pass.proofs.Marking.{count-start, count_more_lem, count-end, loop-start, loop_more, loop-end}
+use Rattle.sheet.proofs.Sheet.{count_limit, present-below}
+use Rattle.checker_pass.proofs.Added.{root_turn, body_turn, chart_absent, chart_added}
+use Rattle.checker_marks.proofs.mark_chart.Given as goal
+
+abbrev pub invariant-loop-j : goal.invariant-loop-j
+invariant-loop-j l = (l.j ≤ l.total) × (l.gone ≤ l.j) × (l.gone ≡ sum_below l.j (body_turn l.sheet l.first)) × Marked l.count l.k l.initial.marks l.marks (λ n. sum_below l.j (root_turn l.sheet l.first n))
+
+abbrev pub decreases-loop-j : goal.decreases-loop-j
+decreases-loop-j l = l.total - l.j

@@ -1,0 +1,19 @@
+use native.Mathlib.Omega.{arith}
+use mathlib.Core.Path.{◌≡◌, refl, sym, ap, ◌∙◌}
+use mathlib.Core.List.{List}
+use Prim.Native.Nat.{ℕ, ◌+◌, ◌-◌, ◌≤◌, ◌<◌}
+use borrow.Author.Rules.{rules}
+use Rattle.sheet.specs.declared.Record.{Record}
+use Rattle.sheet_rules.specs.Fields.{one_if, sum_below, count_below}
+use Rattle.sheet_rules.proofs.Fields.{sum_more}
+use Rattle.sheet_rules.specs.Static.{has_role, bodies_with}
+use Rattle.checker_roles.proofs.bodies_with.Given as goal
+
+abbrev pub counts : List ℕ → ℕ → ℕ → ℕ → ℕ
+counts s first k j = one_if (has_role s (first + j) k)
+
+abbrev pub invariant-loop-j : goal.invariant-loop-j
+invariant-loop-j l = (l.j ≤ l.count) × (l.count < 65536) × (l.n ≤ l.j) × (l.n ≡ sum_below l.j (counts l.sheet l.first l.role))
+
+abbrev pub decreases-loop-j : goal.decreases-loop-j
+decreases-loop-j l = l.count - l.j

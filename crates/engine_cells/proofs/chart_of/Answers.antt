@@ -1,0 +1,6 @@
+use mathlib.Core.Path.{◌∙◌}
+use borrow.Author.Rules.{rules}
+use Rattle.engine_cells.proofs.chart_of.Goals as goal
+
+pub returns : goal.returns
+returns c = c.read.ensures ∙ c.chart_number-n.ensures

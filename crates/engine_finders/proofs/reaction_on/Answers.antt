@@ -1,0 +1,18 @@
+use mathlib.Core.Path.{refl, sym, ◌∙◌}
+use Prim.Native.Nat.{◌-◌}
+use borrow.Author.Rules.{rules}
+use Rattle.machine.specs.Play.{reacts_on}
+use Rattle.engine_finders.proofs.Laws.{Searched, none_yet, misses, hits, no_body}
+use Rattle.engine_finders.proofs.reaction_on.Goals as goal
+
+pub loop-j-init : goal.loop-j-init
+loop-j-init c = none_yet _ _ _ _
+
+pub returns-then-reacts_on : goal.returns-then-reacts_on
+returns-then-reacts_on c = hits _ _ _ _ _ refl refl _ c.loop-j.invariant c.loop-j-test.true (sym c.reacts_on.ensures ∙ c.if-reacts_on.true)
+
+pub loop-j-preserved : goal.loop-j-preserved
+loop-j-preserved c = misses _ _ _ _ _ c.loop-j.invariant c.loop-j-test.true (sym c.reacts_on.ensures ∙ c.if-reacts_on.false)
+
+pub returns : goal.returns
+returns c = no_body _ _ _ _ _ refl refl _ c.loop-j.invariant c.loop-j-test.false

@@ -1,0 +1,12 @@
+use mathlib.Core.Path.{refl, sym, ◌∙◌}
+use Prim.Native.Nat.{◌-◌}
+use lib.Dec.{eqb}
+use borrow.Author.Rules.{rules}
+use Rattle.engine_finders.proofs.Laws.{Searched, none_yet, misses, hits, no_body}
+use Rattle.engine_finders.proofs.with_role.Given as goal
+
+abbrev pub invariant-loop-j : goal.invariant-loop-j
+invariant-loop-j l = Searched l.sheet (λ b. eqb b.f0 l.role) l.first l.bodies l.j
+
+abbrev pub decreases-loop-j : goal.decreases-loop-j
+decreases-loop-j l = l.bodies - l.j

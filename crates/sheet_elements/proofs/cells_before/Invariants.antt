@@ -1,0 +1,19 @@
+use native.Mathlib.Omega.{arith}
+use mathlib.Core.Path.{◌≡◌, refl}
+use mathlib.Core.List.{List}
+use Prim.Native.Nat.{ℕ, ◌+◌, ◌-◌, ◌*◌, ◌≤◌, ◌<◌}
+use borrow.Author.Rules.{rules}
+use Rattle.sheet.specs.declared.Record.{Record}
+use Rattle.sheet_rules.specs.Fields.{sum_below}
+use Rattle.sheet_rules.specs.Indices.{cells_taken, cells_before}
+use Rattle.sheet_elements.proofs.Laws.{sum_next}
+use Rattle.sheet_elements.proofs.cells_before.Given as goal
+
+abbrev pub cells_from : List ℕ → ℕ → ℕ → ℕ
+cells_from s first j = cells_taken s (first + j)
+
+abbrev pub invariant-loop-j : goal.invariant-loop-j
+invariant-loop-j l = (l.j ≤ l.count) × (l.count < 65536) × (l.first < 65536) × (l.sum ≤ 65535 * l.j) × (l.sum ≡ sum_below l.j (cells_from l.sheet l.first))
+
+abbrev pub decreases-loop-j : goal.decreases-loop-j
+decreases-loop-j l = l.count - l.j

@@ -1,0 +1,10 @@
+use mathlib.Core.Path.{◌∙◌}
+use borrow.Author.Rules.{rules}
+use Rattle.sheet_types.proofs.Laws.{called_past, called-there}
+use Rattle.sheet_types.proofs.called_body.Goals as goal
+
+pub returns-then-c-r : goal.returns-then-c-r
+returns-then-c-r c = called_past _ _ _ c.if-c-r.true
+
+pub returns : goal.returns
+returns c = c.read.ensures ∙ called-there _ _ _ c.if-c-r.false
