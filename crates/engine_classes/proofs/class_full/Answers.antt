@@ -5,6 +5,7 @@ use native.Mathlib.Omega.{arith}
 use borrow.Author.Rules.{rules}
 use Rattle.engine_classes.proofs.Laws.{Looked, looked_none, end-inside, class-few, looked_few, looked_inside, looked_found, looked_full, looked_passed}
 use Rattle.engine_classes.proofs.class_full.Goals as goal
+use Rattle.engine_classes.proofs.class_full.Goals.{then-same_class+else-last-end, else-same_class}
 
 pub returns-then-n-lt-CLASS_LIMIT : goal.returns-then-n-lt-CLASS_LIMIT
 returns-then-n-lt-CLASS_LIMIT c = class-few _ _ c.requires.0 c.requires.1 c.requires.2 _ c.if-n-lt-CLASS_LIMIT.true
@@ -48,15 +49,16 @@ loop-at-smaller c = let end = c.place_at-end.ensures in
     omega (arith, looked_inside _ _ c.requires.0 c.requires.1 c.requires.2 _ _ _ c.loop-at.invariant c.loop-at-test.true)
 
 pub loop-at-preserved : goal.loop-at-preserved
-loop-at-preserved c = let end = c.place_at-end.ensures in
+loop-at-preserved c =
+    let end = c.place_at-end.ensures in
     let args = c.args in
-    let same-class-here = c.same_class.ensures in
-    ⊎_elim
-    (λ w. subst (λ last. Looked args.st.now args.n args.t last (c.loop-at.at + 8)) (sym w.2)
-    (looked_found _ _ c.requires.0 c.requires.1 c.requires.2 _ _ _ c.loop-at.invariant c.loop-at-test.true (sym same-class-here ∙ w.0.taken) (λ q. w.1.left (q ∙ sym end))))
-    (λ w. subst (λ last. Looked args.st.now args.n args.t last (c.loop-at.at + 8)) (sym w.1)
-    (looked_passed _ _ c.requires.0 c.requires.1 c.requires.2 _ _ _ c.loop-at.invariant c.loop-at-test.true (sym same-class-here ∙ w.0.left)))
-    c.if-same_class.branch
+    let same = c.same_class.ensures in
+    elim c.if-same_class.branch [
+      | then-same_class+else-last-end w ↦ subst (λ last. Looked args.st.now args.n args.t last (c.loop-at.at + 8)) (sym w.last-is)
+        (looked_found _ _ c.requires.0 c.requires.1 c.requires.2 _ _ _ c.loop-at.invariant c.loop-at-test.true (sym same ∙ w.if-same_class.true) (λ q. w.if-last-end.false (q ∙ sym end)))
+      | else-same_class w ↦ subst (λ last. Looked args.st.now args.n args.t last (c.loop-at.at + 8)) (sym w.last-is)
+        (looked_passed _ _ c.requires.0 c.requires.1 c.requires.2 _ _ _ c.loop-at.invariant c.loop-at-test.true (sym same ∙ w.if-same_class.false))
+    ]
 
 pub returns : goal.returns
 returns c = looked_few _ _ c.requires.0 c.requires.1 c.requires.2 _ _ _ c.loop-at.invariant (let h = c.loop-at-test.false in omega arith)

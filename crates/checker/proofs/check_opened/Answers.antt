@@ -7,8 +7,7 @@ use borrow.Author.Rules.{rules}
 use Rattle.sheet_rules.specs.declared.Checked.TheVariants.{Passed, Shape, Static}
 use Rattle.sheet_rules.specs.Static.{static}
 use Rattle.sheet_rules.specs.Check.{shape, check_of, check_call}
-use Rattle.checker.proofs.check_opened.Statement.{statement}
-use Rattle.checker.proofs.check_opened.Tie as tie
+use Rattle.checker.proofs.check_opened.Goals as goal
 
 module _ (s : List ℕ) where
   no-shape : shape s ≡ false → (Shape ≡ check_of s) × (1 ≡ check_call s)
@@ -23,27 +22,11 @@ module _ (s : List ℕ) where
   unfolding check_of check_call
   passes e f = (rw (check_of, e, f) refl, rw (check_call, e, f) refl)
 
-shaped-requires : tie.Need-shaped-requires
-shaped-requires c κs = search rules
+pub returns-then-not-shaped : goal.returns-then-not-shaped
+returns-then-not-shaped c = no-shape _ (sym c.shaped.ensures ∙ c.if-not-shaped.true)
 
-returns : tie.Need-returns
-returns c = no-shape _ (sym c.before.shaped.ensures ∙ not-true _ c.if1.true)
+pub returns-then-not-rules_hold : goal.returns-then-not-rules_hold
+returns-then-not-rules_hold c = no_static _ (sym c.shaped.ensures ∙ c.if-not-shaped.false) (sym c.rules_hold.ensures ∙ c.if-not-rules_hold.true)
 
-rules-hold-requires : tie.Need-rules-hold-requires
-rules-hold-requires c κs = search rules
-
-returns-2 : tie.Need-returns-2
-returns-2 c = no_static _ (sym c.before.before.before.shaped.ensures ∙ not-false _ c.before.before.if1.false) (sym c.before.rules-hold.ensures ∙ not-true _ c.if2.true)
-
-returns-3 : tie.Need-returns-3
-returns-3 c = passes _ (sym c.before.before.before.shaped.ensures ∙ not-false _ c.before.before.if1.false) (sym c.before.rules-hold.ensures ∙ not-false _ c.if2.false)
-
-pub check-opened-spec : {M : Type 1} → statement M
-check-opened-spec =
-    tie.close
-    (tie.spec
-    shaped-requires
-    returns
-    rules-hold-requires
-    returns-2
-    returns-3)
+pub returns : goal.returns
+returns c = passes _ (sym c.shaped.ensures ∙ c.if-not-shaped.false) (sym c.rules_hold.ensures ∙ c.if-not-rules_hold.false)

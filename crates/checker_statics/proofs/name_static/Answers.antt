@@ -1,0 +1,7 @@
+use borrow.Author.Rules.{rules}
+use Rattle.sheet_rules.specs.Static.{name_static}
+use Rattle.checker_statics.proofs.name_static.Goals as goal
+
+pub returns : goal.returns
+unfolding name_static
+returns c = c.plain_data.ensures

@@ -1,0 +1,25 @@
+use native.Mathlib.Omega.{arith}
+use mathlib.Core.Path.{◌≡◌, refl, sym, ◌∙◌}
+use mathlib.Core.Bool.{Bool, true}
+use mathlib.Core.List.{List}
+use Prim.Native.Nat.{ℕ, ◌-◌, ◌≤◌}
+use borrow.Author.Tests.{not-true, not-false}
+use borrow.Author.Rules.{rules}
+use Rattle.sheet.proofs.Sheet.{count_opened}
+use Rattle.sheet.specs.All.{all_below}
+use Rattle.sheet.proofs.All.{all_more, loop_fails, loop_ends}
+use Rattle.sheet_rules.proofs.Fields.{holds-present, holds_absent}
+use Rattle.sheet.specs.Sheet.{record_of}
+use Rattle.sheet_rules.specs.Fields.{holds}
+use Rattle.sheet_rules.specs.Static.{record_static, each_static}
+use Rattle.checker_reactions.specs.Entries.{Ready}
+use Rattle.checker_statics.proofs.records_static.Given as goal
+
+abbrev pub fits : List ℕ → ℕ → ℕ → Bool
+fits s k i = holds (record_of s k i) (record_static s k)
+
+abbrev pub invariant-loop-i : goal.invariant-loop-i
+invariant-loop-i l = (l.i ≤ l.count) × (all_below l.i (fits l.sheet l.k) ≡ true) × Ready l.sheet l.table l.last l.previous
+
+abbrev pub decreases-loop-i : goal.decreases-loop-i
+decreases-loop-i l = l.count - l.i

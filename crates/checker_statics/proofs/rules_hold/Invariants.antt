@@ -1,0 +1,18 @@
+use native.Mathlib.Omega.{arith}
+use mathlib.Core.Path.{◌≡◌, refl, sym, ◌∙◌}
+use mathlib.Core.Bool.{true}
+use Prim.Native.Nat.{◌-◌, ◌≤◌}
+use borrow.Author.Tests.{not-true, not-false}
+use borrow.Author.Rules.{rules}
+use Rattle.sheet.specs.All.{all_below}
+use Rattle.sheet.proofs.All.{all_more, loop_fails, loop_ends}
+use Rattle.sheet_rules.specs.Static.{section_static, static}
+use Rattle.checker_reactions.specs.Entries.{Ready}
+use Rattle.checker_reactions.proofs.Entries.{ready-zeros}
+use Rattle.checker_statics.proofs.rules_hold.Given as goal
+
+abbrev pub invariant-loop-k : goal.invariant-loop-k
+invariant-loop-k l = (l.k ≤ 8) × (all_below l.k (section_static l.sheet) ≡ true) × Ready l.sheet l.table l.last l.previous
+
+abbrev pub decreases-loop-k : goal.decreases-loop-k
+decreases-loop-k l = 8 - l.k

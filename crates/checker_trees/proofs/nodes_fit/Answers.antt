@@ -1,0 +1,38 @@
+use native.Mathlib.Omega.{arith}
+use mathlib.Core.Path.{◌≡◌, refl, sym, ◌∙◌}
+use mathlib.Core.Bool.{Bool, true}
+use mathlib.Core.List.{List}
+use Prim.Native.Nat.{ℕ, ◌-◌, ◌≤◌}
+use borrow.Author.Tests.{not-true, not-false}
+use borrow.Author.Rules.{rules}
+use Rattle.sheet.proofs.Sheet.{count_opened}
+use Rattle.sheet.specs.All.{all_below}
+use Rattle.sheet.proofs.All.{all_more, loop_fails, loop_ends}
+use Rattle.sheet.specs.Sheet.{record_of}
+use Rattle.sheet_rules.specs.Fields.{holds}
+use Rattle.sheet_rules.proofs.Fields.{holds-present, holds_absent}
+use Rattle.sheet_rules.specs.Check.{nodes_shape}
+use Rattle.sheet_rules.specs.Shape.{trees_shape}
+use Rattle.checker_trees.proofs.nodes_fit.Invariants.{chartFits}
+use Rattle.checker_trees.proofs.nodes_fit.Goals as goal
+
+pub loop-k-init : goal.loop-k-init
+unfolding all_below
+loop-k-init c = (omega arith, refl)
+
+pub returns-in_default : goal.returns-in_default
+unfolding nodes_shape
+returns-in_default c = loop_fails _ _ _ _ (count_opened _ _ _ c.count_in-count.ensures _ c.requires) c.loop-k-test.true (holds_absent _ _ (sym c.read.ensures ∙ c.in_default.is))
+
+pub returns-then-not-trees_fit : goal.returns-then-not-trees_fit
+unfolding nodes_shape
+returns-then-not-trees_fit c = let c-here-is = sym c.read.ensures ∙ c.in-Present.is in
+    loop_fails _ _ _ _ (count_opened _ _ _ c.count_in-count.ensures _ c.requires) c.loop-k-test.true
+    (holds-present _ _ _ c-here-is ∙ sym c.trees_fit.ensures ∙ c.if-not-trees_fit.true)
+
+pub loop-k-preserved : goal.loop-k-preserved
+loop-k-preserved c = (omega arith, all_more c.loop-k.k _ c.loop-k.invariant.1 (holds-present _ _ _ (sym c.read.ensures ∙ c.in-Present.is) ∙ sym c.trees_fit.ensures ∙ c.if-not-trees_fit.false))
+
+pub returns : goal.returns
+unfolding nodes_shape
+returns c = loop_ends _ _ _ _ (count_opened _ _ _ c.count_in-count.ensures _ c.requires) c.loop-k.invariant.0 c.loop-k-test.false c.loop-k.invariant.1
