@@ -16,6 +16,7 @@ use Rattle.checker.proofs.shape_holds.Goals as goal
 
 right-with-head : (s : List ℕ) (n : ℕ) → n ≡ count_of s 0 → n ≡ 1 → directory_right s ≡ true
 right-with-head s n e one = (count_some s 0 0 (omega arith)).0
+
 module _ (s : List ℕ) (x y n : ℕ) (p : x ≡ field_at s 0 0 1) (q : y ≡ field_at s 0 0 0) (e : n ≡ elements_bound_in s) where
   bound : x + n ≡ y → externals_of s + elements_bound_in s ≡ components_of s
   unfolding externals_of components_of field_at field_of

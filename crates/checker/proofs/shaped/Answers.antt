@@ -10,6 +10,7 @@ use Rattle.checker.proofs.shaped.Goals as goal
 -- the first n of fresh marks
 front : (n size : ℕ) → n ≤ size → n ≡ length {A = ℕ} (take n (replicate size 0))
 front n size l = sym (length-take-le n (replicate size 0) (omega (arith, length-replicate {A = ℕ} size 0)))
+
 room : (x n size : ℕ) → n ≡ x → n ≤ size → x ≤ length {A = ℕ} (take n (replicate size 0))
 room x n size e l = omega (arith, e, front n size l)
 
