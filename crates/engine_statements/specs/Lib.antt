@@ -1,2 +1,1 @@
 pub mod Callable
-pub mod Runs

@@ -1,11 +1,13 @@
 // What a statement does.
 #![tactic(auto)]
 
-ghost use Rattle.std.specs.Prelude.{◌≡◌, List, suc, length, ℤ};
+ghost use Rattle.std.specs.Prelude.{◌≡◌, List, suc, ◌≤◌, length, ℤ};
+ghost use Rattle.sheet.specs.Sheet.{directory_of};
 ghost use Rattle.sheet_rules.specs.Forms.{call, loop};
 ghost use Rattle.machine.specs.Run.{world, entered, run_of};
-ghost use Rattle.engine_ready.specs.Ready.{context_at};
-ghost use Rattle.engine_statements.specs.Runs.{Runs, Visits, Enters};
+ghost use Rattle.engine_ready.specs.Ready.{context_at, Ready, IsStatement};
+ghost use Rattle.engine_data.specs.Visit.{Visit};
+ghost use Rattle.engine_statements.specs.Callable.{Callable};
 
 use engine_context::{FIRST_BODY, Frame, Locals};
 use engine_ints::Work;
@@ -25,7 +27,7 @@ fn enter(
     d: &Data,
     left: u32,
 ) -> Ran
-    requires { Enters sheet.now directory.now context.now st.old depth number b d.now }
+    requires { (directory.now ≡ directory_of sheet.now) × Callable sheet.now context.now st.old number b d.now × (depth ≤ 16) }
     ensures { (lo : List ℤ) → world result st.new lo ≡ entered sheet.now (context_at sheet.now context.now) (run_of sheet.now) depth b d.now left st.old lo }
 {
     if 16 <= depth {
@@ -58,7 +60,7 @@ fn call(
     r: Record,
     left: u32,
 ) -> Ran
-    requires { Visits sheet.now directory.now context.now st.old lo.now depth n r call }
+    requires { (directory.now ≡ directory_of sheet.now) × Visit sheet.now context.now st.old lo.now n r call × (depth ≤ 16) }
     ensures { world result st.new lo.now ≡ run_of sheet.now depth (context_at sheet.now context.now) n (suc left) st.old lo.now }
 {
     let number = context[FIRST_BODY] + r.f1 as usize;
@@ -91,7 +93,7 @@ fn repeat(
     r: Record,
     left: u32,
 ) -> Ran
-    requires { Visits sheet.now directory.now context.now st.old lo.old depth n r loop }
+    requires { (directory.now ≡ directory_of sheet.now) × Visit sheet.now context.now st.old lo.old n r loop × (depth ≤ 16) }
     ensures { (length lo.new ≡ 16) × (world result st.new lo.new ≡ run_of sheet.now depth (context_at sheet.now context.now) n (suc left) st.old lo.old) }
 {
     let mut l = left;
@@ -143,7 +145,7 @@ pub fn run(
     n: usize,
     left: u32,
 ) -> Ran
-    requires { Runs sheet.now directory.now context.now st.old lo.old depth n }
+    requires { (directory.now ≡ directory_of sheet.now) × Ready sheet.now context.now st.old lo.old × IsStatement sheet.now context.now n × (depth ≤ 16) }
     ensures { (length lo.new ≡ 16) × (world result st.new lo.new ≡ run_of sheet.now depth (context_at sheet.now context.now) n left st.old lo.old) }
 {
     if left == 0 {

@@ -1,5 +1,5 @@
 -- Names for the paper's numbers, so that later definitions read like it: sections, the fields by meaning, types, operators.
-use Rattle.std.specs.Prelude.{ℕ, ◌+◌, ◌-◌, Bool, leb}
+use Rattle.std.specs.Prelude.{ℕ, ◌+◌, Bool, leb}
 use Rattle.sheet.specs.All.{◌and◌}
 use Rattle.sheet.specs.declared.Record.{Record}
 use Rattle.sheet.specs.declared.Range.{Range}

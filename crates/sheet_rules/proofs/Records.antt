@@ -7,7 +7,6 @@ use native.Mathlib.Omega.{arith}
 use native.Mathlib.Decide.{dec_lt}
 use borrow.Author.Tests.{lt-leb}
 use Rattle.sheet.specs.declared.Record.{Record}
-use Rattle.sheet.specs.All.{◌and◌}
 use Rattle.sheet.specs.Names.{charts, bindings, chart_parameters, bound_chart}
 use Rattle.sheet.specs.Sheet.{count_of, record_of}
 use Rattle.sheet.proofs.All.{and_second}

@@ -75,7 +75,7 @@ run-requires c κs =
     let row = ap (λ x. start.args.e - x) first in
     let numbers = c.before.before.before.before.before.context.ensures in
     let ready-now = ready h _ body _ row _ numbers _ c.before.before.before.before.fresh-locals.ensures in
-    record { directory = h.playing.directory; ready = ready-now; statement = root-statement h _ body _ row _ numbers; calls = omega arith }
+    (h.playing.directory, ready-now, root-statement h _ body _ row _ numbers, omega arith)
 
 same_length : tie.Need-same-length
 same_length c = search rules

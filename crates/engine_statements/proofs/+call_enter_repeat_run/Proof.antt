@@ -126,7 +126,7 @@ call-cast-number : (t : ℕ) → call-lts.Need-overflow-cast-number (call-claims
 call-cast-number t c = search rules
 
 call-add-number : (t : ℕ) → call-lts.Need-overflow-add-number (call-claims t) (call_at t) call.Post
-call-add-number t c = let h : get_or c.before.before.before.args.context.now 3 0 + c.before.before.before.args.r.f1 < 65536 = number_small _ _ _ _ _ _ c.before.before.before.requires.1.visit in let g : get_or c.before.before.before.args.context.now 3 0 + c.before.before.before.args.r.f1 < 18446744073709551616 = omega arith in record { fits = g }
+call-add-number t c = let h : get_or c.before.before.before.args.context.now 3 0 + c.before.before.before.args.r.f1 < 65536 = number_small _ _ _ _ _ _ c.before.before.before.requires.1.1 in let g : get_or c.before.before.before.args.context.now 3 0 + c.before.before.before.args.r.f1 < 18446744073709551616 = omega arith in record { fits = g }
 
 call-read-requires : (t : ℕ) → call-lts.Need-read-requires (call-claims t) (call_at t) call.Post
 call-read-requires t c κs = search rules
@@ -138,7 +138,7 @@ call-enum-told : (t : ℕ) → call-lts.Need-enum-told (call-claims t) (call_at 
 call-enum-told t c = search rules
 
 call_returns : (t : ℕ) → call-lts.Need-returns (call-claims t) (call_at t) call.Post
-call_returns t c = no_record (sym c.enum_told.given.1 ∙ c.before.before.read.ensures) (body-called _ _ _ _ _ _ c.before.before.before.before.before.before.requires.1.visit)
+call_returns t c = no_record (sym c.enum_told.given.1 ∙ c.before.before.read.ensures) (body-called _ _ _ _ _ _ c.before.before.before.before.before.before.requires.1.1)
 
 call-cast-t20 : (t : ℕ) → call-lts.Need-overflow-cast-t20 (call-claims t) (call_at t) call.Post
 call-cast-t20 t c = search rules
@@ -152,7 +152,7 @@ call-gather-requires t c κs =
     let read_here = c.before.before.before.before.before.before.before.read in
     let pre = c.before.before.before.before.before.before.before.before.before.before.before.requires in
     let b-is = sym read_here.ensures ∙ b.given.1 in
-    (pre.1.directory, pre.1.visit.ready, has_data _ _ _ _ _ _ pre.1.visit _ b-is, four_parameters _ _ _ _ _ _ pre.1.visit _ b-is, refl)
+    (pre.1.0, pre.1.1.ready, has_data _ _ _ _ _ _ pre.1.1 _ b-is, four_parameters _ _ _ _ _ _ pre.1.1 _ b-is, refl)
 
 call-enum-known-o : (t : ℕ) → call-lts.Need-enum-known-o (call-claims t) (call_at t) call.Post
 call-enum-known-o t c = search rules
@@ -167,9 +167,9 @@ call-enter-requires t c κs =
     let pre = at8.before.before.before.before.before.before.before.before.before.requires in
     let b-is = sym read_here.ensures ∙ b.given.1 in
     let d = data_given _ _ (sym o.given.1 ∙ gather-here.ensures.1) in
-    let h = given-left _ _ _ _ _ _ pre.1.visit _ b-is _ _ _ d.1 in
+    let h = given-left _ _ _ _ _ _ pre.1.1 _ b-is _ _ _ d.1 in
     let q = pre.0 in
-    (omega arith, record { directory = pre.1.directory; callable = callable _ _ _ _ _ _ pre.1.visit _ b-is _ _ _ _ d.1 (gather-here.ensures.2 _ _ d.1); calls = pre.1.calls })
+    (omega arith, (pre.1.0, callable _ _ _ _ _ _ pre.1.1 _ b-is _ _ _ _ d.1 (gather-here.ensures.2 _ _ d.1), pre.1.2))
 
 call-enum-known-o-2 : (t : ℕ) → call-lts.Need-enum-known-o-2 (call-claims t) (call_at t) call.Post
 call-enum-known-o-2 t c = search rules
@@ -192,31 +192,31 @@ call-returns-2 t c =
     let pre = at16.before.before.before.requires in
     let b-is = sym read_here.ensures ∙ b.given.1 in
     let d = data_given _ _ (sym o.given.1 ∙ gather-here.ensures.1) in
-    c.before.enter.ensures args.lo.now ∙ call_done _ _ _ _ _ _ pre.1.visit _ b-is _ _ _ _ _ d.1 (gather-here.ensures.2 _ _ d.1)
+    c.before.enter.ensures args.lo.now ∙ call_done _ _ _ _ _ _ pre.1.1 _ b-is _ _ _ _ _ d.1 (gather-here.ensures.2 _ _ d.1)
 
 call-same-length-2 : (t : ℕ) → call-lts.Need-same-length-2 (call-claims t) (call_at t) call.Post
 call-same-length-2 t c = search rules
 
 call-returns-3 : (t : ℕ) → call-lts.Need-returns-3 (call-claims t) (call_at t) call.Post
-call-returns-3 t c = called-refused _ _ _ _ _ _ c.before.before.before.before.before.before.before.before.before.before.before.before.before.before.before.requires.1.visit _ (sym c.before.before.before.before.before.before.before.before.before.before.before.read.ensures ∙ c.before.before.before.before.before.before.before.before.before.b.given.1) _ _ _ _ (sym c.before.o2.given.1 ∙ c.before.before.before.gather.ensures.1)
+call-returns-3 t c = called-refused _ _ _ _ _ _ c.before.before.before.before.before.before.before.before.before.before.before.before.before.before.before.requires.1.1 _ (sym c.before.before.before.before.before.before.before.before.before.before.before.read.ensures ∙ c.before.before.before.before.before.before.before.before.before.b.given.1) _ _ _ _ (sym c.before.o2.given.1 ∙ c.before.before.before.gather.ensures.1)
 
 call-same-length-3 : (t : ℕ) → call-lts.Need-same-length-3 (call-claims t) (call_at t) call.Post
 call-same-length-3 t c = search rules
 
 call-returns-4 : (t : ℕ) → call-lts.Need-returns-4 (call-claims t) (call_at t) call.Post
-call-returns-4 t c = called-stuck _ _ _ _ _ _ c.before.before.before.before.before.before.before.before.before.before.before.before.before.before.requires.1.visit _ (sym c.before.before.before.before.before.before.before.before.before.before.read.ensures ∙ c.before.before.before.before.before.before.before.before.b.given.1) _ _ (sym c.enum-told2.given.1 ∙ c.before.before.gather.ensures.1)
+call-returns-4 t c = called-stuck _ _ _ _ _ _ c.before.before.before.before.before.before.before.before.before.before.before.before.before.before.requires.1.1 _ (sym c.before.before.before.before.before.before.before.before.before.before.read.ensures ∙ c.before.before.before.before.before.before.before.before.b.given.1) _ _ (sym c.enum-told2.given.1 ∙ c.before.before.gather.ensures.1)
 
 enter-returns : (t : ℕ) → enter-lts.Need-returns (enter-claims t) (enter-at t) enter.Post
 enter-returns t c = λ lo. too_deep_lem _ _ _ _ _ _ _ lo c.if1.true
 
 enter-inner-requires : (t : ℕ) → enter-lts.Need-inner-requires (enter-claims t) (enter-at t) enter.Post
-enter-inner-requires t c κs = c.before.before.requires.1.callable.running.whole
+enter-inner-requires t c κs = c.before.before.requires.1.1.running.whole
 
 enter-fresh-locals-requires : (t : ℕ) → enter-lts.Need-fresh-locals-requires (enter-claims t) (enter-at t) enter.Post
-enter-fresh-locals-requires t c κs = (c.before.before.before.requires.1.directory, few-parameters _ _ _ _ _ _ c.before.before.before.requires.1.callable, few_variables _ _ _ _ _ _ c.before.before.before.requires.1.callable)
+enter-fresh-locals-requires t c κs = (c.before.before.before.requires.1.0, few-parameters _ _ _ _ _ _ c.before.before.before.requires.1.1, few_variables _ _ _ _ _ _ c.before.before.before.requires.1.1)
 
 enter-add-run : (t : ℕ) → enter-lts.Need-overflow-add-run (enter-claims t) (enter-at t) enter.Post
-enter-add-run t c = let h = c.before.before.before.before.before.before.before.requires.1.calls in record { fits = omega arith }
+enter-add-run t c = let h = c.before.before.before.before.before.before.before.requires.1.2 in record { fits = omega arith }
 
 enter-cast-run : (t : ℕ) → enter-lts.Need-overflow-cast-run (enter-claims t) (enter-at t) enter.Post
 enter-cast-run t c = search rules
@@ -231,13 +231,13 @@ enter-run-requires t c κs =
     let q = pre.0 in
     let h = if1.false in (
       omega arith,
-      record {
-        directory = pre.1.directory;
-        ready = subst (λ lo. Ready args.sheet.now inner-here.result args.st.now lo) (sym fresh-locals.ensures)
-            (inner-ready _ _ _ _ _ _ pre.1.callable _ inner-here.ensures);
-        statement = inner-statement _ _ _ _ _ _ pre.1.callable _ inner-here.ensures;
-        calls = omega arith;
-      },
+      (
+        pre.1.0,
+        subst (λ lo. Ready args.sheet.now inner-here.result args.st.now lo) (sym fresh-locals.ensures)
+            (inner-ready _ _ _ _ _ _ pre.1.1 _ inner-here.ensures),
+        inner-statement _ _ _ _ _ _ pre.1.1 _ inner-here.ensures,
+        omega arith,
+      ),
     )
 
 enter-same-length : (t : ℕ) → enter-lts.Need-same-length (enter-claims t) (enter-at t) enter.Post
@@ -251,9 +251,9 @@ enter-returns-2 t c =
     let if1 = at8.if1 in
     let args = at8.before.before.args in
     let pre = at8.before.before.requires in
-    let inner-context-here = inner_context _ _ _ _ _ _ pre.1.callable _ inner-here.ensures in
+    let inner-context-here = inner_context _ _ _ _ _ _ pre.1.1 _ inner-here.ensures in
     let inBody-here = in_body (context_at args.sheet.now args.context.now) args.b in
-    λ lo. body-runs _ _ _ _ _ _ _ lo (let h = if1.false in omega arith) (fresh_there _ _ _ _ _ _ pre.1.callable) _ _ _
+    λ lo. body-runs _ _ _ _ _ _ _ lo (let h = if1.false in omega arith) (fresh_there _ _ _ _ _ _ pre.1.1) _ _ _
     (c.before.run.ensures.1
     ∙ ap (λ y. run_of args.sheet.now (args.depth + 1) y (root args.b) args.left args.st.now fresh-locals.result) inner-context-here
     ∙ ap (λ lo. run_of args.sheet.now (args.depth + 1) inBody-here (root args.b) args.left args.st.now lo) fresh-locals.ensures)
@@ -265,13 +265,13 @@ abbrev repeat-μ-loop : repeat-lts.decreases-loop
 repeat-μ-loop sheet directory context st₀ lo₀ depth n r left l₀ st lo l = l
 
 repeat-loop-holds : (t : ℕ) → repeat-lts.Need-loop-init (repeat-claims t) (repeat-at t) repeat.Post repeat-Inv-loop repeat-μ-loop
-repeat-loop-holds t c = (c.before.requires.1.visit, refl, omega arith, refl, refl)
+repeat-loop-holds t c = (c.before.requires.1.1, refl, omega arith, refl, refl)
 
 repeat-cast-eval : (t : ℕ) → repeat-lts.Need-overflow-cast-eval (repeat-claims t) (repeat-at t) repeat.Post repeat-Inv-loop repeat-μ-loop
 repeat-cast-eval t c = search rules
 
 repeat-eval-requires : (t : ℕ) → repeat-lts.Need-eval-requires (repeat-claims t) (repeat-at t) repeat.Post repeat-Inv-loop repeat-μ-loop
-repeat-eval-requires t c κs = (c.before.before.before.before.before.requires.1.directory, c.before.before.before.loop.invariant.0.ready, loop_operand _ _ _ _ c.before.before.before.loop.invariant.0.ready _ _ c.before.before.before.loop.invariant.0.there c.before.before.before.loop.invariant.0.statement c.before.before.before.loop.invariant.0.form)
+repeat-eval-requires t c κs = (c.before.before.before.before.before.requires.1.0, c.before.before.before.loop.invariant.0.ready, loop_operand _ _ _ _ c.before.before.before.loop.invariant.0.ready _ _ c.before.before.before.loop.invariant.0.there c.before.before.before.loop.invariant.0.statement c.before.before.before.loop.invariant.0.form)
 
 repeat-enum-known-x : (t : ℕ) → repeat-lts.Need-enum-known-x (repeat-claims t) (repeat-at t) repeat.Post repeat-Inv-loop repeat-μ-loop
 repeat-enum-known-x t c = search rules
@@ -296,12 +296,12 @@ repeat-run-requires t c κs =
     let q = pre.0 in
     let i = loop-here.invariant.2 in (
       omega arith,
-      record {
-        directory = pre.1.directory;
-        ready = loop-here.invariant.0.ready;
-        statement = loop-body _ _ _ _ loop-here.invariant.0.ready _ _ loop-here.invariant.0.there loop-here.invariant.0.statement loop-here.invariant.0.form;
-        calls = pre.1.calls;
-      },
+      (
+        pre.1.0,
+        loop-here.invariant.0.ready,
+        loop-body _ _ _ _ loop-here.invariant.0.ready _ _ loop-here.invariant.0.there loop-here.invariant.0.statement loop-here.invariant.0.form,
+        pre.1.2,
+      ),
     )
 
 repeat-enum-known-o : (t : ℕ) → repeat-lts.Need-enum-known-o (repeat-claims t) (repeat-at t) repeat.Post repeat-Inv-loop repeat-μ-loop
@@ -353,7 +353,7 @@ repeat-loop-again t c =
       loop-here.invariant.1 ∙ turn_again _ _ _ _ _ _ loop-here.invariant.0 _ _ _ _ x-is not-zero-here _ _ _ with-ran-here c.if2.false,
       omega arith,
       st.given ∙ loop-here.invariant.3,
-      run-here.ensures.0 ∙ sym pre.1.visit.ready.locals.sixteen,
+      run-here.ensures.0 ∙ sym pre.1.1.ready.locals.sixteen,
     )
 
 repeat-enum-known-o-2 : (t : ℕ) → repeat-lts.Need-enum-known-o-2 (repeat-claims t) (repeat-at t) repeat.Post repeat-Inv-loop repeat-μ-loop
@@ -419,7 +419,7 @@ repeat-returns-6 : (t : ℕ) → repeat-lts.Need-returns-6 (repeat-claims t) (re
 repeat-returns-6 t c = (c.before.before.before.before.before.before.loop.invariant.0.ready.locals.sixteen, loop-stuck _ _ _ _ _ _ c.before.before.before.before.before.before.loop.invariant.0 _ _ (sym c.enum-told2.given.1 ∙ c.before.before.eval.ensures) ∙ sym c.before.before.before.before.before.before.loop.invariant.1)
 
 run-returns : (t : ℕ) → run-lts.Need-returns (run-claims t) (run_at t) run.Post
-run-returns t c = (c.before.before.requires.1.ready.locals.sixteen, none_left _ _ _ _ c.before.before.requires.1.ready _ _ _ c.if1.true)
+run-returns t c = (c.before.before.requires.1.1.locals.sixteen, none_left _ _ _ _ c.before.before.requires.1.1 _ _ _ c.if1.true)
 
 run-sub-rest : (t : ℕ) → run-lts.Need-overflow-sub-rest (run-claims t) (run_at t) run.Post
 run-sub-rest t c = search rules
@@ -434,10 +434,10 @@ run-enum-told : (t : ℕ) → run-lts.Need-enum-told (run-claims t) (run_at t) r
 run-enum-told t c = search rules
 
 run-returns-2 : (t : ℕ) → run-lts.Need-returns-2 (run-claims t) (run_at t) run.Post
-run-returns-2 t c = (c.before.before.before.before.before.requires.1.ready.locals.sixteen, no_node _ _ _ _ c.before.before.before.before.before.requires.1.ready _ _ _ c.before.before.before.if1.false (sym c.before.before.read.ensures ∙ c.enum_told.given.1))
+run-returns-2 t c = (c.before.before.before.before.before.requires.1.1.locals.sixteen, no_node _ _ _ _ c.before.before.before.before.before.requires.1.1 _ _ _ c.before.before.before.if1.false (sym c.before.before.read.ensures ∙ c.enum_told.given.1))
 
 run-assign-requires : (t : ℕ) → run-lts.Need-assign-requires (run-claims t) (run_at t) run.Post
-run-assign-requires t c κs = (c.before.before.before.before.before.before.before.before.before.requires.1.directory, visit _ _ _ _ c.before.before.before.before.before.before.before.before.before.requires.1.ready _ _ (sym c.before.before.before.before.before.before.read.ensures ∙ c.before.before.before.before.r.given.1) c.before.before.before.before.before.before.before.before.before.requires.1.statement assign (form-assign _ c.before.before.match2.keys2))
+run-assign-requires t c κs = (c.before.before.before.before.before.before.before.before.before.requires.1.0, visit _ _ _ _ c.before.before.before.before.before.before.before.before.before.requires.1.1 _ _ (sym c.before.before.before.before.before.before.read.ensures ∙ c.before.before.before.before.r.given.1) c.before.before.before.before.before.before.before.before.before.requires.1.2 assign (form-assign _ c.before.before.match2.keys2))
 
 run-external-send-requires : (t : ℕ) → run-lts.Need-external-send-requires (run-claims t) (run_at t) run.Post
 run-external-send-requires t c κs =
@@ -445,7 +445,7 @@ run-external-send-requires t c κs =
     let read_here = c.before.before.before.before.before.before.read in
     let pre = c.before.before.before.before.before.before.before.before.before.requires in
     let r-is = sym read_here.ensures ∙ r.given.1 in
-    (pre.1.directory, visit _ _ _ _ pre.1.ready _ _ r-is pre.1.statement external_send (form-external _ c.before.before.match2.keys3))
+    (pre.1.0, visit _ _ _ _ pre.1.1 _ _ r-is pre.1.2 external_send (form-external _ c.before.before.match2.keys3))
 
 run-internal-send-requires : (t : ℕ) → run-lts.Need-internal-send-requires (run-claims t) (run_at t) run.Post
 run-internal-send-requires t c κs =
@@ -453,7 +453,7 @@ run-internal-send-requires t c κs =
     let read_here = c.before.before.before.before.before.before.read in
     let pre = c.before.before.before.before.before.before.before.before.before.requires in
     let r-is = sym read_here.ensures ∙ r.given.1 in
-    (pre.1.directory, visit _ _ _ _ pre.1.ready _ _ r-is pre.1.statement internal_send (form-internal _ c.before.before.match2.keys4))
+    (pre.1.0, visit _ _ _ _ pre.1.1 _ _ r-is pre.1.2 internal_send (form-internal _ c.before.before.match2.keys4))
 
 run-call-requires : (t : ℕ) → run-lts.Need-call-requires (run-claims t) (run_at t) run.Post
 run-call-requires t c κs =
@@ -464,7 +464,7 @@ run-call-requires t c κs =
     let r-is = sym read_here.ensures ∙ r.given.1 in
     let q = pre.0 in
     let h = if1.false in
-    (omega arith, record { directory = pre.1.directory; visit = visit _ _ _ _ pre.1.ready _ _ r-is pre.1.statement calls (form-call _ c.before.before.match2.keys5); calls = pre.1.calls })
+    (omega arith, (pre.1.0, visit _ _ _ _ pre.1.1 _ _ r-is pre.1.2 calls (form-call _ c.before.before.match2.keys5), pre.1.3))
 
 run-cast-eval : (t : ℕ) → run-lts.Need-overflow-cast-eval (run-claims t) (run_at t) run.Post
 run-cast-eval t c = search rules
@@ -475,7 +475,7 @@ run-eval-requires t c κs =
     let r = c.before.before.before.before.before.r in
     let read_here = c.before.before.before.before.before.before.before.read in
     let pre = c.before.before.before.before.before.before.before.before.before.before.requires in
-    (pre.1.directory, pre.1.ready, choice_operand _ _ _ _ pre.1.ready _ _ (sym read_here.ensures ∙ r.given.1) pre.1.statement (form-choice _ match2.keys6))
+    (pre.1.0, pre.1.1, choice_operand _ _ _ _ pre.1.1 _ _ (sym read_here.ensures ∙ r.given.1) pre.1.2 (form-choice _ match2.keys6))
 
 run-enum-known-x : (t : ℕ) → run-lts.Need-enum-known-x (run-claims t) (run_at t) run.Post
 run-enum-known-x t c = search rules
@@ -497,7 +497,7 @@ run-run-requires t c κs =
     let k = word_left _ _ _ _ _ _ _ _ (sym x.given.1 ∙ eval-here.ensures) in
     let q = pre.0 in
     let h = if1.false in
-    (omega arith, record { directory = pre.1.directory; ready = pre.1.ready; statement = choice_else _ _ _ _ pre.1.ready _ _ r-is pre.1.statement (form-choice _ match2.keys6); calls = pre.1.calls })
+    (omega arith, (pre.1.0, pre.1.1, choice_else _ _ _ _ pre.1.1 _ _ r-is pre.1.2 (form-choice _ match2.keys6), pre.1.3))
 
 run-cast-run-2 : (t : ℕ) → run-lts.Need-overflow-cast-run-2 (run-claims t) (run_at t) run.Post
 run-cast-run-2 t c = search rules
@@ -516,7 +516,7 @@ run-run-requires-2 t c κs =
     let k = word_left _ _ _ _ _ _ _ _ (sym x.given.1 ∙ eval-here.ensures) in
     let q = pre.0 in
     let h = if1.false in
-    (omega arith, record { directory = pre.1.directory; ready = pre.1.ready; statement = choice_then _ _ _ _ pre.1.ready _ _ r-is pre.1.statement (form-choice _ match2.keys6); calls = pre.1.calls })
+    (omega arith, (pre.1.0, pre.1.1, choice_then _ _ _ _ pre.1.1 _ _ r-is pre.1.2 (form-choice _ match2.keys6), pre.1.3))
 
 run-enum-known-x-2 : (t : ℕ) → run-lts.Need-enum-known-x-2 (run-claims t) (run_at t) run.Post
 run-enum-known-x-2 t c = search rules
@@ -533,7 +533,7 @@ run-repeat-requires t c κs =
     let r-is = sym read_here.ensures ∙ r.given.1 in
     let q = pre.0 in
     let h = if1.false in
-    (omega arith, record { directory = pre.1.directory; visit = visit _ _ _ _ pre.1.ready _ _ r-is pre.1.statement loop (form-loop _ c.before.before.match2.keys7); calls = pre.1.calls })
+    (omega arith, (pre.1.0, visit _ _ _ _ pre.1.1 _ _ r-is pre.1.2 loop (form-loop _ c.before.before.match2.keys7), pre.1.3))
 
 run-cast-run-3 : (t : ℕ) → run-lts.Need-overflow-cast-run-3 (run-claims t) (run_at t) run.Post
 run-cast-run-3 t c = search rules
@@ -548,7 +548,7 @@ run-run-requires-3 t c κs =
     let r-is = sym read_here.ensures ∙ r.given.1 in
     let q = pre.0 in
     let h = if1.false in
-    (omega arith, record { directory = pre.1.directory; ready = pre.1.ready; statement = sequence-first _ _ _ _ pre.1.ready _ _ r-is pre.1.statement (form-sequence _ match2.keys8); calls = pre.1.calls })
+    (omega arith, (pre.1.0, pre.1.1, sequence-first _ _ _ _ pre.1.1 _ _ r-is pre.1.2 (form-sequence _ match2.keys8), pre.1.3))
 
 run-enum-known-o : (t : ℕ) → run-lts.Need-enum-known-o (run-claims t) (run_at t) run.Post
 run-enum-known-o t c = search rules
@@ -568,18 +568,18 @@ run-run-requires-4 t c κs =
     let pre = at8.before.before.before.before.before.before.before.before.before.before.requires in
     let form-sequence-here = form-sequence _ match2.keys8 in
     let r-is = sym read_here.ensures ∙ r.given.1 in
-    let sequence-first-here = sequence-first _ _ _ _ pre.1.ready _ _ r-is pre.1.statement form-sequence-here in
+    let sequence-first-here = sequence-first _ _ _ _ pre.1.1 _ _ r-is pre.1.2 form-sequence-here in
     let with-ran-here = with_ran o.given.1 run3.ensures.1 in
     let k = done_left _ _ _ _ _ _ _ _ _ _ with-ran-here in
     let q = pre.0 in
     let h = if1.false in (
       omega arith,
-      record {
-        directory = pre.1.directory;
-        ready = ready_after_lem _ _ _ _ pre.1.ready _ _ _ sequence-first-here _ _ _ (sym with-ran-here);
-        statement = sequence_second _ _ _ _ pre.1.ready _ _ r-is pre.1.statement form-sequence-here;
-        calls = pre.1.calls;
-      },
+      (
+        pre.1.0,
+        ready_after_lem _ _ _ _ pre.1.1 _ _ _ sequence-first-here _ _ _ (sym with-ran-here),
+        sequence_second _ _ _ _ pre.1.1 _ _ r-is pre.1.2 form-sequence-here,
+        pre.1.3,
+      ),
     )
 
 run-enum-known-o-2 : (t : ℕ) → run-lts.Need-enum-known-o-2 (run-claims t) (run_at t) run.Post
@@ -594,7 +594,7 @@ run-assign-element-requires t c κs =
     let read_here = c.before.before.before.before.before.before.read in
     let pre = c.before.before.before.before.before.before.before.before.before.requires in
     let r-is = sym read_here.ensures ∙ r.given.1 in
-    (pre.1.directory, visit _ _ _ _ pre.1.ready _ _ r-is pre.1.statement assign_element (form-assign-element _ c.before.before.match2.keys9))
+    (pre.1.0, visit _ _ _ _ pre.1.1 _ _ r-is pre.1.2 assign_element (form-assign-element _ c.before.before.match2.keys9))
 
 run-arming-requires : (t : ℕ) → run-lts.Need-arming-requires (run-claims t) (run_at t) run.Post
 run-arming-requires t c κs =
@@ -606,7 +606,7 @@ run-arming-requires t c κs =
     let past-four-here = past_four if3.false match2.rest.0.0.0.0.0.0.0.0.1 match2.rest.0.0.0.0.0.0.0.1
     match2.rest.0.0.0.0.0.0.1 match2.rest.0.0.0.0.0.1 in
     let form-arm-here = form-arm _ past-four-here (below_next c.before.before.if4.true) in
-    (pre.1.directory, visit _ _ _ _ pre.1.ready _ _ (sym read_here.ensures ∙ r.given.1) pre.1.statement arm form-arm-here)
+    (pre.1.0, visit _ _ _ _ pre.1.1 _ _ (sym read_here.ensures ∙ r.given.1) pre.1.2 arm form-arm-here)
 
 run-clock-requires : (t : ℕ) → run-lts.Need-clock-requires (run-claims t) (run_at t) run.Post
 run-clock-requires t c κs =
@@ -614,10 +614,10 @@ run-clock-requires t c κs =
     let read_here = c.before.before.before.before.before.before.before.before.read in
     let pre = c.before.before.before.before.before.before.before.before.before.before.before.requires in
     let form-clockAct-here = form-clock_act _ c.before.before.if4.false (below_next c.before.if5.true) in
-    act_lies _ _ _ _ _ _ (visit _ _ _ _ pre.1.ready _ _ (sym read_here.ensures ∙ r.given.1) pre.1.statement clock_act form-clockAct-here)
+    act_lies _ _ _ _ _ _ (visit _ _ _ _ pre.1.1 _ _ (sym read_here.ensures ∙ r.given.1) pre.1.2 clock_act form-clockAct-here)
 
 run-returns-3 : (t : ℕ) → run-lts.Need-returns-3 (run-claims t) (run_at t) run.Post
-run-returns-3 t c = (c.before.before.before.before.before.before.before.requires.1.ready.locals.sixteen, step_back _ _ _ _ _ _ _ c.before.before.before.before.before.if1.false (skips _ _ _ _ c.before.before.before.before.before.before.before.requires.1.ready _ _ (sym c.before.before.before.before.read.ensures ∙ c.before.before.r.given.1) c.before.before.before.before.before.before.before.requires.1.statement c.match2.keys1 _ _))
+run-returns-3 t c = (c.before.before.before.before.before.before.before.requires.1.1.locals.sixteen, step_back _ _ _ _ _ _ _ c.before.before.before.before.before.if1.false (skips _ _ _ _ c.before.before.before.before.before.before.before.requires.1.1 _ _ (sym c.before.before.before.before.read.ensures ∙ c.before.before.r.given.1) c.before.before.before.before.before.before.before.requires.1.2 c.match2.keys1 _ _))
 
 run-same-length : (t : ℕ) → run-lts.Need-same-length (run-claims t) (run_at t) run.Post
 run-same-length t c = search rules
@@ -629,19 +629,19 @@ run-same-length-2 : (t : ℕ) → run-lts.Need-same-length-2 (run-claims t) (run
 run-same-length-2 t c = search rules
 
 run-returns-5 : (t : ℕ) → run-lts.Need-returns-5 (run-claims t) (run_at t) run.Post
-run-returns-5 t c = (c.before.before.before.before.before.before.before.before.before.before.before.requires.1.ready.locals.sixteen, step_back _ _ _ _ _ _ _ c.before.before.before.before.before.before.before.before.before.if1.false (c.before.external-send.ensures c.before.before.before.before.before.before.before.before.before.before.before.args.depth))
+run-returns-5 t c = (c.before.before.before.before.before.before.before.before.before.before.before.requires.1.1.locals.sixteen, step_back _ _ _ _ _ _ _ c.before.before.before.before.before.before.before.before.before.if1.false (c.before.external-send.ensures c.before.before.before.before.before.before.before.before.before.before.before.args.depth))
 
 run-same-length-3 : (t : ℕ) → run-lts.Need-same-length-3 (run-claims t) (run_at t) run.Post
 run-same-length-3 t c = search rules
 
 run-returns-6 : (t : ℕ) → run-lts.Need-returns-6 (run-claims t) (run_at t) run.Post
-run-returns-6 t c = (c.before.before.before.before.before.before.before.before.before.before.before.requires.1.ready.locals.sixteen, step_back _ _ _ _ _ _ _ c.before.before.before.before.before.before.before.before.before.if1.false (c.before.internal-send.ensures c.before.before.before.before.before.before.before.before.before.before.before.args.depth))
+run-returns-6 t c = (c.before.before.before.before.before.before.before.before.before.before.before.requires.1.1.locals.sixteen, step_back _ _ _ _ _ _ _ c.before.before.before.before.before.before.before.before.before.if1.false (c.before.internal-send.ensures c.before.before.before.before.before.before.before.before.before.before.before.args.depth))
 
 run-same-length-4 : (t : ℕ) → run-lts.Need-same-length-4 (run-claims t) (run_at t) run.Post
 run-same-length-4 t c = search rules
 
 run-returns-7 : (t : ℕ) → run-lts.Need-returns-7 (run-claims t) (run_at t) run.Post
-run-returns-7 t c = (c.before.before.before.before.before.before.before.before.before.before.before.requires.1.ready.locals.sixteen, step_back _ _ _ _ _ _ _ c.before.before.before.before.before.before.before.before.before.if1.false c.before.call.ensures)
+run-returns-7 t c = (c.before.before.before.before.before.before.before.before.before.before.before.requires.1.1.locals.sixteen, step_back _ _ _ _ _ _ _ c.before.before.before.before.before.before.before.before.before.if1.false c.before.call.ensures)
 
 run-same-length-5 : (t : ℕ) → run-lts.Need-same-length-5 (run-claims t) (run_at t) run.Post
 run-same-length-5 t c = search rules
@@ -660,7 +660,7 @@ run-returns-8 t c =
     let if1 = at16.before.before.if1 in
     let pre = at16.before.before.before.before.requires in
     let r-is = sym read_here.ensures ∙ r.given.1 in
-    let visit-here = visit _ _ _ _ pre.1.ready _ _ r-is pre.1.statement choice (form-choice _ match2.keys6) in
+    let visit-here = visit _ _ _ _ pre.1.1 _ _ r-is pre.1.2 choice (form-choice _ match2.keys6) in
     let x-is = sym x.given.1 ∙ eval-here.ensures in
     let is-zero-here = is_zero_lem (record { sfits = known-told2.given.0.1 }) if2.true in
     (c.before.run.ensures.0, step_back _ _ _ _ _ _ _ if1.false (c.before.run.ensures.1 ∙ choice_no _ _ _ _ _ _ visit-here _ _ _ _ x-is is-zero-here))
@@ -682,7 +682,7 @@ run-returns-9 t c =
     let if1 = at16.before.before.if1 in
     let pre = at16.before.before.before.before.requires in
     let r-is = sym read_here.ensures ∙ r.given.1 in
-    let visit-here = visit _ _ _ _ pre.1.ready _ _ r-is pre.1.statement choice (form-choice _ match2.keys6) in
+    let visit-here = visit _ _ _ _ pre.1.1 _ _ r-is pre.1.2 choice (form-choice _ match2.keys6) in
     let x-is = sym x.given.1 ∙ eval-here.ensures in
     let not-zero-here = not-zero (record { sfits = known-told2.given.0.1 }) if2.false in (
       c.before.run2.ensures.0,
@@ -702,9 +702,9 @@ run-returns-10 t c =
     let if1 = at8.before.before.before.before.if1 in
     let pre = at8.before.before.before.before.before.before.requires in
     let r-is = sym read_here.ensures ∙ r.given.1 in
-    let visit-here = visit _ _ _ _ pre.1.ready _ _ r-is pre.1.statement choice (form-choice _ match2.keys6) in
+    let visit-here = visit _ _ _ _ pre.1.1 _ _ r-is pre.1.2 choice (form-choice _ match2.keys6) in
     let x2-is = sym c.before.x2.given.1 ∙ eval-here.ensures in
-    (pre.1.ready.locals.sixteen, step_back _ _ _ _ _ _ _ if1.false (choice-refused _ _ _ _ _ _ visit-here _ _ _ _ x2-is))
+    (pre.1.1.locals.sixteen, step_back _ _ _ _ _ _ _ if1.false (choice-refused _ _ _ _ _ _ visit-here _ _ _ _ x2-is))
 
 run-same-length-8 : (t : ℕ) → run-lts.Need-same-length-8 (run-claims t) (run_at t) run.Post
 run-same-length-8 t c = search rules
@@ -718,9 +718,9 @@ run-returns-11 t c =
     let if1 = at8.before.before.before.if1 in
     let pre = at8.before.before.before.before.before.requires in
     let r-is = sym read_here.ensures ∙ r.given.1 in
-    let visit-here = visit _ _ _ _ pre.1.ready _ _ r-is pre.1.statement choice (form-choice _ match2.keys6) in
+    let visit-here = visit _ _ _ _ pre.1.1 _ _ r-is pre.1.2 choice (form-choice _ match2.keys6) in
     let enum-told2-is = sym c.enum-told2.given.1 ∙ c.before.before.eval.ensures in
-    (pre.1.ready.locals.sixteen, step_back _ _ _ _ _ _ _ if1.false (choice-stuck _ _ _ _ _ _ visit-here _ _ enum-told2-is))
+    (pre.1.1.locals.sixteen, step_back _ _ _ _ _ _ _ if1.false (choice-stuck _ _ _ _ _ _ visit-here _ _ enum-told2-is))
 
 run-same-length-9 : (t : ℕ) → run-lts.Need-same-length-9 (run-claims t) (run_at t) run.Post
 run-same-length-9 t c = search rules
@@ -743,7 +743,7 @@ run-returns-13 t c =
     let if1 = at16.before.before.if1 in
     let pre = at16.before.before.before.before.requires in
     let r-is = sym read_here.ensures ∙ r.given.1 in
-    let visit-here = visit _ _ _ _ pre.1.ready _ _ r-is pre.1.statement sequence (form-sequence _ match2.keys8) in (
+    let visit-here = visit _ _ _ _ pre.1.1 _ _ r-is pre.1.2 sequence (form-sequence _ match2.keys8) in (
       c.before.run4.ensures.0,
       step_back _ _ _ _ _ _ _ if1.false
           (c.before.run4.ensures.1 ∙ first_done _ _ _ _ _ _ visit-here _ _ _ _ _ (with_ran o.given.1 run3.ensures.1)),
@@ -762,7 +762,7 @@ run-returns-14 t c =
     let if1 = at8.before.before.before.before.before.if1 in
     let pre = at8.before.before.before.before.before.before.before.requires in
     let r-is = sym read_here.ensures ∙ r.given.1 in
-    let visit-here = visit _ _ _ _ pre.1.ready _ _ r-is pre.1.statement sequence (form-sequence _ match2.keys8) in
+    let visit-here = visit _ _ _ _ pre.1.1 _ _ r-is pre.1.2 sequence (form-sequence _ match2.keys8) in
     let first-refused-here = first-refused _ _ _ _ _ _ visit-here _ _ _ _ _ _ (with_ran c.before.o2.given.1 run3.ensures.1) in
     (run3.ensures.0, step_back _ _ _ _ _ _ _ if1.false first-refused-here)
 
@@ -779,7 +779,7 @@ run-returns-15 t c =
     let if1 = at8.before.before.before.before.if1 in
     let pre = at8.before.before.before.before.before.before.requires in
     let r-is = sym read_here.ensures ∙ r.given.1 in
-    let visit-here = visit _ _ _ _ pre.1.ready _ _ r-is pre.1.statement sequence (form-sequence _ match2.keys8) in
+    let visit-here = visit _ _ _ _ pre.1.1 _ _ r-is pre.1.2 sequence (form-sequence _ match2.keys8) in
     let first-stuck-here = first-stuck _ _ _ _ _ _ visit-here _ _ _ _ (with_ran c.enum-told3.given.1 run3.ensures.1) in
     (run3.ensures.0, step_back _ _ _ _ _ _ _ if1.false first-stuck-here)
 
@@ -787,13 +787,13 @@ run-same-length-13 : (t : ℕ) → run-lts.Need-same-length-13 (run-claims t) (r
 run-same-length-13 t c = search rules
 
 run-returns-16 : (t : ℕ) → run-lts.Need-returns-16 (run-claims t) (run_at t) run.Post
-run-returns-16 t c = (c.before.before.before.before.before.before.before.before.before.before.before.requires.1.ready.locals.sixteen, step_back _ _ _ _ _ _ _ c.before.before.before.before.before.before.before.before.before.if1.false (c.before.assign-element.ensures c.before.before.before.before.before.before.before.before.before.before.before.args.depth))
+run-returns-16 t c = (c.before.before.before.before.before.before.before.before.before.before.before.requires.1.1.locals.sixteen, step_back _ _ _ _ _ _ _ c.before.before.before.before.before.before.before.before.before.if1.false (c.before.assign-element.ensures c.before.before.before.before.before.before.before.before.before.before.before.args.depth))
 
 run-same-length-14 : (t : ℕ) → run-lts.Need-same-length-14 (run-claims t) (run_at t) run.Post
 run-same-length-14 t c = search rules
 
 run-returns-17 : (t : ℕ) → run-lts.Need-returns-17 (run-claims t) (run_at t) run.Post
-run-returns-17 t c = (c.before.before.before.before.before.before.before.before.before.before.before.before.before.requires.1.ready.locals.sixteen, step_back _ _ _ _ _ _ _ c.before.before.before.before.before.before.before.before.before.before.before.if1.false (c.before.arming.ensures c.before.before.before.before.before.before.before.before.before.before.before.before.before.args.depth))
+run-returns-17 t c = (c.before.before.before.before.before.before.before.before.before.before.before.before.before.requires.1.1.locals.sixteen, step_back _ _ _ _ _ _ _ c.before.before.before.before.before.before.before.before.before.before.before.if1.false (c.before.arming.ensures c.before.before.before.before.before.before.before.before.before.before.before.before.before.args.depth))
 
 run-same-length-15 : (t : ℕ) → run-lts.Need-same-length-15 (run-claims t) (run_at t) run.Post
 run-same-length-15 t c = search rules
@@ -809,11 +809,11 @@ run-returns-18 t c =
     let args = at8.before.before.before.before.before.args in
     let pre = at8.before.before.before.before.before.requires in
     let r-is = sym read_here.ensures ∙ r.given.1 in
-    let visit-here = visit _ _ _ _ pre.1.ready _ _ r-is pre.1.statement clock_act (form-clock_act _ if4.false (below_next if5.true)) in
-    (pre.1.ready.locals.sixteen, step_back _ _ _ _ _ _ _ if1.false (c.before.clock.ensures _ _ _ args.depth visit-here))
+    let visit-here = visit _ _ _ _ pre.1.1 _ _ r-is pre.1.2 clock_act (form-clock_act _ if4.false (below_next if5.true)) in
+    (pre.1.1.locals.sixteen, step_back _ _ _ _ _ _ _ if1.false (c.before.clock.ensures _ _ _ args.depth visit-here))
 
 run-returns-19 : (t : ℕ) → run-lts.Need-returns-19 (run-claims t) (run_at t) run.Post
-run-returns-19 t c = (c.before.before.before.before.before.before.before.before.requires.1.ready.locals.sixteen, step_back _ _ _ _ _ _ _ c.before.before.before.before.before.before.if1.false (other_stuck _ _ _ _ c.before.before.before.before.before.before.before.before.requires.1.ready _ _ (sym c.before.before.before.before.before.read.ensures ∙ c.before.before.before.r.given.1) _ _ (λ p q. let a = c.if3.true in omega arith)))
+run-returns-19 t c = (c.before.before.before.before.before.before.before.before.requires.1.1.locals.sixteen, step_back _ _ _ _ _ _ _ c.before.before.before.before.before.before.if1.false (other_stuck _ _ _ _ c.before.before.before.before.before.before.before.before.requires.1.1 _ _ (sym c.before.before.before.before.before.read.ensures ∙ c.before.before.before.r.given.1) _ _ (λ p q. let a = c.if3.true in omega arith)))
 
 run-returns-20 : (t : ℕ) → run-lts.Need-returns-20 (run-claims t) (run_at t) run.Post
 run-returns-20 t c =
@@ -823,9 +823,9 @@ run-returns-20 t c =
     let if1 = c.before.before.before.before.before.before.before.before.if1 in
     let pre = c.before.before.before.before.before.before.before.before.before.before.requires in
     let r-is = sym read_here.ensures ∙ r.given.1 in (
-      pre.1.ready.locals.sixteen,
+      pre.1.1.locals.sixteen,
       step_back _ _ _ _ _ _ _ if1.false
-          (other_stuck _ _ _ _ pre.1.ready _ _ r-is _ _
+          (other_stuck _ _ _ _ pre.1.1 _ _ r-is _ _
           (λ p q.
           let a = past_four c.if5.false match2.rest.0.0.0.0.1 match2.rest.0.0.0.1 match2.rest.0.0.1 match2.rest.0.1 in
           let f = match2.rest.1 in

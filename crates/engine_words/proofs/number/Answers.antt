@@ -1,4 +1,3 @@
-use borrow.Author.Rules.{rules}
 use Rattle.engine_words.specs.Words.{number_at}
 use Rattle.engine_words.proofs.number.Goals as goal
 

@@ -1,4 +1,3 @@
-use borrow.Author.Rules.{rules}
 use Rattle.engine_words.proofs.Laws.{high_fits, high_narrow, high_back}
 use Rattle.engine_words.proofs.signed.Goals as goal
 

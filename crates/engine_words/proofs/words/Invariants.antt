@@ -1,13 +1,7 @@
 use Prim.Native.Nat.{◌-◌, ◌≤◌}
-use mathlib.Core.Path.{◌≡◌, refl, sym, ap, ◌∙◌}
-use native.Mathlib.Omega.{arith}
-use lib.ListN.{length, length-set, take}
-use lib.Seq.{take_all}
-use mir.Syntax.{w32}
-use mir.Val.{to_z, of_z}
-use borrow.Author.Rules.{rules}
+use mathlib.Core.Path.{◌≡◌}
+use lib.ListN.{length, take}
 use Rattle.engine_words.specs.Words.{words_at}
-use Rattle.engine_words.proofs.Laws.{words_more}
 use Rattle.engine_words.proofs.words.Given as goal
 
 abbrev pub invariant-loop-i : goal.invariant-loop-i

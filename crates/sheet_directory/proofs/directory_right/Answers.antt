@@ -1,5 +1,5 @@
 use native.Mathlib.Omega.{arith}
-use Prim.Native.Nat.{ℕ, ◌+◌, ◌-◌, ◌%◌, ◌<◌, ◌≤◌}
+use Prim.Native.Nat.{ℕ, ◌+◌, ◌%◌, ◌<◌, ◌≤◌}
 use mathlib.Core.Path.{◌≡◌, refl, sym, ap, ◌∙◌}
 use mathlib.Core.List.{List}
 use mathlib.Core.Bool.{true, false}
@@ -7,7 +7,6 @@ use lib.ListN.{length}
 use lib.Dec.{eqb}
 use native.Mathlib.Numerals.{add-one}
 use borrow.Author.Tests.{lt-leb, le-leb, eq-eqb, ne_eqb}
-use borrow.Author.Rules.{rules}
 use Rattle.sheet.specs.All.{all_below}
 use Rattle.sheet.specs.Sheet.{offset_of, length_of, start_of, pair_right, directory_right}
 use Rattle.sheet.proofs.All.{false-and, and-false, and-true, true-and, all_more, all_fails_lem}
@@ -17,6 +16,7 @@ use Rattle.sheet_directory.proofs.directory_right.Goals as goal
 too_long : (s : List ℕ) → 65535 < length s → false ≡ directory_right s
 unfolding directory_right
 too_long s h = sym (false-and _ _ (lt-leb _ _ h))
+
 module _ (s : List ℕ) (k start : ℕ) (at : start ≡ start_of s k) where
   offset-wrong : k < 8 → (x : ℕ) → x ≡ offset_of s k → (x ≡ start → ⊥) → false ≡ directory_right s
   unfolding directory_right pair_right
