@@ -11,7 +11,6 @@ use Rattle.sheet_rules.specs.Fields.{field_of, field_at, components_of, external
 use Rattle.sheet_rules.specs.Bindings.{elements_bound_in}
 use Rattle.sheet_rules.specs.Shape.{elements_bound}
 use Rattle.sheet_rules.specs.Check.{shape_with, shape}
-use borrow.Author.Rules.{rules}
 use Rattle.checker.proofs.shape_holds.Goals as goal
 
 right-with-head : (s : List ℕ) (n : ℕ) → n ≡ count_of s 0 → n ≡ 1 → directory_right s ≡ true

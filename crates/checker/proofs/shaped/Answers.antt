@@ -4,7 +4,6 @@ use mathlib.Core.Path.{◌≡◌, sym}
 use lib.ListN.{length, take, replicate, length-replicate}
 use lib.Seq.{length-take-le}
 use Rattle.sheet.proofs.Sheet.{count_limit, count_opened}
-use borrow.Author.Rules.{rules}
 use Rattle.checker.proofs.shaped.Goals as goal
 
 -- the first n of fresh marks

@@ -1,4 +1,3 @@
-use borrow.Author.Rules.{rules}
 use Rattle.checker_arrays.proofs.Laws.{no_element-assigned, not_its_element, assigns_element}
 use mathlib.Core.Path.{ap}
 use mathlib.Core.Bool.{not}

@@ -1,5 +1,4 @@
 use mathlib.Core.Path.{sym, ◌∙◌}
-use borrow.Author.Rules.{rules}
 use Rattle.sheet_rules.specs.Shape.{binding_shape}
 use Rattle.sheet_rules.proofs.Fields.{holds-present, holds_absent}
 use Rattle.checker_bindings.proofs.binding_fits.Goals as goal

@@ -1,12 +1,8 @@
-use native.Mathlib.Omega.{arith}
-use mathlib.Core.Path.{◌≡◌, sym, ◌∙◌}
+use mathlib.Core.Path.{◌≡◌}
 use Prim.Native.Nat.{◌+◌, ◌-◌}
-use borrow.Author.Tests.{not-true, not-false}
-use borrow.Author.Rules.{rules}
 use Rattle.sheet.specs.Sheet.{count_of}
-use Rattle.sheet.proofs.Sheet.{count_limit, count_opened}
-use Rattle.sheet_rules.specs.Shape.{binding_shape, bindings_shape}
-use Rattle.sheet_rules.proofs.Bindings.{Walked, walked_begins, walked_on, walked_fails, walked_ends, behind_near}
+use Rattle.sheet_rules.specs.Shape.{binding_shape}
+use Rattle.sheet_rules.proofs.Bindings.{Walked}
 use Rattle.checker_bindings.proofs.bindings_fit.Given as goal
 
 abbrev pub invariant-loop-k : goal.invariant-loop-k

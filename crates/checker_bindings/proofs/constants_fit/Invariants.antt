@@ -1,16 +1,11 @@
-use native.Mathlib.Omega.{arith}
-use mathlib.Core.Path.{◌≡◌, refl, sym, ◌∙◌}
+use mathlib.Core.Path.{◌≡◌}
 use mathlib.Core.Bool.{Bool, true}
 use mathlib.Core.List.{List}
 use Prim.Native.Nat.{ℕ, ◌-◌, ◌≤◌, ◌<◌}
-use borrow.Author.Tests.{not-true, not-false}
-use borrow.Author.Rules.{rules}
 use Rattle.sheet.specs.All.{all_below}
-use Rattle.sheet.proofs.All.{all_more, loop_fails, loop_ends}
 use Rattle.sheet_rules.specs.Fields.{holds}
 use Rattle.sheet_rules.specs.Bindings.{constant_binding, constant_of}
-use Rattle.sheet_rules.specs.Shape.{constant_shape, constants_shape}
-use Rattle.sheet_rules.proofs.Bindings.{constant_absent, constant_present}
+use Rattle.sheet_rules.specs.Shape.{constant_shape}
 use Rattle.checker_bindings.proofs.constants_fit.Given as goal
 
 abbrev pub fits : List ℕ → ℕ → ℕ → Bool

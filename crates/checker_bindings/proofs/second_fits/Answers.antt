@@ -1,6 +1,5 @@
 use mathlib.Core.Path.{sym, ◌∙◌}
 use borrow.Author.Tests.{eq-eqb, ne_eqb}
-use borrow.Author.Rules.{rules}
 use Rattle.sheet.proofs.All.{first_fails_lem, first_holds}
 use Rattle.sheet_rules.specs.Shape.{second_shape}
 use Rattle.sheet_rules.proofs.Fields.{holds-present, holds_absent}

@@ -5,7 +5,6 @@ use mathlib.Core.Bool.{false}
 use mathlib.Core.List.{List}
 use Prim.Native.Nat.{ℕ}
 use lib.Dec.{ltb, leb, eqb}
-use borrow.Author.Rules.{rules}
 use native.Mathlib.Decide.{dec_lt}
 use Rattle.sheet.proofs.Sheet.{count_opened}
 use Rattle.sheet.proofs.All.{false-and, and-false, first_fails_lem, first_holds}

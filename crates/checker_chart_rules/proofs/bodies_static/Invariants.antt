@@ -1,19 +1,13 @@
-use native.Mathlib.Omega.{arith}
-use mathlib.Core.Path.{◌≡◌, refl, sym, ◌∙◌}
+use mathlib.Core.Path.{◌≡◌}
 use mathlib.Core.Bool.{Bool, true}
 use mathlib.Core.List.{List}
 use Prim.Native.Nat.{ℕ, ◌+◌, ◌-◌, ◌≤◌, ◌<◌}
-use borrow.Author.Tests.{not-true, not-false}
-use borrow.Author.Rules.{rules}
 use Rattle.sheet.specs.All.{◌and◌, all_below}
-use Rattle.sheet.proofs.All.{and-true, first_fails_lem, rest_fails, all_more, loop_fails, loop_ends}
 use Rattle.sheet.specs.declared.Record.{Record}
 use Rattle.sheet.specs.Sheet.{record_of}
 use Rattle.sheet_rules.specs.Fields.{holds}
-use Rattle.sheet_rules.proofs.Fields.{holds-present, holds_absent}
-use Rattle.sheet_rules.specs.Static.{no_twin, body_static, bodies_static}
+use Rattle.sheet_rules.specs.Static.{no_twin, body_static}
 use Rattle.checker_reactions.specs.Entries.{Chains}
-use Rattle.checker_reactions.proofs.Entries.{body-small, static-small, chained_next, chains_start, ready}
 use Rattle.checker_chart_rules.proofs.bodies_static.Given as goal
 
 abbrev pub bodyFits : List ℕ → Record → ℕ → Bool

@@ -1,7 +1,5 @@
-use mathlib.Core.Path.{ap, ◌∙◌}
+use mathlib.Core.Path.{ap, ◌∙◌, ap₂}
 use lib.Dec.{eqb}
-use mathlib.Core.Path.{ap₂}
-use borrow.Author.Rules.{rules}
 use Rattle.sheet.proofs.Sheet.{count_opened}
 use Rattle.sheet_rules.specs.Shape.{bodies_up_to, bodies_covered}
 use Rattle.checker_charts.proofs.bodies_covered.Goals as goal

@@ -1,10 +1,9 @@
-use borrow.Author.Rules.{rules}
 use native.Mathlib.Omega.{arith}
-use Prim.Native.Nat.{ℕ, ◌-◌, ◌≤◌}
+use Prim.Native.Nat.{ℕ, ◌-◌}
 use mathlib.Core.Path.{ap}
 use lib.Dec.{eqb}
-use Rattle.sheet_rules.specs.Fields.{one_if, sum_below, count_below}
-use Rattle.checker_pass.specs.Marks.{Marked, constants_named}
+use Rattle.sheet_rules.specs.Fields.{one_if, count_below}
+use Rattle.checker_pass.specs.Marks.{constants_named}
 use Rattle.checker_pass.proofs.Marking.{marked_as, loop-start, loop_more, loop-end}
 use Rattle.checker_pass.proofs.Added.{constant_turn}
 use Rattle.checker_constant_marks.proofs.mark_constants.Goals as goal

@@ -1,5 +1,4 @@
 use mathlib.Core.Path.{sym, ◌∙◌}
-use borrow.Author.Rules.{rules}
 use Rattle.sheet_rules.specs.Static.{binding_static}
 use Rattle.sheet_rules.proofs.Fields.{holds-present, holds_absent}
 use Rattle.checker_constants.proofs.binding_static.Goals as goal

@@ -1,19 +1,11 @@
-use native.Mathlib.Omega.{arith}
-use mathlib.Core.Path.{◌≡◌, refl, sym, ap, ◌∙◌}
+use mathlib.Core.Path.{◌≡◌}
 use mathlib.Core.Bool.{Bool, true}
 use mathlib.Core.List.{List}
 use Prim.Native.Nat.{ℕ, ◌+◌, ◌-◌, ◌≤◌, ◌<◌}
-use borrow.Author.Tests.{not-true, not-false}
-use borrow.Author.Rules.{rules}
-use Rattle.sheet.specs.declared.Record.{Record}
-use Rattle.sheet.specs.declared.Found.TheVariants.{Present}
 use Rattle.sheet.specs.All.{all_below}
-use Rattle.sheet.specs.Sheet.{record_of}
-use Rattle.sheet.proofs.All.{all_more, loop_fails, loop_ends}
-use Rattle.sheet_rules.specs.Fields.{field_of, holds, type_at}
-use Rattle.sheet_rules.specs.Bindings.{constant_record, constant_binding, constant_field, constant_of}
-use Rattle.sheet_rules.specs.Static.{constant_static, constants_static}
-use Rattle.sheet_rules.proofs.Bindings.{constant_absent, constant_present}
+use Rattle.sheet_rules.specs.Fields.{holds, type_at}
+use Rattle.sheet_rules.specs.Bindings.{constant_binding, constant_of}
+use Rattle.sheet_rules.specs.Static.{constant_static}
 use Rattle.checker_constants.proofs.constants_static.Given as goal
 
 abbrev pub constantFits : List ℕ → ℕ → ℕ → ℕ → Bool

@@ -1,6 +1,4 @@
 use mathlib.Core.Path.{sym, ◌∙◌}
-use borrow.Author.Tests.{not-true, not-false}
-use borrow.Author.Rules.{rules}
 use Rattle.sheet.proofs.All.{first_fails_lem, rest_fails, first_holds}
 use Rattle.sheet_rules.specs.Shape.{declaration_shape}
 use Rattle.checker_declarations.proofs.declaration_fits.Goals as goal

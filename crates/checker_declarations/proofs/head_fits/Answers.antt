@@ -1,5 +1,4 @@
 use borrow.Author.Tests.{le-leb, lt-leb}
-use borrow.Author.Rules.{rules}
 use Rattle.sheet.proofs.All.{first_fails_lem, rest_fails, first_holds}
 use Rattle.sheet_rules.specs.Shape.{head_shape}
 use Rattle.checker_declarations.proofs.head_fits.Goals as goal

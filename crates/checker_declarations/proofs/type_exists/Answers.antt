@@ -4,7 +4,6 @@ use mathlib.Core.Bool.{true, false}
 use mathlib.Core.List.{List}
 use Prim.Native.Nat.{ℕ, ◌≤◌, ◌<◌}
 use lib.Dec.{ltb}
-use borrow.Author.Rules.{rules}
 use Rattle.sheet.proofs.Sheet.{count_opened}
 use Rattle.sheet.proofs.All.{false-and}
 use Rattle.sheet_rules.specs.Shape.{type_exists}

@@ -4,7 +4,6 @@ use mathlib.Core.Bool.{Bool}
 use mathlib.Core.List.{List}
 use Prim.Native.Nat.{ℕ, ◌≤◌, ◌<◌}
 use native.Mathlib.Decide.{dec_lt}
-use borrow.Author.Rules.{rules}
 use Rattle.sheet.proofs.All.{from_next, below_is_lem}
 use Rattle.sheet.specs.declared.Record.{Record}
 use Rattle.sheet_rules.specs.Fields.{zero_from}

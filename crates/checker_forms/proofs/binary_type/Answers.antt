@@ -1,9 +1,7 @@
-use mathlib.Core.Path.{sym, ◌∙◌}
-use borrow.Author.Rules.{rules}
+use mathlib.Core.Path.{sym, ◌∙◌, ap}
 use Rattle.sheet.proofs.All.{and-true, and-false, false-and}
 use Rattle.sheet_types.proofs.Laws.{given_false, given_true_lem, no, so}
 use Rattle.checker_forms.proofs.Laws.{same_type_lem, not_same, binary_9, binary_10, binary_11, binary-rest, not_two_ints}
-use mathlib.Core.Path.{ap}
 use mathlib.Core.Bool.{not}
 use Rattle.checker_forms.proofs.binary_type.Goals as goal
 

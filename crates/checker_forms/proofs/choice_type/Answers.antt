@@ -1,10 +1,8 @@
 use mathlib.Core.Path.{sym, ap, ◌∙◌}
-use borrow.Author.Rules.{rules}
 use Rattle.sheet.proofs.All.{true-and, false-and}
 use Rattle.sheet_rules.specs.declared.Typed.TheVariants.{Statement}
 use Rattle.sheet_rules.specs.Types.{given, sequence_type, choice_type}
 use Rattle.sheet_types.proofs.Laws.{given_false, so, no}
-use mathlib.Core.Path.{ap}
 use mathlib.Core.Bool.{not}
 use Rattle.checker_forms.proofs.choice_type.Goals as goal
 

@@ -1,4 +1,3 @@
-use borrow.Author.Rules.{rules}
 use Rattle.sheet.proofs.All.{and-true, and-false, false-and}
 use Rattle.sheet_rules.specs.Types.{loop_type}
 use Rattle.sheet_types.proofs.Laws.{given_false, given_true_lem, no, so}

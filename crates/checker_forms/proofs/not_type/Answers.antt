@@ -1,4 +1,3 @@
-use borrow.Author.Rules.{rules}
 use Rattle.sheet_rules.specs.Types.{not_type}
 use Rattle.sheet_types.proofs.Laws.{given_false, given_true_lem, no, so}
 use mathlib.Core.Path.{ap}

@@ -1,9 +1,7 @@
 use mathlib.Core.Path.{sym, ◌∙◌}
 use borrow.Author.Tests.{le-leb, lt-leb}
-use borrow.Author.Rules.{rules}
-use Rattle.sheet.proofs.All.{first_fails_lem, rest_fails, first_holds}
+use Rattle.sheet.proofs.All.{first_fails_lem, rest_fails, first_holds, and-true}
 use Rattle.sheet.specs.Names.{is_literal}
-use Rattle.sheet.proofs.All.{and-true}
 use Rattle.sheet_rules.proofs.Fields.{holds-present, holds_absent}
 use Rattle.sheet_rules.specs.Shape.{constant_shape}
 use Rattle.checker_literals.proofs.constant_fits.Goals as goal

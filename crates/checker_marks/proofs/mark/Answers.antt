@@ -1,6 +1,5 @@
 use native.Mathlib.Omega.{arith}
 use Rattle.checker_pass.proofs.Marking.{marked-outside, marked_node}
-use borrow.Author.Rules.{rules}
 use Rattle.checker_marks.proofs.mark.Goals as goal
 
 pub returns-then-top-n : goal.returns-then-top-n

@@ -1,12 +1,9 @@
-use borrow.Author.Rules.{rules}
 use native.Mathlib.Omega.{arith}
-use Prim.Native.Nat.{◌-◌, ◌≤◌}
-use mathlib.Core.Path.{◌≡◌, sym, ◌∙◌}
-use Rattle.sheet_rules.specs.Fields.{sum_below}
-use Rattle.checker_pass.specs.Marks.{Marked}
+use Prim.Native.Nat.{◌-◌}
+use mathlib.Core.Path.{sym, ◌∙◌}
 use Rattle.checker_pass.proofs.Marking.{count-start, count_more_lem, count-end, loop-start, loop_more, loop-end}
 use Rattle.sheet.proofs.Sheet.{count_limit, present-below}
-use Rattle.checker_pass.proofs.Added.{root_turn, body_turn, chart_absent, chart_added}
+use Rattle.checker_pass.proofs.Added.{root_turn, chart_absent, chart_added}
 use Rattle.checker_marks.proofs.mark_chart.Goals as goal
 
 pub returns-in_default : goal.returns-in_default

@@ -1,12 +1,8 @@
-use borrow.Author.Rules.{rules}
-use native.Mathlib.Omega.{arith}
 use Prim.Native.Nat.{◌-◌, ◌≤◌}
-use mathlib.Core.Path.{◌≡◌, sym, ◌∙◌}
+use mathlib.Core.Path.{◌≡◌}
 use Rattle.sheet_rules.specs.Fields.{sum_below}
 use Rattle.checker_pass.specs.Marks.{Marked}
-use Rattle.checker_pass.proofs.Marking.{count-start, count_more_lem, count-end, loop-start, loop_more, loop-end}
-use Rattle.sheet.proofs.Sheet.{count_limit, present-below}
-use Rattle.checker_pass.proofs.Added.{root_turn, body_turn, chart_absent, chart_added}
+use Rattle.checker_pass.proofs.Added.{root_turn, body_turn}
 use Rattle.checker_marks.proofs.mark_chart.Given as goal
 
 abbrev pub invariant-loop-j : goal.invariant-loop-j

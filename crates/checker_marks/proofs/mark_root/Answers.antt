@@ -5,7 +5,6 @@ use Rattle.sheet.specs.declared.Record.{Record}
 use Rattle.sheet.specs.Names.{root}
 use Rattle.sheet_rules.specs.Fields.{one_if}
 use Rattle.checker_pass.proofs.Added.{over_absent, over-present}
-use borrow.Author.Rules.{rules}
 use Rattle.checker_marks.proofs.mark_root.Goals as goal
 
 pub returns-in_default : goal.returns-in_default

@@ -1,7 +1,6 @@
 use native.Mathlib.Omega.{arith}
 use mathlib.Core.Path.{sym}
 use Rattle.checker_pass.proofs.Times.{named_more, named_same}
-use borrow.Author.Rules.{rules}
 use Rattle.checker_marks.proofs.once_more.Goals as goal
 
 pub returns-then-v-lt2 : goal.returns-then-v-lt2

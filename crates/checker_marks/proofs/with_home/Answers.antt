@@ -1,6 +1,5 @@
 use native.Mathlib.Omega.{arith}
 use Rattle.checker_pass.proofs.Times.{named-quotient, marked_low, marked_high}
-use borrow.Author.Rules.{rules}
 use Rattle.checker_marks.proofs.with_home.Goals as goal
 
 pub overflow_add-result : goal.overflow_add-result

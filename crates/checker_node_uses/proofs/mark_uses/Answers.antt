@@ -1,6 +1,5 @@
 use mathlib.Core.Path.{refl}
 use native.Mathlib.Omega.{arith}
-use borrow.Author.Rules.{rules}
 use Rattle.sheet.proofs.Sheet.{count_opened}
 use Rattle.checker_node_uses.proofs.mark_uses.Goals as goal
 

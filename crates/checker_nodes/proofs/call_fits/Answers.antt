@@ -3,7 +3,6 @@ use Prim.Native.Nat.{◌+◌}
 use borrow.Author.Tests.{lt-ltb, le-ltb, eq-eqb, ne_eqb}
 use Rattle.sheet.proofs.All.{first_fails_lem, rest_fails, first_holds}
 use Rattle.sheet_rules.specs.Fields.{zero_from}
-use borrow.Author.Rules.{rules}
 use Rattle.checker_nodes.proofs.call_fits.Goals as goal
 
 pub returns-then-c-r : goal.returns-then-c-r

@@ -1,7 +1,5 @@
 use mathlib.Core.Path.{sym, ◌∙◌}
-use borrow.Author.Tests.{not-true, not-false}
 use Rattle.sheet.proofs.All.{first_fails_lem, first_holds}
-use borrow.Author.Rules.{rules}
 use Rattle.checker_nodes.proofs.chart_variable_fits.Goals as goal
 
 pub returns-then-not-chart_variable_there : goal.returns-then-not-chart_variable_there

@@ -1,6 +1,5 @@
 use borrow.Author.Tests.{eq-eqb, ne_eqb}
 use Rattle.sheet.proofs.All.{first_fails_lem, rest_fails, first_holds}
-use borrow.Author.Rules.{rules}
 use Rattle.checker_nodes.proofs.internal_fits.Goals as goal
 
 pub returns-then-r-ne0 : goal.returns-then-r-ne0

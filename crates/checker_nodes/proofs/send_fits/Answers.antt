@@ -1,5 +1,4 @@
 use mathlib.Core.Path.{sym, ◌∙◌}
-use borrow.Author.Rules.{rules}
 use Rattle.sheet_rules.proofs.Fields.{holds-present, holds_absent}
 use Rattle.sheet_rules.specs.Shape.{send_shape}
 use Rattle.checker_nodes.proofs.send_fits.Goals as goal

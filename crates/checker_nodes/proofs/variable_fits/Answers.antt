@@ -1,6 +1,5 @@
 use borrow.Author.Tests.{lt-ltb, le-ltb}
 use Rattle.sheet.proofs.All.{first_fails_lem, first_holds}
-use borrow.Author.Rules.{rules}
 use Rattle.checker_nodes.proofs.variable_fits.Goals as goal
 
 pub returns-then-variables_at-r : goal.returns-then-variables_at-r

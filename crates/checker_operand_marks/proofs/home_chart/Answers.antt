@@ -1,6 +1,5 @@
 use mathlib.Core.Path.{sym, ◌∙◌}
 use Rattle.checker_pass.proofs.Added.{home-none, home_absent, home-there}
-use borrow.Author.Rules.{rules}
 use Rattle.checker_operand_marks.proofs.home_chart.Goals as goal
 
 pub returns-then-k-eq0 : goal.returns-then-k-eq0

@@ -1,10 +1,6 @@
-use borrow.Author.Rules.{rules}
 use native.Mathlib.Omega.{arith}
-use Prim.Native.Nat.{ℕ, ◌-◌, ◌≤◌}
-use mathlib.Core.Path.{sym, ◌∙◌}
-use mathlib.Core.Path.{ap}
-use Rattle.sheet_rules.specs.Fields.{sum_below}
-use Rattle.checker_pass.specs.Marks.{Marked}
+use Prim.Native.Nat.{ℕ, ◌-◌}
+use mathlib.Core.Path.{sym, ◌∙◌, ap}
 use Rattle.checker_pass.proofs.Marking.{marked_as, loop-start, loop_more, loop-end}
 use lib.Dec.{eqb}
 use Rattle.sheet_rules.specs.Fields.{one_if}

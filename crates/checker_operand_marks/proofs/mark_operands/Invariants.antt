@@ -1,14 +1,7 @@
-use borrow.Author.Rules.{rules}
-use native.Mathlib.Omega.{arith}
-use Prim.Native.Nat.{ℕ, ◌-◌, ◌≤◌}
-use mathlib.Core.Path.{sym, ◌∙◌}
-use mathlib.Core.Path.{ap}
+use Prim.Native.Nat.{◌-◌, ◌≤◌}
 use Rattle.sheet_rules.specs.Fields.{sum_below}
 use Rattle.checker_pass.specs.Marks.{Marked}
-use Rattle.checker_pass.proofs.Marking.{marked_as, loop-start, loop_more, loop-end}
-use lib.Dec.{eqb}
-use Rattle.sheet_rules.specs.Fields.{one_if}
-use Rattle.checker_pass.proofs.Added.{operand_turn, operands_absent, operands_added}
+use Rattle.checker_pass.proofs.Added.{operand_turn}
 use Rattle.checker_operand_marks.proofs.mark_operands.Given as goal
 
 abbrev pub invariant-loop-j : goal.invariant-loop-j

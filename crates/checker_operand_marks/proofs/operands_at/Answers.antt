@@ -2,7 +2,6 @@ use mathlib.Core.Path.{ap, ◌∙◌}
 use Rattle.sheet_rules.specs.Forms.{operands_of}
 use Rattle.sheet_rules.proofs.Forms.{operands-plain}
 use Rattle.sheet.specs.declared.Record.{Record}
-use borrow.Author.Rules.{rules}
 use Rattle.checker_operand_marks.proofs.operands_at.Goals as goal
 
 pub returns-then-r-eq40 : goal.returns-then-r-eq40

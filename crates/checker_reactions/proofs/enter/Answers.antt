@@ -1,6 +1,5 @@
 use native.Mathlib.Omega.{arith}
 use mathlib.Core.Path.{sym, ◌∙◌}
-use borrow.Author.Rules.{rules}
 use Rattle.checker_reactions.proofs.Entries.{body-small, enter_absent, enter_other, enter_past, enter_it}
 use Rattle.checker_reactions.proofs.enter.Goals as goal
 

@@ -1,9 +1,7 @@
-use native.Mathlib.Omega.{arith}
 use Prim.Native.Nat.{◌-◌, ◌≤◌}
-use borrow.Author.Rules.{rules}
 use Rattle.sheet_rules.specs.Types.{reacts_to}
 use Rattle.checker_reactions.specs.Entries.{Entries}
-use Rattle.checker_reactions.proofs.Entries.{Filled, filled_none, filled_more, filled_table, entered-entries}
+use Rattle.checker_reactions.proofs.Entries.{Filled}
 use Rattle.checker_reactions.proofs.fill.Given as goal
 
 abbrev pub invariant-loop-j : goal.invariant-loop-j

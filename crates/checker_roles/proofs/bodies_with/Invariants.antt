@@ -1,12 +1,8 @@
-use native.Mathlib.Omega.{arith}
-use mathlib.Core.Path.{◌≡◌, refl, sym, ap, ◌∙◌}
+use mathlib.Core.Path.{◌≡◌}
 use mathlib.Core.List.{List}
 use Prim.Native.Nat.{ℕ, ◌+◌, ◌-◌, ◌≤◌, ◌<◌}
-use borrow.Author.Rules.{rules}
-use Rattle.sheet.specs.declared.Record.{Record}
-use Rattle.sheet_rules.specs.Fields.{one_if, sum_below, count_below}
-use Rattle.sheet_rules.proofs.Fields.{sum_more}
-use Rattle.sheet_rules.specs.Static.{has_role, bodies_with}
+use Rattle.sheet_rules.specs.Fields.{one_if, sum_below}
+use Rattle.sheet_rules.specs.Static.{has_role}
 use Rattle.checker_roles.proofs.bodies_with.Given as goal
 
 abbrev pub counts : List ℕ → ℕ → ℕ → ℕ → ℕ

@@ -1,16 +1,11 @@
-use native.Mathlib.Omega.{arith}
-use mathlib.Core.Path.{◌≡◌, refl, sym, ap, ◌∙◌}
+use mathlib.Core.Path.{◌≡◌}
 use mathlib.Core.Bool.{Bool, true, not}
 use mathlib.Core.List.{List}
 use Prim.Native.Nat.{ℕ, ◌+◌, ◌-◌, ◌≤◌}
-use borrow.Author.Tests.{not-true, not-false}
-use borrow.Author.Rules.{rules}
 use Rattle.sheet.specs.All.{◌and◌, all_below}
-use Rattle.sheet.proofs.All.{and-true, and-false, false-and, all_more, loop_fails, loop_ends}
 use Rattle.sheet_rules.specs.Fields.{type_at}
 use Rattle.sheet_rules.specs.Indices.{index_at, is_plain}
 use Rattle.sheet.specs.Names.{is_clock}
-use Rattle.sheet_rules.specs.Static.{plain_data}
 use Rattle.checker_roles.proofs.plain_data.Given as goal
 
 abbrev pub plainDatum : List ℕ → ℕ → ℕ → Bool

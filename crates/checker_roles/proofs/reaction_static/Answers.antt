@@ -2,8 +2,7 @@ use mathlib.Core.Path.{◌≡◌, refl, sym, ◌∙◌}
 use mathlib.Core.Bool.{Bool}
 use mathlib.Core.List.{List}
 use Prim.Native.Nat.{ℕ}
-use borrow.Author.Tests.{eq-eqb, ne_eqb, not-true, not-false}
-use borrow.Author.Rules.{rules}
+use borrow.Author.Tests.{eq-eqb, ne_eqb}
 use Rattle.sheet.specs.All.{◌and◌}
 use Rattle.sheet.proofs.All.{first_fails_lem, first_holds}
 use Rattle.sheet.specs.declared.Record.{Record}

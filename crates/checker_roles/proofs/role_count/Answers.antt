@@ -1,7 +1,6 @@
 use native.Mathlib.Omega.{arith}
 use mathlib.Core.Path.{sym, ap, ◌∙◌}
 use borrow.Author.Tests.{eq-eqb, ne_eqb}
-use borrow.Author.Rules.{rules}
 use Rattle.sheet_rules.specs.Fields.{one_if}
 use Rattle.sheet_rules.proofs.Fields.{holds-present, holds_absent}
 use Rattle.sheet_rules.specs.Static.{has_role}

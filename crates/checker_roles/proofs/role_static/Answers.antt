@@ -5,7 +5,6 @@ use mathlib.Core.List.{List}
 use Prim.Native.Nat.{ℕ, ◌≤◌, ◌<◌}
 use borrow.Author.Tests.{le-leb, lt-leb}
 use lib.Dec.{leb, eqb}
-use borrow.Author.Rules.{rules}
 use Rattle.sheet.proofs.All.{and-true, and-false, false-and, below_is_lem}
 use Rattle.sheet.specs.declared.Record.{Record}
 use Rattle.sheet_rules.specs.Shape.{is_reaction}

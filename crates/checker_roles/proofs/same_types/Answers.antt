@@ -1,16 +1,10 @@
 use native.Mathlib.Omega.{arith}
-use mathlib.Core.Path.{◌≡◌, refl, sym, ◌∙◌}
-use mathlib.Core.Bool.{Bool, true}
-use mathlib.Core.List.{List}
-use Prim.Native.Nat.{ℕ, ◌+◌, ◌-◌, ◌≤◌}
+use mathlib.Core.Path.{refl, sym, ◌∙◌}
+use Prim.Native.Nat.{◌-◌}
 use borrow.Author.Tests.{eq-eqb, ne_eqb}
-use lib.Dec.{eqb}
-use borrow.Author.Rules.{rules}
 use Rattle.sheet.specs.All.{all_below}
 use Rattle.sheet.proofs.All.{first_fails_lem, rest_fails, first_holds, all_more, loop_fails, loop_ends}
-use Rattle.sheet_rules.specs.Fields.{type_at}
 use Rattle.sheet_rules.specs.Static.{same_types}
-use Rattle.checker_roles.proofs.same_types.Invariants.{same_type}
 use Rattle.checker_roles.proofs.same_types.Goals as goal
 
 pub returns-then-count-h : goal.returns-then-count-h

@@ -1,11 +1,9 @@
 use mathlib.Core.Path.{sym, ap, ◌∙◌}
 use borrow.Author.Tests.{eq-eqb, ne_eqb}
-use borrow.Author.Rules.{rules}
 use Rattle.sheet.proofs.All.{true-and, and-false, false-and}
 use Rattle.sheet_rules.specs.declared.Typed.TheVariants.{Statement}
 use Rattle.sheet_rules.specs.Types.{given, internal_type, arm_type}
 use Rattle.sheet_types.proofs.Laws.{given_false, no, so}
-use mathlib.Core.Path.{ap}
 use mathlib.Core.Bool.{not}
 use Rattle.checker_sends.proofs.arm_type.Goals as goal
 

@@ -1,6 +1,5 @@
 use mathlib.Core.Path.{sym, ◌∙◌}
-use borrow.Author.Tests.{eq-eqb, ne_eqb, not-true, not-false}
-use borrow.Author.Rules.{rules}
+use borrow.Author.Tests.{eq-eqb, ne_eqb}
 use Rattle.sheet.proofs.All.{false-and, and-false, and-true}
 use Rattle.sheet_rules.proofs.Fields.{holds-present, holds_absent}
 use Rattle.sheet_rules.specs.Types.{call_type}

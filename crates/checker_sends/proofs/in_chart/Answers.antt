@@ -1,6 +1,5 @@
 use native.Mathlib.Omega.{arith}
 use mathlib.Core.Path.{sym}
-use borrow.Author.Rules.{rules}
 use Rattle.sheet_types.proofs.Table.{before-chart, after_first}
 use Rattle.checker_sends.proofs.in_chart.Goals as goal
 

@@ -1,10 +1,8 @@
-use mathlib.Core.Path.{sym, ◌∙◌}
-use borrow.Author.Rules.{rules}
+use mathlib.Core.Path.{sym, ◌∙◌, ap}
 use Rattle.sheet.proofs.All.{true-and, false-and}
 use Rattle.sheet_rules.specs.Types.{internal_name}
 use Rattle.sheet_types.proofs.Laws.{no, so}
 use Rattle.sheet_types.proofs.Table.{class-small}
-use mathlib.Core.Path.{ap}
 use mathlib.Core.Bool.{not}
 use Rattle.checker_sends.proofs.internal_name.Goals as goal
 

@@ -1,18 +1,11 @@
 use native.Mathlib.Omega.{arith}
-use mathlib.Core.Path.{◌≡◌, refl, sym, ◌∙◌}
-use mathlib.Core.Bool.{Bool, true}
-use mathlib.Core.List.{List}
-use Prim.Native.Nat.{ℕ, ◌-◌, ◌≤◌}
-use borrow.Author.Tests.{not-true, not-false}
-use borrow.Author.Rules.{rules}
+use mathlib.Core.Path.{refl, sym, ◌∙◌}
+use Prim.Native.Nat.{◌-◌}
 use Rattle.sheet.proofs.Sheet.{count_opened}
 use Rattle.sheet.specs.All.{all_below}
 use Rattle.sheet.proofs.All.{all_more, loop_fails, loop_ends}
 use Rattle.sheet_rules.proofs.Fields.{holds-present, holds_absent}
-use Rattle.sheet.specs.Sheet.{record_of}
-use Rattle.sheet_rules.specs.Fields.{holds}
-use Rattle.sheet_rules.specs.Shape.{record_shape, each_shape}
-use Rattle.checker_shape.proofs.records_fit.Invariants.{fits}
+use Rattle.sheet_rules.specs.Shape.{each_shape}
 use Rattle.checker_shape.proofs.records_fit.Goals as goal
 
 pub loop-i-init : goal.loop-i-init

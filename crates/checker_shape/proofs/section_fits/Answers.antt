@@ -9,7 +9,6 @@ use Rattle.sheet.proofs.Sheet.{record_present}
 use Rattle.sheet_rules.proofs.Fields.{holds-present}
 use Rattle.sheet_rules.proofs.Shape.{section-each, section-bindings}
 use Rattle.sheet_rules.specs.Shape.{record_shape, each_shape, section_shape}
-use borrow.Author.Rules.{rules}
 use Rattle.checker_shape.proofs.section_fits.Goals as goal
 
 nodes-free : (s : List ℕ) → each_shape s 6 ≡ true

@@ -1,12 +1,7 @@
-use native.Mathlib.Omega.{arith}
-use mathlib.Core.Path.{◌≡◌, refl, sym, ◌∙◌}
+use mathlib.Core.Path.{◌≡◌}
 use mathlib.Core.Bool.{true}
 use Prim.Native.Nat.{◌-◌, ◌≤◌}
-use borrow.Author.Tests.{not-true, not-false}
-use borrow.Author.Rules.{rules}
 use Rattle.sheet.specs.All.{all_below}
-use Rattle.sheet.proofs.All.{all_more, loop_fails, loop_ends}
-use Rattle.sheet_rules.specs.Check.{sections_shape}
 use Rattle.sheet_rules.specs.Shape.{section_shape}
 use Rattle.checker_shape.proofs.sections_fit.Given as goal
 

@@ -1,12 +1,9 @@
 use mathlib.Core.Path.{◌≡◌, refl, sym, ap, ◌∙◌}
 use mathlib.Core.Bool.{Bool, true, false, not}
-use borrow.Author.Rules.{rules}
 use Rattle.sheet.proofs.All.{true-and, false-and}
 use Rattle.sheet_rules.specs.Static.{declaration_static}
 use Rattle.sheet_types.proofs.Laws.{no, so}
 use Rattle.sheet_indices.proofs.Laws.{plain_zero}
-use mathlib.Core.Path.{ap}
-use mathlib.Core.Bool.{not}
 use Rattle.checker_statics.proofs.declaration_static.Goals as goal
 
 twice : (b : Bool) → not (not b) ≡ b

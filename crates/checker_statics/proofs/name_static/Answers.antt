@@ -1,4 +1,3 @@
-use borrow.Author.Rules.{rules}
 use Rattle.sheet_rules.specs.Static.{name_static}
 use Rattle.checker_statics.proofs.name_static.Goals as goal
 

@@ -1,17 +1,11 @@
-use native.Mathlib.Omega.{arith}
-use mathlib.Core.Path.{◌≡◌, refl, sym, ◌∙◌}
+use mathlib.Core.Path.{◌≡◌}
 use mathlib.Core.Bool.{Bool, true}
 use mathlib.Core.List.{List}
 use Prim.Native.Nat.{ℕ, ◌-◌, ◌≤◌}
-use borrow.Author.Tests.{not-true, not-false}
-use borrow.Author.Rules.{rules}
-use Rattle.sheet.proofs.Sheet.{count_opened}
 use Rattle.sheet.specs.All.{all_below}
-use Rattle.sheet.proofs.All.{all_more, loop_fails, loop_ends}
-use Rattle.sheet_rules.proofs.Fields.{holds-present, holds_absent}
 use Rattle.sheet.specs.Sheet.{record_of}
 use Rattle.sheet_rules.specs.Fields.{holds}
-use Rattle.sheet_rules.specs.Static.{record_static, each_static}
+use Rattle.sheet_rules.specs.Static.{record_static}
 use Rattle.checker_reactions.specs.Entries.{Ready}
 use Rattle.checker_statics.proofs.records_static.Given as goal
 

@@ -1,13 +1,9 @@
 use native.Mathlib.Omega.{arith}
-use mathlib.Core.Path.{◌≡◌, refl, sym, ◌∙◌}
-use mathlib.Core.Bool.{true}
-use Prim.Native.Nat.{◌-◌, ◌≤◌}
-use borrow.Author.Tests.{not-true, not-false}
-use borrow.Author.Rules.{rules}
+use mathlib.Core.Path.{refl, sym, ◌∙◌}
+use Prim.Native.Nat.{◌-◌}
 use Rattle.sheet.specs.All.{all_below}
 use Rattle.sheet.proofs.All.{all_more, loop_fails, loop_ends}
-use Rattle.sheet_rules.specs.Static.{section_static, static}
-use Rattle.checker_reactions.specs.Entries.{Ready}
+use Rattle.sheet_rules.specs.Static.{static}
 use Rattle.checker_reactions.proofs.Entries.{ready-zeros}
 use Rattle.checker_statics.proofs.rules_hold.Goals as goal
 

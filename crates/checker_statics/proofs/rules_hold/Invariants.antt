@@ -1,14 +1,9 @@
-use native.Mathlib.Omega.{arith}
-use mathlib.Core.Path.{◌≡◌, refl, sym, ◌∙◌}
+use mathlib.Core.Path.{◌≡◌}
 use mathlib.Core.Bool.{true}
 use Prim.Native.Nat.{◌-◌, ◌≤◌}
-use borrow.Author.Tests.{not-true, not-false}
-use borrow.Author.Rules.{rules}
 use Rattle.sheet.specs.All.{all_below}
-use Rattle.sheet.proofs.All.{all_more, loop_fails, loop_ends}
-use Rattle.sheet_rules.specs.Static.{section_static, static}
+use Rattle.sheet_rules.specs.Static.{section_static}
 use Rattle.checker_reactions.specs.Entries.{Ready}
-use Rattle.checker_reactions.proofs.Entries.{ready-zeros}
 use Rattle.checker_statics.proofs.rules_hold.Given as goal
 
 abbrev pub invariant-loop-k : goal.invariant-loop-k

@@ -9,7 +9,6 @@ use Rattle.sheet.proofs.Sheet.{record_present}
 use Rattle.sheet_rules.proofs.Fields.{holds-present}
 use Rattle.sheet_rules.proofs.Shape.{static-each, static-bindings}
 use Rattle.sheet_rules.specs.Static.{record_static, each_static, section_static}
-use borrow.Author.Rules.{rules}
 use Rattle.checker_statics.proofs.section_static.Goals as goal
 
 nodes-free : (s : List ℕ) → each_static s 6 ≡ true

@@ -1,24 +1,12 @@
-use native.Mathlib.Omega.{arith}
-use mathlib.Core.Path.{◌≡◌, refl, sym, ap, ◌∙◌}
-use mathlib.Core.Bool.{Bool, true, false}
+use mathlib.Core.Path.{◌≡◌}
+use mathlib.Core.Bool.{Bool, true}
 use mathlib.Core.List.{List}
-use Prim.Native.Nat.{ℕ, suc, ◌+◌, ◌-◌, ◌≤◌, ◌<◌}
-use borrow.Author.Tests.{lt-ltb, le-ltb, not-true, not-false}
+use Prim.Native.Nat.{ℕ, ◌-◌, ◌≤◌}
 use lib.Dec.{ltb}
-use mir.Syntax.{w64}
-use mir.Val.{Fits}
-use borrow.Author.Rules.{rules}
 use Rattle.sheet.specs.All.{◌and◌, all_below}
-use Rattle.sheet.proofs.All.{first_fails_lem, rest_fails, first_holds, false-and, true-and, all_more, loop_fails, loop_ends}
 use Rattle.sheet.specs.declared.Record.{Record}
-use Rattle.sheet.specs.declared.Found.TheVariants.{Present, Absent}
-use Rattle.sheet.specs.Sheet.{record_of}
-use Rattle.sheet_rules.specs.declared.Operands.{Operands}
-use Rattle.sheet_rules.specs.Fields.{holds}
-use Rattle.sheet_rules.specs.Forms.{form_of, operands_of, operand_count, operand_at}
-use Rattle.sheet_rules.proofs.Fields.{holds-present, holds_absent}
-use Rattle.sheet_fields.specs.Small.{Small}
-use Rattle.sheet_rules.specs.Shape.{fields_shape, tree_shape}
+use Rattle.sheet_rules.specs.Forms.{operands_of, operand_at}
+use Rattle.sheet_rules.specs.Shape.{tree_shape}
 use Rattle.checker_trees.proofs.+tree_fits.Given as goal
 
 unfoldable pub operandFits : List ℕ → Record → Record → ℕ → ℕ → Record → ℕ → Bool

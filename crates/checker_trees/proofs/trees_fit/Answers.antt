@@ -1,18 +1,10 @@
 use native.Mathlib.Omega.{arith}
-use mathlib.Core.Path.{◌≡◌, refl, sym, ◌∙◌}
-use mathlib.Core.Bool.{Bool, true}
-use mathlib.Core.List.{List}
-use Prim.Native.Nat.{ℕ, ◌+◌, ◌-◌, ◌≤◌, ◌<◌}
-use borrow.Author.Tests.{not-true, not-false}
-use borrow.Author.Rules.{rules}
+use mathlib.Core.Path.{refl, sym, ◌∙◌}
+use Prim.Native.Nat.{◌-◌}
 use Rattle.sheet.specs.All.{all_below}
 use Rattle.sheet.proofs.All.{all_more, loop_fails, loop_ends}
-use Rattle.sheet.specs.declared.Record.{Record}
-use Rattle.sheet.specs.Sheet.{record_of}
-use Rattle.sheet_rules.specs.Fields.{holds}
 use Rattle.sheet_rules.proofs.Fields.{holds-present, holds_absent}
-use Rattle.sheet_rules.specs.Shape.{tree_shape, trees_shape}
-use Rattle.checker_trees.proofs.trees_fit.Invariants.{bodyFits}
+use Rattle.sheet_rules.specs.Shape.{trees_shape}
 use Rattle.checker_trees.proofs.trees_fit.Goals as goal
 
 pub loop-j-init : goal.loop-j-init

@@ -1,17 +1,12 @@
-use native.Mathlib.Omega.{arith}
-use mathlib.Core.Path.{◌≡◌, refl, sym, ◌∙◌}
+use mathlib.Core.Path.{◌≡◌}
 use mathlib.Core.Bool.{Bool, true}
 use mathlib.Core.List.{List}
 use Prim.Native.Nat.{ℕ, ◌+◌, ◌-◌, ◌≤◌, ◌<◌}
-use borrow.Author.Tests.{not-true, not-false}
-use borrow.Author.Rules.{rules}
 use Rattle.sheet.specs.All.{all_below}
-use Rattle.sheet.proofs.All.{all_more, loop_fails, loop_ends}
 use Rattle.sheet.specs.declared.Record.{Record}
 use Rattle.sheet.specs.Sheet.{record_of}
 use Rattle.sheet_rules.specs.Fields.{holds}
-use Rattle.sheet_rules.proofs.Fields.{holds-present, holds_absent}
-use Rattle.sheet_rules.specs.Shape.{tree_shape, trees_shape}
+use Rattle.sheet_rules.specs.Shape.{tree_shape}
 use Rattle.checker_trees.proofs.trees_fit.Given as goal
 
 abbrev pub bodyFits : List ℕ → Record → ℕ → Bool

@@ -1,7 +1,5 @@
 use native.Mathlib.Omega.{arith}
 use mathlib.Core.Path.{sym, ◌∙◌}
-use borrow.Author.Tests.{not-true, not-false}
-use borrow.Author.Rules.{rules}
 use Rattle.checker_reactions.proofs.Entries.{not_linked, linked}
 use Rattle.checker_twins.proofs.link.Goals as goal
 

@@ -1,11 +1,9 @@
 use native.Mathlib.Omega.{arith}
 use mathlib.Core.Path.{sym, ap, ◌∙◌}
-use Prim.Native.Nat.{◌+◌, ◌-◌}
-use borrow.Author.Tests.{not-true, not-false}
+use Prim.Native.Nat.{◌-◌}
 use mathlib.Core.Bool.{not}
-use borrow.Author.Rules.{rules}
 use Rattle.sheet_rules.proofs.Fields.{holds-present, holds_absent}
-use Rattle.checker_reactions.proofs.Entries.{no_twins, a_twin, twin_less, Walked, walk_start, walk_more}
+use Rattle.checker_reactions.proofs.Entries.{no_twins, a_twin, twin_less, walk_start, walk_more}
 use Rattle.checker_twins.proofs.no_twin.Goals as goal
 
 pub returns-then-not-is_reaction : goal.returns-then-not-is_reaction

@@ -1,8 +1,7 @@
 use mathlib.Core.Path.{refl, sym}
 use Prim.Native.Nat.{◌-◌}
 use borrow.Author.Tests.{le-leb, lt-leb, eq-eqb, ne_eqb}
-use Rattle.sheet.proofs.All.{first_fails_lem, rest_fails, first_holds}
-use Rattle.sheet.proofs.All.{and-true}
+use Rattle.sheet.proofs.All.{first_fails_lem, rest_fails, first_holds, and-true}
 use Rattle.sheet_rules.specs.Static.{same_reaction}
 use Rattle.sheet_rules.specs.Shape.{is_reaction}
 use Rattle.checker_twins.proofs.same_reaction.Goals as goal

@@ -1,7 +1,5 @@
-use borrow.Author.Rules.{rules}
 use native.Mathlib.Omega.{arith}
-use Prim.Native.Nat.{◌-◌, ◌≤◌}
-use Rattle.checker_pass.specs.Marks.{Cleared}
+use Prim.Native.Nat.{◌-◌}
 use Rattle.checker_pass.proofs.Marking.{clear_start, clear_more, clear_end}
 use Rattle.checker_uses.proofs.clear.Goals as goal
 

@@ -1,14 +1,10 @@
-use borrow.Author.Rules.{rules}
 use native.Mathlib.Omega.{arith}
-use Prim.Native.Nat.{ℕ, ◌+◌, ◌-◌}
-use mathlib.Core.Path.{◌≡◌, sym, ap, ◌∙◌}
-use Rattle.sheet.specs.Sheet.{count_of}
+use Prim.Native.Nat.{◌+◌, ◌-◌}
+use mathlib.Core.Path.{sym, ap}
 use Rattle.sheet.proofs.Sheet.{count_limit, count_opened}
-use Rattle.sheet_rules.specs.Fields.{sum_below}
 use Rattle.sheet_rules.specs.Uses.{constant_uses}
-use Rattle.checker_pass.specs.Marks.{Marked}
 use Rattle.checker_pass.proofs.Marking.{marked_as, loop-start, loop_more, loop-end}
-use Rattle.checker_pass.proofs.Added.{binding_turn, Reached, reached-first, reached_next}
+use Rattle.checker_pass.proofs.Added.{binding_turn, reached-first, reached_next}
 use Rattle.checker_uses.proofs.mark_bindings.Goals as goal
 
 pub loop-k-init : goal.loop-k-init

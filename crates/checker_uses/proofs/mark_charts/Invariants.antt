@@ -1,14 +1,8 @@
-use borrow.Author.Rules.{rules}
-use native.Mathlib.Omega.{arith}
 use Prim.Native.Nat.{◌-◌, ◌*◌, ◌≤◌}
 use mathlib.Core.Path.{◌≡◌}
-use Rattle.sheet.proofs.Sheet.{count_limit, count_opened}
 use Rattle.sheet_rules.specs.Fields.{sum_below}
-use Rattle.sheet_rules.specs.Uses.{over_charts}
 use Rattle.checker_pass.specs.Marks.{RootsMarked}
-use Rattle.checker_pass.proofs.Marking.{count-start, count_more_lem, count-end}
 use Rattle.checker_pass.proofs.Added.{chart_turn}
-use Rattle.checker_pass.proofs.Seen.{roots_start, roots_more, roots_end}
 use Rattle.checker_uses.proofs.mark_charts.Given as goal
 
 abbrev pub invariant-loop-i : goal.invariant-loop-i

@@ -1,15 +1,12 @@
-use borrow.Author.Rules.{rules}
 use native.Mathlib.Omega.{arith}
-use Prim.Native.Nat.{◌+◌, ◌-◌, ◌≤◌}
-use mathlib.Core.Path.{◌≡◌, refl, ◌∙◌}
-use Rattle.sheet.specs.Sheet.{count_of}
+use Prim.Native.Nat.{◌-◌}
+use mathlib.Core.Path.{refl, ◌∙◌}
 use Rattle.sheet.proofs.Sheet.{count_limit, record_present, count_opened}
 use Rattle.sheet_rules.specs.Uses.{gone_over}
 use Rattle.sheet_rules.proofs.Fields.{number-present}
-use Rattle.checker_pass.specs.Marks.{Kept}
 use Rattle.checker_pass.proofs.Marking.{kept-all, kept_set, kept_then, kept_lower, kept_at, room_set}
 use Rattle.checker_pass.proofs.Seen.{agreed_start}
-use Rattle.checker_pass.proofs.Going.{Going, going_start, going_more, test_gives}
+use Rattle.checker_pass.proofs.Going.{going_start, going_more, test_gives}
 use Rattle.checker_uses.proofs.used_once.Goals as goal
 
 pub clear-requires : goal.clear-requires

@@ -1,4 +1,3 @@
-use borrow.Author.Rules.{rules}
 use Rattle.checker_variables.proofs.Laws.{array_assigned, to_parameter, not_its_type, assigns}
 use mathlib.Core.Path.{ap}
 use mathlib.Core.Bool.{not}

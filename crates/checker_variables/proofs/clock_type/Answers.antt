@@ -1,4 +1,3 @@
-use borrow.Author.Rules.{rules}
 use Rattle.checker_variables.proofs.Laws.{not_clock, clock_active, clock-value}
 use mathlib.Core.Path.{ap}
 use mathlib.Core.Bool.{not}

@@ -1,4 +1,3 @@
-use borrow.Author.Rules.{rules}
 use Rattle.checker_variables.proofs.Laws.{array_read, clock-read, is_read}
 use mathlib.Core.Path.{ap}
 use mathlib.Core.Bool.{not}

@@ -1,5 +1,4 @@
 use mathlib.Core.Path.{refl}
-use borrow.Author.Rules.{rules}
 use Rattle.engine_answering.proofs.answer.Goals as goal
 
 pub returns-then-number-eq0 : goal.returns-then-number-eq0

@@ -1,4 +1,3 @@
-use borrow.Author.Rules.{rules}
 use Rattle.engine_answers.proofs.answer_at.Goals as goal
 
 pub returns : goal.returns

@@ -1,5 +1,4 @@
 use mathlib.Core.Path.{sym, ap, ◌∙◌}
-use borrow.Author.Rules.{rules}
 use Rattle.machine.specs.declared.Handed.TheVariants.{Outside}
 use Rattle.engine_answers.proofs.Laws.{handed_none, handed_one}
 use Rattle.engine_answers.proofs.handed_at.Goals as goal

@@ -1,6 +1,5 @@
 use mathlib.Core.Path.{sym, subst, ◌∙◌}
 use Prim.Native.Nat.{◌<◌}
-use borrow.Author.Rules.{rules}
 use Rattle.engine_valid_words.proofs.Laws.{below-from}
 use Rattle.engine_answers.proofs.Laws.{below-there, below_none, below_less}
 use Rattle.engine_answers.proofs.number_below.Goals as goal

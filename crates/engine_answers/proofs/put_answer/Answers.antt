@@ -1,7 +1,6 @@
 use mathlib.Core.Path.{◌∙◌}
 use native.Mathlib.Omega.{arith}
 use lib.ListN.{length-set}
-use borrow.Author.Rules.{rules}
 use Rattle.engine_rows.proofs.Laws.{given}
 use Rattle.engine_answers.proofs.Laws.{answer_put, nothing_words, outside-words}
 use Rattle.engine_answers.proofs.put_answer.Goals as goal

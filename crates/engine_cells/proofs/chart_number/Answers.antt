@@ -1,7 +1,6 @@
 use Prim.Native.Nat.{◌-◌}
 use mathlib.Core.Path.{ap}
 use native.Mathlib.Omega.{arith}
-use borrow.Author.Rules.{rules}
 use Rattle.engine_cells.proofs.Laws.{externals_by, row_below, row_chart}
 use Rattle.engine_cells.proofs.chart_number.Goals as goal
 

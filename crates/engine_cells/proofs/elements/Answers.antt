@@ -1,5 +1,4 @@
 use native.Mathlib.Omega.{arith}
-use borrow.Author.Rules.{rules}
 use Rattle.machine_passed.proofs.Records.{elements-rest}
 use Rattle.engine_cells.proofs.Laws.{elements_by, externals_by, components_by, bound-below}
 use Rattle.engine_cells.proofs.elements.Goals as goal

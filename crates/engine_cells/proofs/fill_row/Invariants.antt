@@ -1,11 +1,7 @@
 use Prim.Native.Nat.{◌+◌, ◌-◌, ◌≤◌}
 use mathlib.Core.Path.{◌≡◌}
-use native.Mathlib.Omega.{arith}
-use borrow.Author.Rules.{rules}
 use Rattle.sheet_rules.specs.Indices.{cells_before}
-use Rattle.machine_states.proofs.Elements.{variable-cells}
 use Rattle.engine_cells.specs.Cells.{Row}
-use Rattle.engine_cells.proofs.Laws.{row-none, row_more, row_whole, next_cell, no_cells}
 use Rattle.engine_cells.proofs.fill_row.Given as goal
 
 abbrev pub invariant-loop-n : goal.invariant-loop-n

@@ -1,8 +1,6 @@
 use Prim.Native.Nat.{◌+◌, ◌-◌}
 use mathlib.Core.Path.{sym, subst, ◌∙◌}
-use mathlib.Core.Logic.{⊎_elim}
 use native.Mathlib.Omega.{arith}
-use borrow.Author.Rules.{rules}
 use Rattle.engine_classes.proofs.Laws.{Looked, looked_none, end-inside, class-few, looked_few, looked_inside, looked_found, looked_full, looked_passed}
 use Rattle.engine_classes.proofs.class_full.Goals as goal
 use Rattle.engine_classes.proofs.class_full.Goals.{then-same_class+else-last-end, else-same_class}

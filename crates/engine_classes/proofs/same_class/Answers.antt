@@ -4,7 +4,6 @@ use mathlib.Core.Bool.{not}
 use native.Mathlib.Omega.{arith}
 use lib.IntN.{pos, negsuc}
 use lib.ListN.{get_or}
-use borrow.Author.Rules.{rules}
 use Rattle.sheet.proofs.All.{true-and, first_fails_lem, rest_fails}
 use Rattle.machine.specs.State.{word_of, telegram_in, same_class}
 use Rattle.engine_ints.proofs.Words.{same_bits}

@@ -1,4 +1,4 @@
-use mathlib.Core.Path.{◌≡◌}
+use mathlib.Core.Path.{◌≡◌, ap}
 use native.Mathlib.Omega.{arith}
 use mir.Syntax.{w32}
 use mir.Val.{of_z, to_z}
@@ -6,7 +6,6 @@ use Rattle.machine.specs.State.{cell_at}
 use Rattle.engine_valid_words.proofs.Laws.{below-from}
 use Rattle.engine_context.proofs.Laws.{goes_outside, goes_below, goes_inside, goes_few}
 use borrow.Author.Rules.{rules}
-use mathlib.Core.Path.{ap}
 use mathlib.Core.Bool.{not}
 use Rattle.engine_context.proofs.element_word.Goals as goal
 

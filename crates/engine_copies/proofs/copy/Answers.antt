@@ -1,12 +1,11 @@
-use Prim.Native.Nat.{◌-◌, ◌≤◌}
-use mathlib.Core.Path.{◌≡◌, refl, ◌∙◌}
+use Prim.Native.Nat.{◌-◌}
+use mathlib.Core.Path.{refl, ◌∙◌}
 use native.Mathlib.Omega.{arith}
 use lib.IntN.{pos}
-use lib.ListN.{length, get_or, length-set}
-use borrow.Author.Rules.{rules}
+use lib.ListN.{get_or, length-set}
 use Rattle.machine.specs.State.{word_of}
 use Rattle.engine_rows.proofs.Laws.{given}
-use Rattle.engine_copies.proofs.Alike.{Alike, alike_more, alike_all}
+use Rattle.engine_copies.proofs.Alike.{alike_more, alike_all}
 use Rattle.engine_copies.proofs.copy.Goals as goal
 
 pub loop-i-init : goal.loop-i-init

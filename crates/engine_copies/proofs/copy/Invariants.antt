@@ -1,12 +1,7 @@
 use Prim.Native.Nat.{◌-◌, ◌≤◌}
-use mathlib.Core.Path.{◌≡◌, refl, ◌∙◌}
-use native.Mathlib.Omega.{arith}
-use lib.IntN.{pos}
-use lib.ListN.{length, get_or, length-set}
-use borrow.Author.Rules.{rules}
-use Rattle.machine.specs.State.{word_of}
-use Rattle.engine_rows.proofs.Laws.{given}
-use Rattle.engine_copies.proofs.Alike.{Alike, alike_more, alike_all}
+use mathlib.Core.Path.{◌≡◌}
+use lib.ListN.{length}
+use Rattle.engine_copies.proofs.Alike.{Alike}
 use Rattle.engine_copies.proofs.copy.Given as goal
 
 abbrev pub invariant-loop-i : goal.invariant-loop-i

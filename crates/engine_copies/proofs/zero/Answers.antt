@@ -1,11 +1,10 @@
-use Prim.Native.Nat.{◌-◌, ◌≤◌}
-use mathlib.Core.Path.{◌≡◌, refl, sym, ◌∙◌}
+use Prim.Native.Nat.{◌-◌}
+use mathlib.Core.Path.{refl, sym, ◌∙◌}
 use native.Mathlib.Omega.{arith}
 use lib.IntN.{pos}
-use lib.ListN.{length, replicate, length-set, length-replicate}
-use borrow.Author.Rules.{rules}
+use lib.ListN.{length, length-set, length-replicate}
 use Rattle.engine_rows.proofs.Laws.{word_zeros}
-use Rattle.engine_copies.proofs.Alike.{Alike, alike_more, alike_all}
+use Rattle.engine_copies.proofs.Alike.{alike_more, alike_all}
 use Rattle.engine_copies.proofs.zero.Goals as goal
 
 pub loop-i-init : goal.loop-i-init

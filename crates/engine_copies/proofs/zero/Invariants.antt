@@ -1,11 +1,8 @@
 use Prim.Native.Nat.{◌-◌, ◌≤◌}
-use mathlib.Core.Path.{◌≡◌, refl, sym, ◌∙◌}
-use native.Mathlib.Omega.{arith}
+use mathlib.Core.Path.{◌≡◌}
 use lib.IntN.{pos}
-use lib.ListN.{length, replicate, length-set, length-replicate}
-use borrow.Author.Rules.{rules}
-use Rattle.engine_rows.proofs.Laws.{word_zeros}
-use Rattle.engine_copies.proofs.Alike.{Alike, alike_more, alike_all}
+use lib.ListN.{length, replicate}
+use Rattle.engine_copies.proofs.Alike.{Alike}
 use Rattle.engine_copies.proofs.zero.Given as goal
 
 abbrev pub invariant-loop-i : goal.invariant-loop-i

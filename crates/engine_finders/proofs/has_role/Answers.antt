@@ -1,5 +1,4 @@
 use mathlib.Core.Path.{sym, ◌∙◌}
-use borrow.Author.Rules.{rules}
 use Rattle.sheet_rules.proofs.Fields.{holds-present, holds_absent}
 use Rattle.engine_finders.proofs.has_role.Goals as goal
 

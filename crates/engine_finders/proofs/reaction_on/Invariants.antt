@@ -1,8 +1,6 @@
-use mathlib.Core.Path.{refl, sym, ◌∙◌}
 use Prim.Native.Nat.{◌-◌}
-use borrow.Author.Rules.{rules}
 use Rattle.machine.specs.Play.{reacts_on}
-use Rattle.engine_finders.proofs.Laws.{Searched, none_yet, misses, hits, no_body}
+use Rattle.engine_finders.proofs.Laws.{Searched}
 use Rattle.engine_finders.proofs.reaction_on.Given as goal
 
 abbrev pub invariant-loop-j : goal.invariant-loop-j

@@ -1,8 +1,6 @@
 use mathlib.Core.Path.{refl, sym, ◌∙◌}
 use Prim.Native.Nat.{◌-◌}
-use borrow.Author.Rules.{rules}
-use Rattle.sheet_rules.specs.Types.{reacts_to}
-use Rattle.engine_finders.proofs.Laws.{Searched, none_yet, misses, hits, no_body}
+use Rattle.engine_finders.proofs.Laws.{none_yet, misses, hits, no_body}
 use Rattle.engine_finders.proofs.reaction_to.Goals as goal
 
 pub loop-j-init : goal.loop-j-init

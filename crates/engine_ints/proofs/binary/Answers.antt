@@ -1,6 +1,5 @@
 use mathlib.Core.Path.{ap, ◌∙◌}
 use lib.Signed.{lt_z}
-use borrow.Author.Rules.{rules}
 use Rattle.sheet.specs.All.{◌and◌}
 use Rattle.machine.specs.Values.{same_word}
 use Rattle.machine.specs.Eval.{is_one}

@@ -2,7 +2,6 @@ use mathlib.Core.Path.{◌≡◌, refl}
 use mathlib.Core.Bool.{Bool, true, false}
 use mir.Syntax.{w32}
 use mir.Val.{to_z, bool_byte}
-use borrow.Author.Rules.{rules}
 use Rattle.machine.specs.Eval.{bool_word}
 use Rattle.engine_ints.proofs.bool_word.Goals as goal
 

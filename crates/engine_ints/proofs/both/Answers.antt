@@ -1,6 +1,5 @@
 use mathlib.Core.Path.{ap, ◌∙◌}
 use mathlib.Core.Bool.{not}
-use borrow.Author.Rules.{rules}
 use Rattle.machine.specs.Eval.{bool_word, is_one}
 use Rattle.engine_ints.proofs.Range.{zero_bits, is_zero_lem, not-zero}
 use Rattle.engine_ints.proofs.Words.{word_back, not_both_lem, other_one}

@@ -1,5 +1,4 @@
 use mathlib.Core.Path.{◌∙◌}
-use borrow.Author.Rules.{rules}
 use Rattle.engine_ints.proofs.Range.{back, back64, quotient_fits, is_zero_lem, not-zero, by_zero, by_other}
 use Rattle.engine_ints.proofs.div.Goals as goal
 

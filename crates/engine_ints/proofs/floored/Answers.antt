@@ -3,7 +3,6 @@ use lib.IntN.{ℤ, ◌-ℤ◌, ◌*ℤ◌}
 use lib.Signed.{quot_z}
 use mir.Syntax.{w32, w64}
 use mir.Val.{SFits, to_z, of_z}
-use borrow.Author.Rules.{rules}
 use Rattle.engine_ints.proofs.Range.{back, back64, widen, wide, quot_fits, quot_whole-fits, left-over-fits, mul-fits, less-fits, quotient_fits, divisor}
 use Rattle.engine_ints.proofs.Rounding.{rounded}
 use Rattle.engine_ints.proofs.floored.Goals as goal

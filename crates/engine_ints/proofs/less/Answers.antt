@@ -1,5 +1,4 @@
 use lib.Signed.{lt_z}
-use borrow.Author.Rules.{rules}
 use Rattle.engine_ints.proofs.Range.{back}
 use Rattle.engine_ints.proofs.Words.{word_back}
 use Rattle.engine_ints.proofs.less.Goals as goal

@@ -1,4 +1,3 @@
-use borrow.Author.Rules.{rules}
 use Rattle.engine_ints.proofs.Range.{back, back64, widen, wide, sub-fits}
 use Rattle.engine_ints.proofs.minus.Goals as goal
 

@@ -1,5 +1,4 @@
 use mathlib.Core.Path.{ap, ◌∙◌}
-use borrow.Author.Rules.{rules}
 use Rattle.machine.specs.Values.{is_zero}
 use Rattle.machine.specs.Eval.{bool_word}
 use Rattle.engine_ints.specs.declared.Work.TheVariants.{Word}

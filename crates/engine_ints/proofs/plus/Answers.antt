@@ -1,4 +1,3 @@
-use borrow.Author.Rules.{rules}
 use Rattle.engine_ints.proofs.Range.{back, back64, widen, wide, add-fits}
 use Rattle.engine_ints.proofs.plus.Goals as goal
 

@@ -2,7 +2,6 @@ use native.Mathlib.Omega.{arith}
 use Prim.Native.Nat.{ℕ}
 use mathlib.Core.Path.{◌≡◌, sym, ◌∙◌}
 use mathlib.Core.List.{List}
-use borrow.Author.Rules.{rules}
 use Rattle.sheet_rules.specs.Fields.{field_of, field_at}
 use Rattle.machine.specs.Play.{default_limit, limit_of}
 use Rattle.machine.proofs.Limit.{limit_zero, limit_given}

@@ -1,7 +1,6 @@
 use Prim.Native.Nat.{◌+◌}
 use lib.IntN.{pos}
 use lib.ListN.{get_or}
-use borrow.Author.Rules.{rules}
 use Rattle.machine.specs.State.{word_of, telegram_in}
 use Rattle.engine_rows.proofs.Laws.{given}
 use Rattle.engine_rows.proofs.telegram_in.Goals as goal

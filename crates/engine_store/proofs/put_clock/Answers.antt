@@ -1,6 +1,5 @@
 use lib.IntN.{pos}
 use lib.ListN.{get_or}
-use borrow.Author.Rules.{rules}
 use Rattle.engine_ints.proofs.Range.{back}
 use Rattle.engine_rows.proofs.Laws.{given}
 use Rattle.engine_store.proofs.put_clock.Goals as goal

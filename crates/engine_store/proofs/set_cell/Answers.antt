@@ -1,4 +1,3 @@
-use borrow.Author.Rules.{rules}
 use Rattle.engine_ints.proofs.Range.{back}
 use Rattle.engine_store.proofs.set_cell.Goals as goal
 

@@ -1,4 +1,3 @@
-use borrow.Author.Rules.{rules}
 use Rattle.sheet.proofs.All.{first_fails_lem, first_holds}
 use Rattle.sheet_types.proofs.Laws.{no, so}
 use Rattle.engine_valid_values.proofs.Laws.{below_same}

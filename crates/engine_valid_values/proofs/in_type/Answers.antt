@@ -1,5 +1,4 @@
 use mathlib.Core.Path.{sym, ap, ◌∙◌}
-use borrow.Author.Rules.{rules}
 use Rattle.machine.specs.Values.{is_below}
 use Rattle.engine_valid_words.proofs.Laws.{back, fits_32}
 use Rattle.engine_valid_values.proofs.Laws.{of_bool, of_int_lem, of_component, of_port, from_four}

@@ -1,7 +1,6 @@
 use mathlib.Core.Path.{ap}
 use lib.Dec.{ltb}
 use borrow.Author.Tests.{le-leb, lt-leb}
-use borrow.Author.Rules.{rules}
 use Rattle.sheet.proofs.All.{first_fails_lem, first_holds}
 use Rattle.machine.specs.Values.{is_bound}
 use Rattle.engine_valid_values.proofs.is_bound.Goals as goal

@@ -1,5 +1,4 @@
 use mathlib.Core.Path.{ap, ◌∙◌}
-use borrow.Author.Rules.{rules}
 use Rattle.machine.specs.Values.{is_below}
 use Rattle.engine_valid_words.proofs.Laws.{back}
 use Rattle.engine_valid_values.proofs.Laws.{no_value, of_member}

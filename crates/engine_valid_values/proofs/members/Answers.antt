@@ -1,4 +1,3 @@
-use borrow.Author.Rules.{rules}
 use Rattle.sheet_rules.specs.Fields.{field_of, field_at, members_of}
 use Rattle.engine_valid_values.proofs.members.Goals as goal
 

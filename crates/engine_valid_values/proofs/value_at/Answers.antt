@@ -1,5 +1,4 @@
 use mathlib.Core.Path.{ap, ◌∙◌}
-use borrow.Author.Rules.{rules}
 use Rattle.machine.specs.Values.{in_type}
 use Rattle.engine_valid_words.proofs.Laws.{read_back}
 use Rattle.engine_valid_values.proofs.value_at.Goals as goal

@@ -1,6 +1,5 @@
 use mathlib.Core.Path.{ap, ◌∙◌}
 use lib.IntN.{ℤ}
-use borrow.Author.Rules.{rules}
 use Rattle.machine.specs.Values.{is_below}
 use Rattle.engine_valid_words.proofs.Laws.{read_back}
 use Rattle.engine_valid_words.proofs.below_at.Goals as goal

@@ -1,5 +1,4 @@
 use mir.Facts.{Fits-nat_abs}
-use borrow.Author.Rules.{rules}
 use Rattle.engine_valid_words.proofs.Laws.{back, not_negative}
 use Rattle.engine_valid_words.proofs.number.Goals as goal
 

@@ -1,7 +1,6 @@
 use mathlib.Core.Path.{ap, ◌∙◌}
 use lib.IntN.{ℤ, pos, nat_abs}
 use lib.Signed.{le_z}
-use borrow.Author.Rules.{rules}
 use Rattle.engine_valid_words.proofs.Laws.{read_back}
 use Rattle.engine_valid_words.proofs.number_at.Goals as goal
 

@@ -1,5 +1,4 @@
 use mathlib.Core.Path.{refl}
-use borrow.Author.Rules.{rules}
 use Rattle.machine.specs.State.{word_of}
 use Rattle.engine_valid_words.proofs.Laws.{back, fits_32}
 use Rattle.engine_valid_words.proofs.word.Goals as goal

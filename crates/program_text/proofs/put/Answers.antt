@@ -1,6 +1,5 @@
 use mathlib.Core.Path.{refl}
 use native.Mathlib.Omega.{arith}
-use borrow.Author.Rules.{rules}
 use Rattle.program_text.proofs.Laws.{placed_one}
 use Rattle.program_text.proofs.put.Goals as goal
 

@@ -1,7 +1,6 @@
 use mathlib.Core.Path.{sym, ap, subst, ◌∙◌}
 use native.Mathlib.Omega.{arith}
 use lib.IntN.{nat_abs}
-use borrow.Author.Rules.{rules}
 use Rattle.program_text.specs.Decimal.{decimal, Put}
 use Rattle.program_text.proofs.Laws.{back, put_then, signed_below, signed_other}
 use Rattle.program_text.proofs.put_signed.Goals as goal

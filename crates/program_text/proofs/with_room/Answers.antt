@@ -2,7 +2,6 @@ use mathlib.Core.Path.{refl, sym}
 use native.Mathlib.Omega.{arith}
 use lib.ListN.{length}
 use lib.Seq.{length-take-le}
-use borrow.Author.Rules.{rules}
 use Rattle.program_text.proofs.Laws.{room_there, room_made}
 use Rattle.program_text.proofs.with_room.Goals as goal
 

@@ -1,5 +1,4 @@
 use mathlib.Core.Path.{sym, ◌∙◌}
-use borrow.Author.Rules.{rules}
 use Rattle.sheet_rules.proofs.Bindings.{bound-chart, bound-none}
 use Rattle.sheet_bindings.proofs.chart_bound.Goals as goal
 

@@ -1,6 +1,5 @@
 use native.Mathlib.Omega.{arith}
 use mathlib.Core.Path.{sym}
-use borrow.Author.Rules.{rules}
 use Rattle.sheet_rules.proofs.Bindings.{constant_first, constant_second}
 use Rattle.sheet_bindings.proofs.constant_field.Goals as goal
 

@@ -1,5 +1,4 @@
 use mathlib.Core.Path.{sym}
-use borrow.Author.Rules.{rules}
 use Rattle.sheet_rules.proofs.Bindings.{constant_first, constant_second}
 use Rattle.sheet_bindings.proofs.constant_record.Goals as goal
 

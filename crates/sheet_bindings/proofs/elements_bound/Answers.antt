@@ -1,10 +1,8 @@
 use native.Mathlib.Omega.{arith}
-use mathlib.Core.Path.{◌≡◌, sym}
-use Prim.Native.Nat.{◌+◌, ◌-◌, ◌≤◌}
-use borrow.Author.Rules.{rules}
-use Rattle.sheet.specs.Sheet.{count_of}
+use mathlib.Core.Path.{sym}
+use Prim.Native.Nat.{◌-◌}
 use Rattle.sheet.proofs.Sheet.{count_limit, count_opened}
-use Rattle.sheet_rules.proofs.Bindings.{Walk, walk_begins, walk_on_lem, walk_ends, behind_near}
+use Rattle.sheet_rules.proofs.Bindings.{walk_begins, walk_on_lem, walk_ends, behind_near}
 use Rattle.sheet_bindings.proofs.elements_bound.Goals as goal
 
 pub loop-k-init : goal.loop-k-init

@@ -1,10 +1,7 @@
-use native.Mathlib.Omega.{arith}
-use mathlib.Core.Path.{◌≡◌, sym}
+use mathlib.Core.Path.{◌≡◌}
 use Prim.Native.Nat.{◌+◌, ◌-◌, ◌≤◌}
-use borrow.Author.Rules.{rules}
 use Rattle.sheet.specs.Sheet.{count_of}
-use Rattle.sheet.proofs.Sheet.{count_limit, count_opened}
-use Rattle.sheet_rules.proofs.Bindings.{Walk, walk_begins, walk_on_lem, walk_ends, behind_near}
+use Rattle.sheet_rules.proofs.Bindings.{Walk}
 use Rattle.sheet_bindings.proofs.elements_bound.Given as goal
 
 abbrev pub invariant-loop-k : goal.invariant-loop-k

@@ -1,7 +1,6 @@
 use native.Mathlib.Omega.{arith}
 use mathlib.Core.Path.{sym, ap, ◌∙◌}
 use Prim.Native.Nat.{ℕ, ◌+◌}
-use borrow.Author.Rules.{rules}
 use Rattle.sheet_rules.proofs.Bindings.{behind-chart, behind-none}
 use Rattle.sheet_bindings.proofs.record_behind.Goals as goal
 

@@ -1,8 +1,7 @@
 use native.Mathlib.Omega.{arith}
 use mathlib.Core.Path.{◌≡◌, refl, sym, ap, ◌∙◌}
 use mathlib.Core.List.{List}
-use Prim.Native.Nat.{ℕ, ◌+◌, ◌-◌, ◌*◌, ◌≤◌, ◌<◌}
-use borrow.Author.Rules.{rules}
+use Prim.Native.Nat.{ℕ, ◌+◌, ◌-◌, ◌≤◌}
 use Rattle.sheet_rules.specs.Fields.{field_of, field_at, sum_below, components_of, externals_of, elements_of}
 use Rattle.sheet_rules.specs.Bindings.{behind, first_binding}
 use Rattle.sheet_rules.specs.Shape.{cells_bound, cells_of}

@@ -1,13 +1,8 @@
-use native.Mathlib.Omega.{arith}
-use mathlib.Core.Path.{◌≡◌, refl, sym, ap, ◌∙◌}
-use mathlib.Core.List.{List}
-use Prim.Native.Nat.{ℕ, ◌+◌, ◌-◌, ◌*◌, ◌≤◌, ◌<◌}
-use borrow.Author.Rules.{rules}
-use Rattle.sheet_rules.specs.Fields.{field_of, field_at, sum_below, components_of, externals_of, elements_of}
-use Rattle.sheet_rules.specs.Bindings.{behind, first_binding}
-use Rattle.sheet_rules.specs.Shape.{cells_bound, cells_of}
-use Rattle.sheet_rules.proofs.Bindings.{first_next, first_most}
-use Rattle.sheet_elements.proofs.Laws.{sum_next}
+use mathlib.Core.Path.{◌≡◌}
+use Prim.Native.Nat.{◌-◌, ◌*◌, ◌≤◌, ◌<◌}
+use Rattle.sheet_rules.specs.Fields.{sum_below}
+use Rattle.sheet_rules.specs.Bindings.{first_binding}
+use Rattle.sheet_rules.specs.Shape.{cells_bound}
 use Rattle.sheet_elements.proofs.cells.Given as goal
 
 abbrev pub invariant-loop-i : goal.invariant-loop-i

@@ -1,11 +1,11 @@
 use native.Mathlib.Omega.{arith}
 use mathlib.Core.Path.{◌≡◌, refl}
 use mathlib.Core.List.{List}
-use Prim.Native.Nat.{ℕ, ◌+◌, ◌-◌, ◌*◌, ◌≤◌, ◌<◌}
+use Prim.Native.Nat.{ℕ, ◌-◌, ◌≤◌}
 use borrow.Author.Rules.{rules}
 use Rattle.sheet.specs.declared.Record.{Record}
 use Rattle.sheet_rules.specs.Fields.{sum_below}
-use Rattle.sheet_rules.specs.Indices.{cells_taken, cells_before}
+use Rattle.sheet_rules.specs.Indices.{cells_before}
 use Rattle.sheet_elements.proofs.Laws.{sum_next}
 use Rattle.sheet_elements.proofs.cells_before.Invariants.{cells_from}
 use Rattle.sheet_elements.proofs.cells_before.Goals as goal

@@ -1,6 +1,5 @@
 use native.Mathlib.Omega.{arith}
 use mathlib.Core.Path.{sym, ◌∙◌}
-use borrow.Author.Rules.{rules}
 use Rattle.sheet_elements.proofs.Laws.{no_chart_lem, chart-cells}
 use Rattle.sheet_elements.proofs.cells_bound.Goals as goal
 

@@ -1,7 +1,6 @@
 use native.Mathlib.Omega.{arith}
 use Prim.Native.Nat.{zero-le}
 use mathlib.Core.Path.{sym, ap}
-use borrow.Author.Rules.{rules}
 use Rattle.sheet.proofs.All.{from_next}
 use Rattle.sheet_rules.specs.Fields.{field_of}
 use Rattle.sheet_rules.proofs.Fields.{field_past}

@@ -1,6 +1,5 @@
 use native.Mathlib.Omega.{arith}
 use mathlib.Core.Path.{sym, ◌∙◌}
-use borrow.Author.Rules.{rules}
 use Rattle.sheet_rules.specs.Fields.{field_at}
 use Rattle.sheet_rules.proofs.Fields.{number-present, number_absent}
 use Rattle.sheet_fields.proofs.field_at.Goals as goal

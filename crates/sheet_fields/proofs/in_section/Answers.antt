@@ -1,6 +1,5 @@
 use mathlib.Core.Path.{ap}
 use lib.Dec.{leb}
-use borrow.Author.Rules.{rules}
 use Rattle.sheet.proofs.Sheet.{count_opened}
 use Rattle.sheet_rules.specs.Fields.{in_section}
 use Rattle.sheet_fields.proofs.in_section.Goals as goal

@@ -1,14 +1,10 @@
-use native.Mathlib.Omega.{arith}
 use Prim.Native.Nat.{ℕ, ◌+◌, ◌-◌, ◌≤◌, ◌<◌}
-use mathlib.Core.Path.{◌≡◌, refl, sym, ◌∙◌}
-use mathlib.Core.Bool.{Bool, true, false}
+use mathlib.Core.Path.{◌≡◌}
+use mathlib.Core.Bool.{Bool, true}
 use lib.Dec.{eqb}
-use borrow.Author.Tests.{eq-eqb, ne_eqb}
-use borrow.Author.Rules.{rules}
 use Rattle.sheet.specs.declared.Record.{Record}
 use Rattle.sheet.specs.All.{all_below}
-use Rattle.sheet.proofs.All.{all_more, all_fails_lem}
-use Rattle.sheet_rules.specs.Fields.{field_of, zero_from}
+use Rattle.sheet_rules.specs.Fields.{field_of}
 use Rattle.sheet_fields.proofs.zero_from.Given as goal
 
 abbrev pub is_zero : Record → ℕ → ℕ → Bool

@@ -2,7 +2,6 @@ use native.Mathlib.Omega.{arith}
 use Prim.Native.Nat.{ℕ}
 use mathlib.Core.Path.{◌≡◌, refl, sym, ap, ◌∙◌}
 use mathlib.Core.List.{List}
-use borrow.Author.Rules.{rules}
 use Rattle.sheet.specs.Table.{look_up}
 use Rattle.sheet_rules.specs.Fields.{field_of, field_at, components_of, ports_of, members_of}
 use Rattle.sheet_rules.specs.Indices.{Index, index_of, cells_by}

@@ -2,7 +2,6 @@ use native.Mathlib.Omega.{arith}
 use mathlib.Core.Path.{sym, ap, ◌∙◌}
 use Rattle.sheet_rules.specs.Indices.{cells_by, cells_taken}
 use Rattle.sheet_indices.proofs.Laws.{index_present, index-absent}
-use borrow.Author.Rules.{rules}
 use Rattle.sheet_indices.proofs.cells_taken.Goals as goal
 
 pub returns-in_default : goal.returns-in_default

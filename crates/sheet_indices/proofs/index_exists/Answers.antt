@@ -3,7 +3,6 @@ use lib.Dec.{ltb}
 use Rattle.sheet.proofs.Sheet.{count_opened}
 use Rattle.sheet_rules.specs.Shape.{type_exists, index_exists}
 use Rattle.sheet_indices.proofs.Laws.{index_none, index_enumerated, index_number, index_past_lem, type_there, low_exists}
-use borrow.Author.Rules.{rules}
 use Rattle.sheet_indices.proofs.index_exists.Goals as goal
 
 pub returns-in-0-to-3 : goal.returns-in-0-to-3

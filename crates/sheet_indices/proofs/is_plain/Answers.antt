@@ -1,7 +1,6 @@
 use mathlib.Core.Path.{sym, ap, ◌∙◌}
 use Rattle.sheet_rules.specs.Indices.{is_plain}
 use Rattle.sheet_indices.proofs.Laws.{index_present, index-absent, plain_zero}
-use borrow.Author.Rules.{rules}
 use Rattle.sheet_indices.proofs.is_plain.Goals as goal
 
 pub returns-in_default : goal.returns-in_default

@@ -1,4 +1,3 @@
-use borrow.Author.Rules.{rules}
 use Rattle.sheet.proofs.Sheet.{count_opened}
 use Rattle.sheet_reader.proofs.count.Goals as goal
 

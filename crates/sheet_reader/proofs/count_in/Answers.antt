@@ -1,6 +1,5 @@
 use mathlib.Core.Path.{sym, ap, ◌∙◌}
 use lib.ListN.{get_or}
-use borrow.Author.Rules.{rules}
 use Rattle.sheet.proofs.Sheet.{count-there, count_past}
 use Rattle.sheet_reader.proofs.count_in.Goals as goal
 

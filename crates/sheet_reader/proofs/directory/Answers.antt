@@ -1,13 +1,12 @@
 use native.Mathlib.Omega.{arith}
-use Prim.Native.Nat.{ℕ, ◌+◌, ◌*◌, ◌-◌, ◌/◌, ◌<◌, ◌≤◌}
+use Prim.Native.Nat.{ℕ, ◌+◌, ◌*◌, ◌-◌, ◌/◌, ◌<◌}
 use mathlib.Core.Path.{◌≡◌, refl, sym, ap, ◌∙◌}
 use mathlib.Core.List.{List}
 use mathlib.Core.Bool.{true}
 use native.Mathlib.Decide.{dec_lt}
 use lib.ListN.{length, get_or, set, length-set}
 use lib.Seq.{get_or-set_same, get_or-set_other}
-use borrow.Author.Rules.{rules}
-use Rattle.sheet.specs.Sheet.{offset_of, length_of, directory_right, count_of}
+use Rattle.sheet.specs.Sheet.{offset_of, length_of, directory_right}
 use Rattle.sheet.proofs.Sheet.{directory_wrong, directory_is, directory-inside, count-right}
 use Rattle.sheet_reader.proofs.directory.Invariants.{Entries}
 use Rattle.sheet_reader.proofs.directory.Goals as goal

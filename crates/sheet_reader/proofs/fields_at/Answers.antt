@@ -1,4 +1,3 @@
-use borrow.Author.Rules.{rules}
 use Rattle.sheet.specs.Sheet.{record_at}
 use Rattle.sheet_reader.proofs.fields_at.Goals as goal
 

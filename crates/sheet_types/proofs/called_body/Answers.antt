@@ -1,5 +1,4 @@
 use mathlib.Core.Path.{◌∙◌}
-use borrow.Author.Rules.{rules}
 use Rattle.sheet_types.proofs.Laws.{called_past, called-there}
 use Rattle.sheet_types.proofs.called_body.Goals as goal
 

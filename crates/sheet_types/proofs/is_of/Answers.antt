@@ -1,5 +1,4 @@
 use mathlib.Core.Path.{sym, ap}
-use borrow.Author.Rules.{rules}
 use Rattle.sheet_rules.specs.Types.{is_of}
 use Rattle.sheet_types.proofs.is_of.Goals as goal
 

@@ -1,4 +1,3 @@
-use borrow.Author.Rules.{rules}
 use Rattle.sheet_rules.proofs.Types.{literal-component}
 use Rattle.sheet_types.proofs.Laws.{literal_1, literal_2, literal_3, literal_5}
 use Rattle.sheet_types.proofs.literal_type.Goals as goal

@@ -1,4 +1,3 @@
-use borrow.Author.Rules.{rules}
 use Rattle.sheet_rules.specs.Fields.{field_of, field_at, type_at}
 use Rattle.sheet_types.proofs.type_at.Goals as goal
 

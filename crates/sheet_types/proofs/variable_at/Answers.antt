@@ -1,4 +1,3 @@
-use borrow.Author.Rules.{rules}
 use Rattle.sheet_types.proofs.Laws.{variable_0, variable_1, variable_parameter, variable_local}
 use Rattle.sheet_types.proofs.variable_at.Goals as goal
 
