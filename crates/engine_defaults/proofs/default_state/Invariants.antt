@@ -1,0 +1,15 @@
+use Prim.Native.Nat.{◌-◌, ◌≤◌}
+use mathlib.Core.Path.{◌≡◌}
+use lib.ListN.{length}
+use Rattle.sheet_rules.specs.Fields.{sum_below, elements_of}
+use Rattle.sheet_rules.specs.Bindings.{first_binding}
+use Rattle.sheet_rules.specs.Shape.{cells_bound}
+use Rattle.machine.specs.State.{state_length}
+use Rattle.engine_defaults.proofs.State.{Filled}
+use Rattle.engine_defaults.proofs.default_state.Given as goal
+
+abbrev pub invariant-loop-i : goal.invariant-loop-i
+invariant-loop-i l = (l.i ≤ l.count) × (l.count ≡ elements_of l.sheet) × (length l.st ≡ state_length l.sheet) × (l.cell ≡ sum_below l.i (cells_bound l.sheet)) × Filled l.sheet l.initial.st l.st l.cell l.i × (l.k ≡ first_binding l.sheet l.i)
+
+abbrev pub decreases-loop-i : goal.decreases-loop-i
+decreases-loop-i l = l.count - l.i

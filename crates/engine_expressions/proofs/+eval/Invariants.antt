@@ -1,0 +1,5 @@
+use Prim.Native.Nat.{◌-◌}
+use Rattle.engine_expressions.proofs.+eval.Given as goal
+
+abbrev pub decreases-eval : goal.decreases-eval
+decreases-eval l = l.n
