@@ -2,8 +2,12 @@
 // text at `at` and gives the place behind it.
 #![tactic(auto)]
 
-ghost use Rattle.std.specs.Prelude.{◌+◌, ◌<◌, ◌≤◌, ◌≡◌, true, [], ◌∷◌, nat_abs, length};
+ghost use Rattle.std.specs.Prelude.{ℕ, ◌+◌, ◌-◌, ◌<◌, ◌≤◌, ◌≡◌, true, [], ◌∷◌, nat_abs, length, take};
+ghost use Rattle.std.specs.Io.KnownBytes.{Appends};
 ghost use Rattle.program_text.specs.Decimal.{decimal, signed, Put, place_with_room};
+
+use std::io;
+use std::io::{ErrorKind, Write};
 
 // One byte.
 pub fn put(out: &mut [u8], at: usize, b: u8) -> usize
@@ -58,14 +62,39 @@ pub fn put_signed(out: &mut [u8], at: usize, z: i32) -> usize
     put_decimal(out, at, magnitude(z))
 }
 
-// Writes a text out, and gives whether all of it was written. Why it wasn't is said on standard error
-// here, where errno still tells it, so a caller only stops.
-pub fn write_out(fd: i32, text: &[u8]) -> bool {
-    if io::write_all(fd, text) {
-        return true;
+// Says on standard error why a text can't be written.
+fn say_unwritten<E: Eprint>(errors: &E, why: io::Error) {
+    let _ = errors.eprintln(format_args!("the output can't be written: {why}"));
+}
+
+// Writes a text out, and gives whether all of it was written; the writer has its first bytes in any
+// case. Why it wasn't is said on standard error here, where it is known, so a caller only stops.
+pub fn write_out<W: Write, E: Eprint>(to: &mut W, errors: &E, text: &[u8]) -> bool
+    ensures whole { result ≡ true → Appends (W.contents to.old) (W.contents to.new) text.now }
+    ensures part { (n : ℕ) × (n ≤ length text.now)
+        × Appends (W.contents to.old) (W.contents to.new) (take n text.now) }
+{
+    let mut done: usize = 0;
+    while done < text.len() {
+        match to.write(&text[done..]) {
+            Ok(0) => {
+                say_unwritten(errors, io::Error::from(ErrorKind::WriteZero));
+                return false;
+            }
+            Ok(n) => done += n,
+            Err(why) => {
+                say_unwritten(errors, why);
+                return false;
+            }
+        }
     }
-    os::fail(b"the output can't be written");
-    false
+    match to.flush() {
+        Ok(()) => true,
+        Err(why) => {
+            say_unwritten(errors, why);
+            false
+        }
+    }
 }
 
 // The place where a text goes on in its buffer, and whether the text before it is there still or was
@@ -78,9 +107,19 @@ pub struct TextEnd {
 
 // Writes the buffer's text out once there is less than `room` behind it, and gives the place where
 // the text goes on.
-pub fn with_room(fd: i32, out: &[u8], at: usize, room: usize) -> TextEnd
+pub fn with_room<W: Write, E: Eprint>(
+    to: &mut W,
+    errors: &E,
+    out: &[u8],
+    at: usize,
+    room: usize,
+) -> TextEnd
     requires { (at ≤ length out.now) × (room ≤ length out.now) }
-    ensures { (result.at ≡ place_with_room (length out.now) at room) × (result.at + room ≤ length out.now) × (at + room ≤ length out.now → result.written ≡ true) }
+    ensures place { result.at ≡ place_with_room (length out.now) at room }
+    ensures behind { result.at + room ≤ length out.now }
+    ensures there { at + room ≤ length out.now → result.written ≡ true }
+    ensures whole { result.written ≡ true
+        → Appends (W.contents to.old) (W.contents to.new) (take (at - result.at) out.now) }
 {
     if room <= out.len() - at {
         return TextEnd {
@@ -88,7 +127,7 @@ pub fn with_room(fd: i32, out: &[u8], at: usize, room: usize) -> TextEnd
             written: true,
         };
     }
-    let written = write_out(fd, &out[..at]);
+    let written = write_out(to, errors, &out[..at]);
     TextEnd {
         at: 0,
         written: written,
