@@ -1,12 +1,14 @@
-// What the programs read from a descriptor: bytes until there are enough, a sheet behind its length,
-// and events as they come. That a read failed is said on standard error here, where errno still tells
-// why, so a caller only stops.
+// What the programs read: bytes until there are enough, a sheet behind its length, and events as they
+// come. That a read failed is said on standard error here, where it is known why, so a caller only
+// stops.
 #![tactic(auto)]
 
-ghost use Rattle.std.specs.Prelude.{ℕ, ◌+◌, ◌*◌, ◌-◌, ◌%◌, ◌<◌, ◌≤◌, ◌≡◌, true, pos, length, get_or};
-ghost use Rattle.std.specs.Int.Signed.{lt_z};
-ghost use Rattle.io.specs.Counts.{clamp_len};
+ghost use Rattle.std.specs.Prelude.{ℕ, ◌+◌, ◌*◌, ◌-◌, ◌%◌, ◌<◌, ◌≤◌, ◌≡◌, true, false, length, get_or, take, slice_range, MatchResult};
+ghost use Rattle.std.specs.Io.KnownBytes.{Consumes, IsAtEnd};
 ghost use Rattle.program_input.specs.Input.{sheet_size, bytes_of_event, room_bytes};
+
+use std::io;
+use std::io::Read;
 
 // How many bytes came, and whether a read failed. Where none failed, fewer than there was room for are
 // the input's end.
@@ -16,35 +18,42 @@ pub struct Came {
     pub failed: bool,
 }
 
-// What a read into `room` answered: -1 is a failure and not the input's end, and brings nothing.
-fn answered(got: isize, room: &[u8]) -> Came
-    ensures { (result.count ≡ clamp_len got (length room.now)) × (result.failed ≡ lt_z got (pos 0)) }
+// What a read answered: an error is a failure and not the input's end, and brings nothing.
+fn answered(got: io::Result<usize>) -> Came
+    ensures { MatchResult got (λ n. (result.count ≡ n) × (result.failed ≡ false))
+        (λ _. (result.count ≡ 0) × (result.failed ≡ true)) }
 {
     Came {
-        count: io::count(got, room),
-        failed: got < 0,
+        count: got.unwrap_or(0),
+        failed: got.is_err(),
     }
 }
 
 // One read.
-fn read_some(fd: i32, room: &mut [u8]) -> Came
-    ensures { (result.count ≤ length room.old) × (result.failed ≡ true → result.count ≡ 0) }
+fn read_some<R: Read, E: Eprint>(from: &mut R, errors: &E, room: &mut [u8]) -> Came
+    ensures count { result.count ≤ length room.old }
+    ensures failed { result.failed ≡ true → result.count ≡ 0 }
+    ensures bytes { Consumes (R.remaining from.old) (R.remaining from.new) (take result.count room.new) }
+    ensures end { result.failed ≡ false → result.count ≡ 0 → 0 < length room.old
+        → IsAtEnd (R.remaining from.new) }
 {
-    let got = libc::read(fd, room);
-    let came = answered(got, room);
-    if came.failed {
-        os::fail(b"the input can't be read");
+    let got = from.read(room);
+    if let Err(why) = got {
+        let _ = errors.eprintln(format_args!("the input can't be read: {why}"));
     }
-    came
+    answered(got)
 }
 
 // Reads until the room is full, the input ends or a read fails.
-pub fn read_all(fd: i32, room: &mut [u8]) -> Came
-    ensures { (result.count ≤ length room.old) × (result.failed ≡ true → result.count < length room.old) }
+pub fn read_all<R: Read, E: Eprint>(from: &mut R, errors: &E, room: &mut [u8]) -> Came
+    ensures count { result.count ≤ length room.old }
+    ensures failed { result.failed ≡ true → result.count < length room.old }
+    ensures bytes { Consumes (R.remaining from.old) (R.remaining from.new) (take result.count room.new) }
+    ensures end { result.failed ≡ false → result.count < length room.old → IsAtEnd (R.remaining from.new) }
 {
     let mut count: usize = 0;
     while count < room.len() {
-        let came = read_some(fd, &mut room[count..]);
+        let came = read_some(from, errors, &mut room[count..]);
         if came.count == 0 {
             return Came {
                 count: count,
@@ -75,12 +84,12 @@ fn sheet_size(head: &[u8; 4], came: usize) -> usize
 }
 
 // Reads a sheet's length and the sheet. A sheet cut short is the bytes that came.
-pub fn read_sheet(fd: i32, sheet: &mut [u8]) -> Came
+pub fn read_sheet<R: Read, E: Eprint>(from: &mut R, errors: &E, sheet: &mut [u8]) -> Came
     requires { length sheet.old ≡ 65536 }
     ensures { result.count ≤ 65536 }
 {
     let mut head = [0u8; 4];
-    let first = read_all(fd, &mut head);
+    let first = read_all(from, errors, &mut head);
     if first.failed {
         return Came {
             count: 0,
@@ -88,7 +97,7 @@ pub fn read_sheet(fd: i32, sheet: &mut [u8]) -> Came
         };
     }
     let size = sheet_size(&head, first.count);
-    read_all(fd, &mut sheet[..size])
+    read_all(from, errors, &mut sheet[..size])
 }
 
 // How many events are read at once, at most, and the bytes of one and of so many.
@@ -111,12 +120,25 @@ fn room(left: u64) -> usize
 // Reads what is there, behind the `have` bytes of an event that isn't whole yet and not past `left`
 // events, and waits only where nothing is there. Gives how many bytes there are then: `have` again
 // where the input has ended or the read failed.
-pub fn read_more(fd: i32, events: &mut [u8], have: usize, left: u64) -> Came
+pub fn read_more<R: Read, E: Eprint>(
+    from: &mut R,
+    errors: &E,
+    events: &mut [u8],
+    have: usize,
+    left: u64,
+) -> Came
     requires { (length events.old ≡ room_bytes) × (have < bytes_of_event) × (0 < left) }
-    ensures { (have ≤ result.count) × (result.count ≤ room_bytes) × (result.count ≤ bytes_of_event * left) × (result.failed ≡ true → result.count ≡ have) }
+    ensures have { have ≤ result.count }
+    ensures fits { result.count ≤ room_bytes }
+    ensures left { result.count ≤ bytes_of_event * left }
+    ensures failed { result.failed ≡ true → result.count ≡ have }
+    ensures kept { take have events.new ≡ take have events.old }
+    ensures bytes { Consumes (R.remaining from.old) (R.remaining from.new)
+        (slice_range events.new have result.count) }
+    ensures end { result.failed ≡ false → result.count ≡ have → IsAtEnd (R.remaining from.new) }
 {
     let end = room(left);
-    let more = read_some(fd, &mut events[have..end]);
+    let more = read_some(from, errors, &mut events[have..end]);
     Came {
         count: have + more.count,
         failed: more.failed,
