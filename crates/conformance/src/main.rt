@@ -11,10 +11,12 @@
 ghost use Rattle.std.specs.Prelude.{◌+◌, ◌≤◌, ◌≡◌, length};
 ghost use Rattle.sheet_rules.specs.Check.{check_number};
 
-use libc::{STDERR_FILENO, STDIN_FILENO, STDOUT_FILENO};
 use machine::{Answer, Handed};
 use program_input::EVENT_BYTES;
 use sheet_rules::Checked;
+use std::env::FillError;
+use std::io::{Read, Write};
+use std::rt::Env;
 
 // The longest sheet, state and event that it takes.
 const SHEET: usize = 70000;
@@ -26,9 +28,9 @@ const EVENT: usize = 16;
 // What the next number is where the input has ended or can't be read: more than any kind or length.
 const NONE: usize = 4294967296;
 
-fn read_number() -> usize {
+fn read_number<R: Read, E: Eprint>(from: &mut R, errors: &E) -> usize {
     let mut bytes = [0u8; 4];
-    let came = program_input::read_all(STDIN_FILENO, &mut bytes);
+    let came = program_input::read_all(from, errors, &mut bytes);
     if came.count < 4 {
         return NONE;
     }
@@ -36,12 +38,12 @@ fn read_number() -> usize {
 }
 
 // Whether as many words came as there is room for.
-fn read_words(out: &mut [i32]) -> bool
+fn read_words<R: Read, E: Eprint>(from: &mut R, errors: &E, out: &mut [i32]) -> bool
     requires { length out.old ≤ 6000 }
 {
     let mut bytes = [0u8; 24000];
     let size = 4 * out.len();
-    let came = program_input::read_all(STDIN_FILENO, &mut bytes[..size]);
+    let came = program_input::read_all(from, errors, &mut bytes[..size]);
     if came.count < size {
         return false;
     }
@@ -50,15 +52,15 @@ fn read_words(out: &mut [i32]) -> bool
 }
 
 // The words that end a line. Each `print_` gives whether all was written.
-fn print_words(words: &[i32]) -> bool {
+fn print_words<W: Write, E: Eprint>(to: &mut W, errors: &E, words: &[i32]) -> bool {
     if words.len() == 0 {
-        return program_text::write_out(STDOUT_FILENO, b"-\n");
+        return program_text::write_out(to, errors, b"-\n");
     }
     let mut out = [0u8; 32768];
     let mut at = program_text::put_signed(&mut out, 0, words[0]);
     let mut i: usize = 1;
     while i < words.len() {
-        let place = program_text::with_room(STDOUT_FILENO, &out, at, 23);
+        let place = program_text::with_room(to, errors, &out, at, 23);
         if !place.written {
             return false;
         }
@@ -67,7 +69,7 @@ fn print_words(words: &[i32]) -> bool {
         i += 1;
     }
     let end = program_text::put(&mut out, at, b'\n');
-    program_text::write_out(STDOUT_FILENO, &out[..end])
+    program_text::write_out(to, errors, &out[..end])
 }
 
 fn put_handed(out: &mut [u8], at: usize, h: Handed) -> usize
@@ -80,27 +82,27 @@ fn put_handed(out: &mut [u8], at: usize, h: Handed) -> usize
     }
 }
 
-fn print_start(a: Answer, res: &[i32]) -> bool {
+fn print_start<W: Write, E: Eprint>(to: &mut W, errors: &E, a: Answer, res: &[i32]) -> bool {
     let mut out = [0u8; 42];
     let counts = program_listing::put_counts(&mut out, 0, a.number, a.steps);
     let end = program_text::put(&mut out, counts, b' ');
-    if !program_text::write_out(STDOUT_FILENO, &out[..end]) {
+    if !program_text::write_out(to, errors, &out[..end]) {
         return false;
     }
-    print_words(res)
+    print_words(to, errors, res)
 }
 
-fn print_event(a: Answer, res: &[i32]) -> bool {
+fn print_event<W: Write, E: Eprint>(to: &mut W, errors: &E, a: Answer, res: &[i32]) -> bool {
     let mut out = [0u8; 196];
     let counts = program_listing::put_counts(&mut out, 0, a.number, a.steps);
     let next = program_text::put(&mut out, counts, b' ');
     let h = a.handed;
     let handed = put_handed(&mut out, next, h);
     let end = program_text::put(&mut out, handed, b' ');
-    if !program_text::write_out(STDOUT_FILENO, &out[..end]) {
+    if !program_text::write_out(to, errors, &out[..end]) {
         return false;
     }
-    print_words(res)
+    print_words(to, errors, res)
 }
 
 // The paper's number.
@@ -115,55 +117,55 @@ fn answer(r: Checked) -> u64
 }
 
 // Each `replay_` gives whether the call was whole and its answer written.
-fn replay_check(sheet: &[u8]) -> bool {
+fn replay_check<W: Write, E: Eprint>(to: &mut W, errors: &E, sheet: &[u8]) -> bool {
     let mut out = [0u8; 21];
     let number = program_text::put_decimal(&mut out, 0, answer(checker::check(sheet)));
     let end = program_text::put(&mut out, number, b'\n');
-    program_text::write_out(STDOUT_FILENO, &out[..end])
+    program_text::write_out(to, errors, &out[..end])
 }
 
-fn replay_start(sheet: &[u8]) -> bool {
-    let length = read_number();
+fn replay_start<R: Read, W: Write, E: Eprint>(from: &mut R, to: &mut W, errors: &E, sheet: &[u8]) -> bool {
+    let length = read_number(from, errors);
     if STATE < length {
         return false;
     }
     let mut result = [777i32; STATE];
     let a = engine::start(sheet, &mut result[..length]);
-    print_start(a, &result[..length])
+    print_start(to, errors, a, &result[..length])
 }
 
-fn replay_event(sheet: &[u8]) -> bool {
-    let before = read_number();
+fn replay_event<R: Read, W: Write, E: Eprint>(from: &mut R, to: &mut W, errors: &E, sheet: &[u8]) -> bool {
+    let before = read_number(from, errors);
     if STATE < before {
         return false;
     }
     let mut old = [0i32; STATE];
-    if !read_words(&mut old[..before]) {
+    if !read_words(from, errors, &mut old[..before]) {
         return false;
     }
-    let length = read_number();
+    let length = read_number(from, errors);
     if STATE < length {
         return false;
     }
-    let count = read_number();
+    let count = read_number(from, errors);
     if EVENT < count {
         return false;
     }
     let mut ev = [0i32; EVENT];
-    if !read_words(&mut ev[..count]) {
+    if !read_words(from, errors, &mut ev[..count]) {
         return false;
     }
     let mut result = [777i32; STATE];
     let a = engine::event(sheet, &old[..before], &mut result[..length], &ev[..count]);
-    print_event(a, &result[..length])
+    print_event(to, errors, a, &result[..length])
 }
 
 // Reads past `count` events, and gives whether they came.
-fn skip_events(count: usize) -> bool {
+fn skip_events<R: Read, E: Eprint>(from: &mut R, errors: &E, count: usize) -> bool {
     let mut ev = [0u8; EVENT_BYTES];
     let mut left = count;
     while 0 < left {
-        let came = program_input::read_all(STDIN_FILENO, &mut ev);
+        let came = program_input::read_all(from, errors, &mut ev);
         if came.count < EVENT_BYTES {
             return false;
         }
@@ -173,62 +175,75 @@ fn skip_events(count: usize) -> bool {
 }
 
 // After a start other than 0 the events are still there.
-fn replay_run(sheet: &[u8]) -> bool {
-    let count = read_number();
+fn replay_run<R: Read, W: Write, E: Eprint>(from: &mut R, to: &mut W, errors: &E, sheet: &[u8]) -> bool {
+    let count = read_number(from, errors);
     if NONE <= count {
         return false;
     }
-    let played = program_runs::play(STDIN_FILENO, sheet, count as u64);
+    let played = program_runs::play(from, to, errors, sheet, count as u64);
     if !played.well {
         return false;
     }
     if played.number == 0 {
         return true;
     }
-    skip_events(count)
+    skip_events(from, errors, count)
 }
 
-fn replay(kind: usize, sheet: &[u8]) -> bool {
+fn replay<R: Read, W: Write, E: Eprint>(
+    from: &mut R,
+    to: &mut W,
+    errors: &E,
+    kind: usize,
+    sheet: &[u8],
+) -> bool {
     match kind {
-        0 => replay_check(sheet),
-        1 => replay_start(sheet),
-        2 => replay_event(sheet),
-        3 => replay_run(sheet),
+        0 => replay_check(to, errors, sheet),
+        1 => replay_start(from, to, errors, sheet),
+        2 => replay_event(from, to, errors, sheet),
+        3 => replay_run(from, to, errors, sheet),
         _ => false,
     }
 }
 
 // `sheet` is room for any sheet that it takes, cleared once for all calls.
-fn replay_next(sheet: &mut [u8]) -> bool
+fn replay_next<R: Read, W: Write, E: Eprint>(from: &mut R, to: &mut W, errors: &E, sheet: &mut [u8]) -> bool
     requires { length sheet.old ≡ 70000 }
 {
-    let kind = read_number();
+    let kind = read_number(from, errors);
     if NONE <= kind {
         return false;
     }
-    let size = read_number();
+    let size = read_number(from, errors);
     if SHEET < size {
         return false;
     }
-    let came = program_input::read_all(STDIN_FILENO, &mut sheet[..size]);
+    let came = program_input::read_all(from, errors, &mut sheet[..size]);
     if came.count < size {
         return false;
     }
-    replay(kind, &sheet[..size])
+    replay(from, to, errors, kind, &sheet[..size])
 }
 
-fn main() {
-    if 1 < os::arg_count() {
-        io::write_all(
-            STDERR_FILENO,
-            b"use: conformance\nReplays calls from standard input and writes each answer on a line of standard output.\n",
+// Whether there is an argument behind the program's own name.
+fn has_argument(rt: &HostRuntime) -> bool {
+    let mut first = [0u8; 1];
+    !matches!(rt.arg(1, &mut first), Err(FillError::NotPresent))
+}
+
+fn main(rt: HostRuntime) {
+    if has_argument(&rt) {
+        let _ = rt.eprintln(
+            "use: conformance\nReplays calls from standard input and writes each answer on a line of standard output.",
         );
         return;
     }
+    let mut from = rt.stdin();
+    let mut to = rt.stdout();
     let mut sheet = [0u8; SHEET];
     let mut left: u64 = 1000000000000;
     while 0 < left {
-        if !replay_next(&mut sheet) {
+        if !replay_next(&mut from, &mut to, &rt, &mut sheet) {
             return;
         }
         left -= 1;

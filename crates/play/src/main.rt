@@ -4,40 +4,55 @@
 // line that can't be written and where the input can't be read, and says so on standard error.
 #![tactic(auto)]
 
-use libc::{STDERR_FILENO, STDIN_FILENO};
+use std::env::FillError;
+use std::io;
+use std::rt::Env;
 
-fn say_use() {
-    io::write_all(
-        STDERR_FILENO,
-        b"use: play [FILE]\nPlays a sheet with its events, from FILE or standard input, and writes the listing to standard output.\n",
+// Linux's number of the error that a name is too long.
+const NAME_TOO_LONG: i32 = 36;
+
+// The most bytes of a file's name.
+const NAME: usize = 4096;
+
+fn say_use(rt: &HostRuntime) {
+    let _ = rt.eprintln(
+        "use: play [FILE]\nPlays a sheet with its events, from FILE or standard input, and writes the listing to standard output.",
     );
 }
 
-// An argument that is too long leaves its first bytes in `name`, so an option is told by its first.
-fn play_argument() {
-    let mut name = io::buffer();
-    let n = os::arg(1, &mut name);
-    let error = os::errno();
-    if name[0] == b'-' {
-        say_use();
-        return;
-    }
-    if error != 0 {
-        os::fail(b"the file's name");
-        return;
-    }
-    program_runs::desk_from(&name[..n]);
+// Whether there is an argument of this number; the program's own name is number 0.
+fn is_there(rt: &HostRuntime, i: usize) -> bool {
+    let mut first = [0u8; 1];
+    !matches!(rt.arg(i, &mut first), Err(FillError::NotPresent))
 }
 
-fn main() {
-    let count = os::arg_count();
-    if count < 2 {
-        program_runs::desk(STDIN_FILENO);
+// An argument that is too long leaves its first bytes in `name`, so an option is told by its first.
+fn play_argument(rt: &HostRuntime) {
+    let mut name = [0u8; NAME];
+    let got = rt.arg(1, &mut name);
+    if name[0] == b'-' {
+        say_use(rt);
         return;
     }
-    if 2 < count {
-        say_use();
+    match got {
+        Ok(n) => {
+            program_runs::desk_from(rt, &mut rt.stdout(), rt, &name[..n]);
+        }
+        Err(_) => {
+            let why = io::Error::from_raw_os_error(NAME_TOO_LONG);
+            let _ = rt.eprintln(format_args!("the file's name: {why}"));
+        }
+    }
+}
+
+fn main(rt: HostRuntime) {
+    if !is_there(&rt, 1) {
+        program_runs::desk(&mut rt.stdin(), &mut rt.stdout(), &rt);
         return;
     }
-    play_argument();
+    if is_there(&rt, 2) {
+        say_use(&rt);
+        return;
+    }
+    play_argument(&rt);
 }

@@ -2,23 +2,22 @@
 // it, and writes each file's name before its listing.
 #![tactic(auto)]
 
-use libc::STDOUT_FILENO;
-
-fn play_file(name: &[u8]) {
-    if program_text::write_out(STDOUT_FILENO, name) {
-        if program_text::write_out(STDOUT_FILENO, b"\n") {
-            program_runs::desk_from(name);
+fn play_file(rt: &HostRuntime, name: &[u8]) {
+    let mut to = rt.stdout();
+    if program_text::write_out(&mut to, rt, name) {
+        if program_text::write_out(&mut to, rt, b"\n") {
+            program_runs::desk_from(rt, &mut to, rt, name);
         }
     }
 }
 
-fn main() {
-    play_file(b"length_cut");
-    play_file(b"sheet_cut");
-    play_file(b"sheet_ends_early");
-    play_file(b"event_cut");
-    play_file(b"start_refused");
+fn main(rt: HostRuntime) {
+    play_file(&rt, b"length_cut");
+    play_file(&rt, b"sheet_cut");
+    play_file(&rt, b"sheet_ends_early");
+    play_file(&rt, b"event_cut");
+    play_file(&rt, b"start_refused");
     // no such file, and a folder, which can be opened and not read
-    play_file(b"missing");
-    play_file(b".");
+    play_file(&rt, b"missing");
+    play_file(&rt, b".");
 }

@@ -1,5 +1,5 @@
-// Plays events as they come from a descriptor and lists their answers on standard output. An event is
-// nine little-endian signed 32-bit words; an incomplete last event is ignored.
+// Plays events as they come from a reader and lists their answers to a writer. An event is nine
+// little-endian signed 32-bit words; an incomplete last event is ignored.
 #![tactic(auto)]
 
 ghost use Rattle.std.specs.Prelude.{◌≡◌, length};
@@ -7,11 +7,11 @@ ghost use Rattle.engine_cells.specs.Playing.{Playing};
 ghost use Rattle.program_events.specs.Room.{ListedRoom, RoundRoom};
 
 use engine_cells::CellLayout;
-use libc::STDOUT_FILENO;
 use machine::{ANSWER_WORDS, EVENT_WORDS};
 use program_input::{EVENT_BYTES, EVENT_ROOM, EVENTS};
 use program_listing::LONGEST_LINE;
 use sheet::Directory;
+use std::io::{Read, Write};
 
 // The room for the events that are taken at once, in words, for their answers in words and for text.
 const WORDS: usize = EVENTS * EVENT_WORDS;
@@ -22,7 +22,15 @@ const TEXT: usize = 24576;
 
 // Lists the answers to `count` events, both in words, before which `done` were listed, and gives
 // whether all were written out. It stops at the first that can't be.
-fn list_events(words: &[i32], answers: &[i32], count: usize, done: u64, out: &mut [u8]) -> bool
+fn list_events<W: Write, E: Eprint>(
+    to: &mut W,
+    errors: &E,
+    words: &[i32],
+    answers: &[i32],
+    count: usize,
+    done: u64,
+    out: &mut [u8],
+) -> bool
     requires { ListedRoom words.now answers.now count done out.old }
 {
     let mut at: usize = 0;
@@ -31,19 +39,21 @@ fn list_events(words: &[i32], answers: &[i32], count: usize, done: u64, out: &mu
         let kind = words[EVENT_WORDS * i];
         let a = engine_answers::answer_at(answers, ANSWER_WORDS * i);
         let end = program_listing::put_event(out, at, done + i as u64 + 1, kind, a);
-        let next = program_text::with_room(STDOUT_FILENO, out, end, LONGEST_LINE);
+        let next = program_text::with_room(to, errors, out, end, LONGEST_LINE);
         if !next.written {
             return false;
         }
         at = next.at;
         i += 1;
     }
-    program_text::write_out(STDOUT_FILENO, &out[..at])
+    program_text::write_out(to, errors, &out[..at])
 }
 
 // Plays `count` events, before which `done` were played, lists their answers and gives whether these
 // were written. `words` and `answers` are room for a thousand events and their answers in words.
-fn round(
+fn round<W: Write, E: Eprint>(
+    to: &mut W,
+    errors: &E,
     sheet: &[u8],
     directory: &Directory,
     cells: &CellLayout,
@@ -71,14 +81,16 @@ fn round(
         spare,
         &mut answers[..m],
     );
-    list_events(words, answers, count, done, out)
+    list_events(to, errors, words, answers, count, done, out)
 }
 
 // Plays events as they come, `most` at most: those that came whole are played and listed before more
 // are waited for. Gives whether every answer was written and no read failed: it stops where one isn't
 // or does.
-pub fn play_events(
-    fd: i32,
+pub fn play_events<R: Read, W: Write, E: Eprint>(
+    from: &mut R,
+    to: &mut W,
+    errors: &E,
     sheet: &[u8],
     directory: &Directory,
     cells: &CellLayout,
@@ -95,13 +107,15 @@ pub fn play_events(
     let mut have: usize = 0;
     let mut done: u64 = 0;
     while done < most {
-        let more = program_input::read_more(fd, &mut events, have, most - done);
+        let more = program_input::read_more(from, errors, &mut events, have, most - done);
         let came = more.count;
         if came == have {
             return !more.failed;
         }
         let count = came / EVENT_BYTES;
         let written = round(
+            to,
+            errors,
             sheet,
             directory,
             cells,

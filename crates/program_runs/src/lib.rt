@@ -1,4 +1,4 @@
-// Plays a sheet with events from a descriptor and writes the listing to standard output.
+// Plays a sheet with events from a reader and writes the listing to a writer.
 #![tactic(auto)]
 
 ghost use Rattle.std.specs.Prelude.{◌≡◌, length};
@@ -10,9 +10,11 @@ ghost use Rattle.program_runs.specs.Start.{StartAnswers};
 
 use engine_cells::{CellLayout, LAYOUT};
 use engine_store::LONGEST;
-use libc::STDOUT_FILENO;
 use sheet::Directory;
 use sheet_rules::Checked;
+use std::io::{Read, Write};
+use std::rt::Files;
+use std::{fs, str};
 
 // Start's answer, and whether every line was written and no read failed.
 #[derive(Clone, Copy)]
@@ -21,25 +23,27 @@ pub struct RunEnd {
     pub well: bool,
 }
 
-fn print_start(number: u8, steps: u32) -> bool {
+fn print_start<W: Write, E: Eprint>(to: &mut W, errors: &E, number: u8, steps: u32) -> bool {
     let mut out = [0u8; 48];
     let at = program_listing::put_start(&mut out, 0, number, steps);
-    program_text::write_out(STDOUT_FILENO, &out[..at])
+    program_text::write_out(to, errors, &out[..at])
 }
 
 // A sheet that doesn't pass is refused in no step.
-fn refused(number: u8) -> RunEnd
+fn refused<W: Write, E: Eprint>(to: &mut W, errors: &E, number: u8) -> RunEnd
     ensures { result.number ≡ number }
 {
-    let written = print_start(number, 0);
+    let written = print_start(to, errors, number, 0);
     RunEnd {
         number: number,
         well: written,
     }
 }
 
-fn play_states(
-    fd: i32,
+fn play_states<R: Read, W: Write, E: Eprint>(
+    from: &mut R,
+    to: &mut W,
+    errors: &E,
     sheet: &[u8],
     directory: &Directory,
     cells: &CellLayout,
@@ -51,10 +55,12 @@ fn play_states(
     ensures { StartAnswers sheet.now result.number }
 {
     let a = engine::begin(sheet, directory, cells, st);
-    let mut well = print_start(a.number, a.steps);
+    let mut well = print_start(to, errors, a.number, a.steps);
     if well {
         if a.number == 0 {
-            well = program_events::play_events(fd, sheet, directory, cells, st, spare, most);
+            well = program_events::play_events(
+                from, to, errors, sheet, directory, cells, st, spare, most,
+            );
         }
     }
     RunEnd {
@@ -64,7 +70,14 @@ fn play_states(
 }
 
 // There is room for the longest state.
-fn play_passed(fd: i32, sheet: &[u8], directory: &Directory, most: u64) -> RunEnd
+fn play_passed<R: Read, W: Write, E: Eprint>(
+    from: &mut R,
+    to: &mut W,
+    errors: &E,
+    sheet: &[u8],
+    directory: &Directory,
+    most: u64,
+) -> RunEnd
     requires { (directory.now ≡ directory_of sheet.now) × (check_of sheet.now ≡ Passed) }
     ensures { StartAnswers sheet.now result.number }
 {
@@ -74,7 +87,9 @@ fn play_passed(fd: i32, sheet: &[u8], directory: &Directory, most: u64) -> RunEn
     let count = engine_cells::fill(sheet, directory, &mut cells);
     let n = engine_store::state_length(count);
     play_states(
-        fd,
+        from,
+        to,
+        errors,
         sheet,
         directory,
         &cells,
@@ -84,17 +99,23 @@ fn play_passed(fd: i32, sheet: &[u8], directory: &Directory, most: u64) -> RunEn
     )
 }
 
-// Plays a sheet with at most `most` events from a descriptor, and gives start's answer: after one
+// Plays a sheet with at most `most` events from a reader, and gives start's answer: after one
 // other than 0 no event is read. What follows the events stays unread. After a line that can't be
 // written or a read that fails nothing is played, read or written any more.
-pub fn play(fd: i32, sheet: &[u8], most: u64) -> RunEnd
+pub fn play<R: Read, W: Write, E: Eprint>(
+    from: &mut R,
+    to: &mut W,
+    errors: &E,
+    sheet: &[u8],
+    most: u64,
+) -> RunEnd
     ensures { StartAnswers sheet.now result.number }
 {
     let directory = sheet_reader::directory(sheet);
     match checker::check_opened(sheet, &directory) {
-        Checked::Shape => refused(1),
-        Checked::Static => refused(2),
-        Checked::Passed => play_passed(fd, sheet, &directory, most),
+        Checked::Shape => refused(to, errors, 1),
+        Checked::Static => refused(to, errors, 2),
+        Checked::Passed => play_passed(from, to, errors, sheet, &directory, most),
     }
 }
 
@@ -103,25 +124,33 @@ const MOST: u64 = 18446744073709550000;
 
 // Reads a sheet's length as a 32-bit little-endian number and the sheet, plays it with the events
 // behind it, and gives whether every line was written and no read failed.
-pub fn desk(fd: i32) -> bool {
+pub fn desk<R: Read, W: Write, E: Eprint>(from: &mut R, to: &mut W, errors: &E) -> bool {
     let mut sheet = [0u8; 65536];
-    let came = program_input::read_sheet(fd, &mut sheet);
+    let came = program_input::read_sheet(from, errors, &mut sheet);
     if came.failed {
         return false;
     }
     let size = came.count;
-    let played = play(fd, &sheet[..size], MOST);
+    let played = play(from, to, errors, &sheet[..size], MOST);
     played.well
 }
 
-// The same from a file. One that can't be opened is said on standard error, and nothing is played.
-pub fn desk_from(name: &[u8]) -> bool {
-    let fd = os::open_read(name);
-    if fd < 0 {
-        os::fail(name);
-        return false;
+// The same from a file. One that can't be opened is said on standard error, and nothing is played; nor
+// is one whose name isn't UTF-8.
+pub fn desk_from<F: Files, W: Write, E: Eprint>(files: &F, to: &mut W, errors: &E, name: &[u8]) -> bool {
+    let path = match str::from_utf8(name) {
+        Ok(path) => path,
+        Err(_) => {
+            let shown = name.escape_ascii();
+            let _ = errors.eprintln(format_args!("{shown}: the name isn't UTF-8"));
+            return false;
+        }
+    };
+    match fs::open(files, path) {
+        Ok(mut file) => desk(&mut file, to, errors),
+        Err(why) => {
+            let _ = errors.eprintln(format_args!("{path}: {why}"));
+            false
+        }
     }
-    let well = desk(fd);
-    libc::close(fd);
-    well
 }
