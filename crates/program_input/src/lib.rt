@@ -3,9 +3,9 @@
 // stops.
 #![tactic(auto)]
 
-ghost use Rattle.std.specs.Prelude.{ℕ, ◌+◌, ◌*◌, ◌-◌, ◌%◌, ◌<◌, ◌≤◌, ◌≡◌, true, false, length, get_or, take, slice_range, MatchResult};
+ghost use Rattle.std.specs.Prelude.{ℕ, ◌+◌, ◌*◌, ◌-◌, ◌%◌, ◌<◌, ◌≤◌, ◌≡◌, ◌++◌, true, false, length, get_or, take, slice_range, MatchResult, IfSome, Some};
 ghost use Rattle.std.specs.Io.KnownBytes.{Consumes, IsAtEnd};
-ghost use Rattle.program_input.specs.Input.{sheet_size, bytes_of_event, room_bytes};
+ghost use Rattle.program_input.specs.Input.{sheet_size, sheet_in, bytes_of_event, room_bytes};
 
 use std::io;
 use std::io::Read;
@@ -86,7 +86,10 @@ fn sheet_size(head: &[u8; 4], came: usize) -> usize
 // Reads a sheet's length and the sheet. A sheet cut short is the bytes that came.
 pub fn read_sheet<R: Read, E: Eprint>(from: &mut R, errors: &E, sheet: &mut [u8]) -> Came
     requires { length sheet.old ≡ 65536 }
-    ensures { result.count ≤ 65536 }
+    ensures fits { result.count ≤ 65536 }
+    ensures bytes { result.failed ≡ false → IfSome (R.remaining from.old)
+        (λ xs. (take result.count sheet.new ≡ sheet_in xs)
+        × Consumes (Some xs) (R.remaining from.new) (take 4 xs ++ sheet_in xs)) }
 {
     let mut head = [0u8; 4];
     let first = read_all(from, errors, &mut head);
