@@ -124,7 +124,12 @@ fn replay_check<W: Write, E: Eprint>(to: &mut W, errors: &E, sheet: &[u8]) -> bo
     program_text::write_out(to, errors, &out[..end])
 }
 
-fn replay_start<R: Read, W: Write, E: Eprint>(from: &mut R, to: &mut W, errors: &E, sheet: &[u8]) -> bool {
+fn replay_start<R: Read, W: Write, E: Eprint>(
+    from: &mut R,
+    to: &mut W,
+    errors: &E,
+    sheet: &[u8],
+) -> bool {
     let length = read_number(from, errors);
     if STATE < length {
         return false;
@@ -134,7 +139,12 @@ fn replay_start<R: Read, W: Write, E: Eprint>(from: &mut R, to: &mut W, errors: 
     print_start(to, errors, a, &result[..length])
 }
 
-fn replay_event<R: Read, W: Write, E: Eprint>(from: &mut R, to: &mut W, errors: &E, sheet: &[u8]) -> bool {
+fn replay_event<R: Read, W: Write, E: Eprint>(
+    from: &mut R,
+    to: &mut W,
+    errors: &E,
+    sheet: &[u8],
+) -> bool {
     let before = read_number(from, errors);
     if STATE < before {
         return false;
@@ -175,7 +185,12 @@ fn skip_events<R: Read, E: Eprint>(from: &mut R, errors: &E, count: usize) -> bo
 }
 
 // After a start other than 0 the events are still there.
-fn replay_run<R: Read, W: Write, E: Eprint>(from: &mut R, to: &mut W, errors: &E, sheet: &[u8]) -> bool {
+fn replay_run<R: Read, W: Write, E: Eprint>(
+    from: &mut R,
+    to: &mut W,
+    errors: &E,
+    sheet: &[u8],
+) -> bool {
     let count = read_number(from, errors);
     if NONE <= count {
         return false;
@@ -207,7 +222,12 @@ fn replay<R: Read, W: Write, E: Eprint>(
 }
 
 // `sheet` is room for any sheet that it takes, cleared once for all calls.
-fn replay_next<R: Read, W: Write, E: Eprint>(from: &mut R, to: &mut W, errors: &E, sheet: &mut [u8]) -> bool
+fn replay_next<R: Read, W: Write, E: Eprint>(
+    from: &mut R,
+    to: &mut W,
+    errors: &E,
+    sheet: &mut [u8],
+) -> bool
     requires { length sheet.old ≡ 70000 }
 {
     let kind = read_number(from, errors);

@@ -137,7 +137,12 @@ pub fn desk<R: Read, W: Write, E: Eprint>(from: &mut R, to: &mut W, errors: &E) 
 
 // The same from a file. One that can't be opened is said on standard error, and nothing is played; nor
 // is one whose name isn't UTF-8.
-pub fn desk_from<F: Files, W: Write, E: Eprint>(files: &F, to: &mut W, errors: &E, name: &[u8]) -> bool {
+pub fn desk_from<F: Files, W: Write, E: Eprint>(
+    files: &F,
+    to: &mut W,
+    errors: &E,
+    name: &[u8],
+) -> bool {
     let path = match str::from_utf8(name) {
         Ok(path) => path,
         Err(_) => {
