@@ -17,6 +17,10 @@ import sys
 
 # What no rule turns: a path of imports that were gathered into one, and clauses of today's form.
 BY_HAND = {
+    "engine/old_length": {
+        "    if !engine_lengths::is_state(count, result.len()) {":
+            "    if !engine_lengths::is_state(count, res.len()) {",
+    },
     "engine_ints/divisor_sign": {
         "use lib.IntN.{ℤ, _+ℤ_, _-ℤ_, _*ℤ_}": "use Rattle.std.specs.Prelude.{ℕ, ℤ, ◌+ℤ◌, ◌-ℤ◌, ◌*ℤ◌}",
         "use lib.IntN.{ℤ, negℤ, _+ℤ_, _-ℤ_, _*ℤ_}": "use Rattle.std.specs.Prelude.{ℕ, ℤ, neg_ℤ, ◌+ℤ◌, ◌-ℤ◌, ◌*ℤ◌}",
