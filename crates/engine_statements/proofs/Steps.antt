@@ -23,7 +23,7 @@ use Rattle.machine.specs.Eval.{Context, eval_of}
 use Rattle.machine.specs.Run.{World, world, go_on, then_run, with_record, run_in, run_of}
 use Rattle.sheet_rules.proofs.Forms.{form-literal, form-binary, form-clock, form-unknown}
 use Rattle.machine_equations.proofs.Left.{Within, RanWithin, eval_left, run-left}
-use Rattle.machine_equations.proofs.Run.{run_visit}
+use Rattle.machine_equations.proofs.Run.{run-visit}
 use Rattle.engine_ints.specs.declared.Work.{Work}
 use Rattle.engine_ints.specs.declared.Work.TheVariants as work
 use Rattle.engine_ints.specs.Work.{work_of}
@@ -93,7 +93,7 @@ module _ (s w : List ℕ) (st lo : List ℤ) (ready : Ready s w st lo) (n : ℕ)
     -- "everything unknown", and expressions
     pub other_stuck : (depth l : ℕ) → (32 ≤ r.f0 → r.f0 ≤ 44 → ⊥) → world Stuck st lo ≡ run_of s depth x n (suc l) st lo
     unfolding with_record run_in form_of look_up
-    other_stuck depth l h = sym (run_visit s depth x n l st lo ∙ ap (λ f. with_record f st lo (λ r. run_in s x (run_of s) depth n r l st lo (form_of (operator r)))) there ∙ form-stuck)
+    other_stuck depth l h = sym (run-visit s depth x n l st lo ∙ ap (λ f. with_record f st lo (λ r. run_in s x (run_of s) depth n r l st lo (form_of (operator r)))) there ∙ form-stuck)
       where
         stuck : (F : Form) → form_of r.f0 ≡ F → run_in s x (run_of s) depth n r l st lo F ≡ world Stuck st lo → run_in s x (run_of s) depth n r l st lo (form_of r.f0) ≡ world Stuck st lo
         stuck F q e = ap (run_in s x (run_of s) depth n r l st lo) q ∙ e
