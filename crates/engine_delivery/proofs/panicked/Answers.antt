@@ -1,0 +1,22 @@
+use mathlib.Core.Path.{sym, ◌∙◌}
+use Rattle.machine_events.proofs.Called.{has_chart}
+use Rattle.engine_delivery.proofs.panicked.Goals as goal
+
+pub chart_number-n-requires : goal.chart_number-n-requires
+chart_number-n-requires c = (c.requires.0.playing.directory, c.requires.0.playing.passed, c.requires.0.playing.cells, c.requires.1)
+
+pub read-requires : goal.read-requires
+read-requires c = c.requires.0.playing.directory
+
+pub never_taken-requires : goal.never_taken-requires
+never_taken-requires c = has_chart _ c.requires.0.playing.passed _ c.requires.1 (sym c.chart_number-n.ensures ∙ sym c.read.ensures ∙ c.in_default.is)
+
+pub returns-in_default : goal.returns-in_default
+returns-in_default c = absurd c.never_taken.ensures
+
+pub run_panic_body-requires : goal.run_panic_body-requires
+run_panic_body-requires c = let there = sym c.read.ensures ∙ c.in-Present.is in
+    (c.requires.0, record { there = there; bound = sym c.chart_number-n.ensures ∙ there })
+
+pub returns : goal.returns
+returns c = c.run_panic_body.ensures
