@@ -1,0 +1,29 @@
+use mathlib.Core.Path.{sym, ap, ◌∙◌}
+use Rattle.sheet.proofs.All.{true_false}
+use Rattle.machine_events.specs.Sought.{receiver_bound}
+use Rattle.machine_events.proofs.Apart.{receiver-bound}
+use Rattle.engine_queue.proofs.Laws.{laid}
+use Rattle.engine.proofs.Calls.{next_gives_lem}
+use Rattle.engine.proofs.next.Goals as goal
+use Rattle.engine.proofs.next.Goals.{then-may_undo, else-may_undo}
+
+pub sought-j-requires : goal.sought-j-requires
+sought-j-requires c = laid _ _ c.requires.0.state
+
+pub may_undo-requires : goal.may_undo-requires
+may_undo-requires c = (c.requires.0, c.sought-j.ensures _ c.requires.0.state.whole)
+
+pub happened-requires : goal.happened-requires
+happened-requires c = record {
+  playing = c.requires.0;
+  bound = ap (receiver_bound c.args.sheet.now) c.event_of-e.ensures ∙ receiver-bound c.args.sheet.now c.args.ev.now;
+  sought = c.sought-j.ensures _ c.requires.0.state.whole;
+  long = c.if-may_undo.auto.spare ∙ c.requires.1;
+  copied = λ u. elim c.if-may_undo.branch [
+    | then-may_undo w ↦ w.spare-is ∙ w.copy.ensures
+    | else-may_undo w ↦ absurd (true_false u (sym c.may_undo.ensures ∙ w.if-may_undo.false))
+  ];
+}
+
+pub returns : goal.returns
+returns c = next_gives_lem _ _ _ _ _ c.requires.0 _ c.event_of-e.ensures _ _ c.happened.ensures
