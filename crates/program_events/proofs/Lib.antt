@@ -1,1 +1,2 @@
-pub mod Room
+mod Room
+mod Pending

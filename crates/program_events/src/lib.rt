@@ -2,9 +2,11 @@
 // little-endian signed 32-bit words; an incomplete last event is ignored.
 #![tactic(auto)]
 
-ghost use Rattle.std.specs.Prelude.{◌≡◌, length};
+ghost use Rattle.std.specs.Prelude.{◌≡◌, true, length};
+ghost use Rattle.std.specs.Io.KnownBytes.{Appends};
 ghost use Rattle.engine_cells.specs.Playing.{Playing};
 ghost use Rattle.program_events.specs.Room.{ListedRoom, RoundRoom};
+ghost use Rattle.program_events.specs.Lines.{lines_of};
 
 use engine_cells::CellLayout;
 use machine::{ANSWER_WORDS, EVENT_WORDS};
@@ -32,6 +34,8 @@ fn list_events<W: Write, E: Eprint>(
     out: &mut [u8],
 ) -> bool
     requires { ListedRoom words.now answers.now count done out.old }
+    ensures { result ≡ true
+        → Appends (W.contents to.old) (W.contents to.new) (lines_of words.now answers.now done count) }
 {
     let mut at: usize = 0;
     let mut i: usize = 0;
@@ -66,7 +70,8 @@ fn round<W: Write, E: Eprint>(
     done: u64,
     out: &mut [u8],
 ) -> bool
-    requires { RoundRoom sheet.now directory.now cells.now st.old spare.old events.now count words.old answers.old done out.old }
+    requires { RoundRoom sheet.now directory.now cells.now st.old spare.old events.now count words.old answers.old
+        done out.old }
     ensures { Playing sheet.now directory.now cells.now st.new }
 {
     let n = EVENT_WORDS * count;
