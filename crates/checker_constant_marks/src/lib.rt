@@ -59,7 +59,7 @@ pub fn mark_binding(
     ensures { (k + result ≡ gone_to sheet.now k) × (result ≤ 2) × Marked count 0 marks.old marks.new (λ n. constant_uses sheet.now n k) }
 {
     let Found::Present(b) = sheet_reader::read(sheet, directory, BINDINGS, k) else {
-        sheet_branches::never_taken();
+        sheet_branches::never_taken(true);
         return 0;
     };
     let total = sheet_fields::field_at(sheet, directory, CHARTS, b.f0 as usize, 1);

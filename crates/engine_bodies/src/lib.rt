@@ -30,7 +30,7 @@ pub fn run_body(
     let i = e - sheet_fields::field_at(sheet, directory, HEAD, 0, 1);
     let k = cells[ROW * i + FIRST_RECORD];
     let Found::Present(body) = sheet_reader::read(sheet, directory, BODIES, number) else {
-        sheet_branches::never_taken();
+        sheet_branches::never_taken(true);
         return Ran::Stuck;
     };
     let context = engine_context::context(cells, e, i, k, n, c.f4 as usize, number, c.f3 as usize);
@@ -69,7 +69,7 @@ pub fn event_body(
         Ran::Done { left } => engine_answering::answer(old, st, 0, limit - left),
         Ran::Refused { number, left } => engine_answering::answer(old, st, number, limit - left),
         Ran::Stuck => {
-            sheet_branches::never_taken();
+            sheet_branches::never_taken(true);
             engine_answering::answer(old, st, 4, 0)
         }
     }

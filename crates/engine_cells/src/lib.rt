@@ -92,7 +92,7 @@ pub fn fill(sheet: &[u8], directory: &Directory, cells: &mut CellLayout) -> usiz
     let mut i: usize = 0;
     while i < count {
         let Found::Present(c) = sheet_bindings::chart_bound(sheet, directory, k) else {
-            sheet_branches::never_taken();
+            sheet_branches::never_taken(true);
             return cell;
         };
         cell = fill_row(sheet, directory, cells, c, ROW * i, cell);

@@ -82,7 +82,7 @@ pub fn slice(sheet: &[u8], directory: &Directory, cells: &CellLayout, st: &mut [
     let mut i: usize = 0;
     while i < count {
         let Found::Present(c) = engine_cells::chart_of(sheet, directory, cells, first + i) else {
-            sheet_branches::never_taken();
+            sheet_branches::never_taken(true);
             return 4;
         };
         let n = slice_cells(sheet, directory, cells, st, first + i, c, ROW * i);

@@ -107,7 +107,7 @@ pub fn default_state(sheet: &[u8], directory: &Directory, st: &mut [i32])
     let mut i: usize = 0;
     while i < count {
         let Found::Present(c) = sheet_bindings::chart_bound(sheet, directory, k) else {
-            sheet_branches::never_taken();
+            sheet_branches::never_taken(true);
             return;
         };
         cell = default_cells(sheet, directory, st, c, cell);

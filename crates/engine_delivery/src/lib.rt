@@ -60,7 +60,7 @@ pub fn panicked(
 {
     let n = engine_cells::chart_number(sheet, directory, cells, e);
     let Found::Present(c) = sheet_reader::read(sheet, directory, CHARTS, n) else {
-        sheet_branches::never_taken();
+        sheet_branches::never_taken(true);
         return answered(4, 0);
     };
     run_panic_body(sheet, directory, cells, old, st, e, n, c)
@@ -81,7 +81,7 @@ fn deliver_to_element(
     let e = engine_valid_words::number(t.receiver);
     let n = engine_cells::chart_number(sheet, directory, cells, e);
     let Found::Present(c) = sheet_reader::read(sheet, directory, CHARTS, n) else {
-        sheet_branches::never_taken();
+        sheet_branches::never_taken(true);
         return answered(4, 0);
     };
     let j = engine_finders::reaction_on(
@@ -155,7 +155,7 @@ pub fn reacts(
     let e = engine_valid_words::number(t.receiver);
     let n = engine_cells::chart_number(sheet, directory, cells, e);
     let Found::Present(c) = sheet_reader::read(sheet, directory, CHARTS, n) else {
-        sheet_branches::never_taken();
+        sheet_branches::never_taken(true);
         return answered(4, 0);
     };
     let j = engine_finders::reaction_to(sheet, directory, c, engine_valid_words::number(t.name));

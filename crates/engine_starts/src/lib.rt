@@ -27,7 +27,7 @@ fn initial(
 {
     let n = engine_cells::chart_number(sheet, directory, cells, e);
     let Found::Present(c) = sheet_reader::read(sheet, directory, CHARTS, n) else {
-        sheet_branches::never_taken();
+        sheet_branches::never_taken(true);
         return Ran::Stuck;
     };
     let j = engine_finders::with_role(sheet, directory, c, 0);
@@ -80,7 +80,7 @@ pub fn from_defaults(
                 return refused(st, number, steps + (most - left));
             }
             Ran::Stuck => {
-                sheet_branches::never_taken();
+                sheet_branches::never_taken(true);
                 return answered(4, 0);
             }
         }

@@ -38,13 +38,13 @@ returns-then-not-constant_fits c = let b-is = sym c.read.ensures ∙ c.in-Presen
 
 pub loop-j-preserved : goal.loop-j-preserved
 loop-j-preserved c = let b-is = sym c.read.ensures ∙ c.in-Present.is in (
-      omega arith,
-      c.loop-j.invariant.1,
-      all_more c.loop-j.j _ c.loop-j.invariant.2
-          (constant_present _ _ _ _ c.constant_record.ensures (constant_shape _) _ _ _ _ b-is c.constant_field.ensures
-          c.field-n.ensures.0 c.constant_fits.ensures
-          ∙ c.if-not-constant_fits.false),
-    )
+  omega arith,
+  c.loop-j.invariant.1,
+  all_more c.loop-j.j _ c.loop-j.invariant.2
+      (constant_present _ _ _ _ c.constant_record.ensures (constant_shape _) _ _ _ _ b-is c.constant_field.ensures
+      c.field-n.ensures.0 c.constant_fits.ensures
+      ∙ c.if-not-constant_fits.false),
+)
 
 pub returns : goal.returns
 unfolding constants_shape

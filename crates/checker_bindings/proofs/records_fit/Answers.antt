@@ -11,6 +11,7 @@ use Rattle.checker_bindings.proofs.records_fit.Goals as goal
 -- whether there is a second record
 one : (n : ℕ) (b : Bool) → n ≤ 7 → true ≡ elim (leb n 7) as (λ x. Bool) [ true ↦ true | false ↦ b ]
 one n b l = rw (le-leb n 7 l) refl
+
 two : (n : ℕ) (x b : Bool) → 7 < n → x ≡ b → x ≡ elim (leb n 7) as (λ x. Bool) [ true ↦ true | false ↦ b ]
 two n x b l e = rw (lt-leb n 7 l) e
 

@@ -18,6 +18,7 @@ use Rattle.checker_bodies.proofs.reaction_fits.Goals as goal
 not-reaction : (n : ℕ) → (n ≡ 2 → ⊥) → (n ≡ 3 → ⊥) → is_reaction n ≡ false
 unfolding is_reaction
 not-reaction n a b = elim (dec_lt n 2) [ yes l ↦ false-and (leb 2 n) (leb n 3) (lt-leb 2 n l) | no g ↦ and-false (leb 2 n) (leb n 3) (lt-leb n 3 (omega arith)) ]
+
 module _ (s : List ℕ) (r : Record) where
   external : (x : ℕ) → r.f0 ≡ 2 → x ≡ field_at s 0 0 2 → reaction_shape s r ≡ ltb r.f1 x and ltb r.f2 (count_of s 3)
   unfolding reaction_shape is_reaction ◌and◌ field_at field_of ports_of

@@ -11,6 +11,7 @@ use Rattle.checker_charts.proofs.bodies_up_to.Goals as goal
 first-chart : (s : List ℕ) (k : ℕ) → k ≡ 0 → 0 ≡ bodies_up_to s k
 unfolding bodies_up_to
 first-chart s k e = rw e refl
+
 later-chart : (s : List ℕ) (k : ℕ) → (k ≡ 0 → ⊥) → bodies_up_to s k ≡ number_or0 (record_of s 4 (k - 1)) (λ c. c.f4 + c.f5)
 unfolding bodies_up_to
 later-chart s zero h = absurd (h refl)

@@ -8,12 +8,10 @@ use Rattle.checker_pass.proofs.Added.{few_added, many_added}
 use Rattle.checker_constant_marks.proofs.mark_binding.Goals as goal
 
 pub never_taken-requires : goal.never_taken-requires
-never_taken-requires c = let there = record_present _ 7 _ c.requires.k_bound in
+never_taken-requires c = absurd
+    (let there = record_present _ 7 _ c.requires.k_bound in
     let none = sym c.read.ensures ∙ c.in_default.is in
-    true_false (holds-present _ _ (λ b. true) there) (holds_absent _ (λ b. true) none)
-
-pub returns-in_default : goal.returns-in_default
-returns-in_default c = absurd c.never_taken.ensures
+    true_false (holds-present _ _ (λ b. true) there) (holds_absent _ (λ b. true) none))
 
 pub mark_constants-requires : goal.mark_constants-requires
 mark_constants-requires c = record { count_in_bounds = c.requires.count_in_bounds; n_bound = c.field_at-total.ensures.1 }

@@ -48,13 +48,13 @@ returns-then-not-constant_static c = let b-is = sym c.read.ensures ∙ c.in-Pres
 
 pub loop-j-preserved : goal.loop-j-preserved
 loop-j-preserved c = let b-is = sym c.read.ensures ∙ c.in-Present.is in (
-      omega arith,
-      c.loop-j.invariant.1,
-      all_more c.loop-j.j _ c.loop-j.invariant.2
-          (of-type _ _ _ _ _ _ _ _ _ _ c.constant_record.ensures b-is c.constant_field.ensures c.field-n.ensures.0 c.type_at-t.ensures
-          c.constant_static.ensures
-          ∙ c.if-not-constant_static.false),
-    )
+  omega arith,
+  c.loop-j.invariant.1,
+  all_more c.loop-j.j _ c.loop-j.invariant.2
+      (of-type _ _ _ _ _ _ _ _ _ _ c.constant_record.ensures b-is c.constant_field.ensures c.field-n.ensures.0 c.type_at-t.ensures
+      c.constant_static.ensures
+      ∙ c.if-not-constant_static.false),
+)
 
 pub returns : goal.returns
 unfolding constants_static

@@ -13,6 +13,7 @@ use Rattle.checker_declarations.proofs.type_exists.Goals as goal
 basic : (s : List ℕ) (t : ℕ) → t ≤ 6 → type_exists s t ≡ true
 unfolding type_exists
 basic s t h = rw (type_exists, le-leb t 6 h) refl
+
 seven : (s : List ℕ) (t : ℕ) → 6 < t → t < 8 → type_exists s t ≡ false
 unfolding type_exists
 seven s t h k = rw (type_exists, lt-leb t 6 h) (false-and _ _ (lt-leb 8 t k))

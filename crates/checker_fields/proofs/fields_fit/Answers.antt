@@ -22,6 +22,7 @@ module _ (op : ℕ) where
 
   unknown-high : 45 ≤ op → form_of op ≡ unknown
   unknown-high h = form-unknown op (λ a b. omega arith) (λ a b. omega arith)
+
 module _ (s : List ℕ) (c b r : Record) (x : Bool) where
   of-form : (f : Form) → form_of r.f0 ≡ f → x ≡ fields_shape s c b r f → x ≡ fields_shape s c b r (form_of r.f0)
   of-form f e p = p ∙ sym (ap (fields_shape s c b r) e)

@@ -27,11 +27,11 @@ overflow_add-gone c = omega (arith, c.loop-j.invariant.1, c.mark_root-gone.ensur
 
 pub loop-j-preserved : goal.loop-j-preserved
 loop-j-preserved c = let args = c.args in (
-      omega arith,
-      omega (arith, c.loop-j.invariant.1, c.mark_root-gone.ensures.1),
-      count_more_lem _ c.loop-j.j _ _ c.loop-j.invariant.2 c.mark_root-gone.ensures.0,
-      loop_more _ _ _ _ _ (root_turn args.sheet.now _) c.loop-j.j c.loop-j.invariant.3 c.mark_root-gone.ensures.2,
-    )
+  omega arith,
+  omega (arith, c.loop-j.invariant.1, c.mark_root-gone.ensures.1),
+  count_more_lem _ c.loop-j.j _ _ c.loop-j.invariant.2 c.mark_root-gone.ensures.0,
+  loop_more _ _ _ _ _ (root_turn args.sheet.now _) c.loop-j.j c.loop-j.invariant.3 c.mark_root-gone.ensures.2,
+)
 
 pub shape_of-marks : goal.shape_of-marks
 shape_of-marks c = c.loop-j.invariant.3.kept.long

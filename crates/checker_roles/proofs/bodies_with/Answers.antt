@@ -11,6 +11,7 @@ use Rattle.checker_roles.proofs.bodies_with.Goals as goal
 
 more : (s : List ℕ) (first k j n x : ℕ) → n ≡ sum_below j (counts s first k) → x ≡ one_if (has_role s (first + j) k) → n + x ≡ sum_below (j + 1) (counts s first k)
 more s first k j n x p q = rw (p, q) (sym (sum_more j (counts s first k)))
+
 all-counted : (s : List ℕ) (c : Record) (k j n : ℕ) → j ≤ c.f5 → c.f5 ≤ j → n ≡ sum_below j (counts s c.f4 k) → n ≡ bodies_with s c k
 unfolding bodies_with count_below
 all-counted s c k j n a b p = let same : j ≡ c.f5 = omega arith in p ∙ ap (λ m. sum_below m (counts s c.f4 k)) same

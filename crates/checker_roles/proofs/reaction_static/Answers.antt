@@ -20,6 +20,7 @@ module _ (s : List ℕ) (b : Record) where
   of-internal : (b.f0 ≡ 2 → ⊥) → reaction_static s b ≡ has_class s b.f2 1 and same_types s (body_parameters b) (name_range s b.f2)
   unfolding reaction_static
   of-internal e = rw (reaction_static, ne_eqb _ _ e) refl
+
 same-ranges : (s : List ℕ) (g h g' h' : Range) (x : Bool) → x ≡ same_types s g h → g ≡ g' → h ≡ h' → x ≡ same_types s g' h'
 same-ranges s g h g' h' x e p q = rw (p, q) at e
 

@@ -11,6 +11,7 @@ use Rattle.checker_shape.proofs.record_fits.Goals as goal
 
 from-0 : (k : ℕ) → 0 ≤ k
 from-0 k = omega arith
+
 other : (s : List ℕ) (k i : ℕ) (r : Record) → (k ≡ 0 → ⊥) → (k ≡ 1 → ⊥) → (k ≡ 2 → ⊥) → (k ≡ 3 → ⊥) → (k ≡ 4 → ⊥) → (k ≡ 5 → ⊥) → record_shape s k i r ≡ true
 unfolding record_shape look_up
 other s k i r a b d e f g = lines_past true 6 (shape_table s i r) 6 k tt (beyond (beyond (beyond (beyond (beyond (beyond (from-0 k) a) b) d) e) f) g)

@@ -22,17 +22,17 @@ record_static-requires c = record { directory_value = c.requires.directory_value
 pub returns-then-not-record_static : goal.returns-then-not-record_static
 unfolding each_static
 returns-then-not-record_static c = let r-is = sym c.read.ensures ∙ c.in-Present.is in (
-      loop_fails _ _ _ _ (count_opened _ _ _ c.count_in-count.ensures _ c.requires.directory_value) c.loop-i-test.true
-          (holds-present _ _ _ r-is ∙ sym c.record_static.ensures.0 ∙ c.if-not-record_static.true),
-      c.record_static.ensures.1,
-    )
+  loop_fails _ _ _ _ (count_opened _ _ _ c.count_in-count.ensures _ c.requires.directory_value) c.loop-i-test.true
+      (holds-present _ _ _ r-is ∙ sym c.record_static.ensures.0 ∙ c.if-not-record_static.true),
+  c.record_static.ensures.1,
+)
 
 pub loop-i-preserved : goal.loop-i-preserved
 loop-i-preserved c = let r-is = sym c.read.ensures ∙ c.in-Present.is in (
-      omega arith,
-      all_more c.loop-i.i _ c.loop-i.invariant.1 (holds-present _ _ _ r-is ∙ sym c.record_static.ensures.0 ∙ c.if-not-record_static.false),
-      c.record_static.ensures.1,
-    )
+  omega arith,
+  all_more c.loop-i.i _ c.loop-i.invariant.1 (holds-present _ _ _ r-is ∙ sym c.record_static.ensures.0 ∙ c.if-not-record_static.false),
+  c.record_static.ensures.1,
+)
 
 pub returns : goal.returns
 unfolding each_static

@@ -22,12 +22,15 @@ use Rattle.checker_trees.proofs.+tree_fits.Goals as goal
 
 small-sum : (o : Operands) → Small o → Fits w64 (o.count + o.tail)
 small-sum o h = record { fits = omega arith }
+
 small-index : (o : Operands) (j : ℕ) → Small o → j < o.count + o.tail → j < 100000
 small-index o j h l = omega arith
+
 -- operand j of a node fits
 tree-none : (s : List ℕ) (c b : Record) (levels n : ℕ) → levels ≡ 0 → false ≡ tree_shape s c b levels n
 unfolding tree_shape
 tree-none s c b levels n e = rw e refl
+
 module _ (s : List ℕ) (c b : Record) (levels n : ℕ) (some : levels ≡ 0 → ⊥) where
   tree-step : tree_shape s c b levels n ≡ holds (record_of s 6 n) (λ r. fields_shape s c b r (form_of r.f0) and all_below (operand_count (operands_of s c r)) (operandFits s c b (levels - 1) n r))
   unfolding tree_shape operandFits
@@ -49,9 +52,11 @@ module _ (s : List ℕ) (c b : Record) (levels n : ℕ) (some : levels ≡ 0 →
 
       all_fit : fields_shape s c b r (form_of r.f0) ≡ true → j ≤ o.count + o.tail → o.count + o.tail ≤ j → all_below j (operandFits s c b (levels - 1) n r) ≡ true → true ≡ tree_shape s c b levels n
       all_fit p a d h = first_holds _ _ _ p (loop_ends _ _ _ _ (ap operand_count e) a d h) ∙ sym tree-at
+
 operand-high : (s : List ℕ) (c b : Record) (k n : ℕ) (r : Record) (o : Operands) (j : ℕ) {m : ℕ} → o ≡ operands_of s c r → m ≡ operand_at r o j → n ≤ m → operandFits s c b k n r j ≡ false
 unfolding operandFits
 operand-high s c b k n r o j {m} e p h = false-and _ _ (le-ltb _ _ (rw (p, e) at h))
+
 operand-tree : (s : List ℕ) (c b : Record) (k n : ℕ) (r : Record) (o : Operands) (j : ℕ) (x : Bool) {m : ℕ} → o ≡ operands_of s c r → m ≡ operand_at r o j → m < n → x ≡ tree_shape s c b k m → operandFits s c b k n r j ≡ x
 unfolding operandFits
 operand-tree s c b k n r o j x {m} e p h q = true-and _ _ (lt-ltb _ _ (rw (p, e) at h)) ∙ sym (rw (p, e) at q)

@@ -18,13 +18,16 @@ mark_charts-bodies-requires c = let args = c.args in
 
 pub mark_bindings-bindings-requires : goal.mark_bindings-bindings-requires
 mark_bindings-bindings-requires c = let args = c.args in
-    record { directory_value = c.requires.directory_value; count_in_bounds = omega (
+    record {
+      directory_value = c.requires.directory_value;
+      count_in_bounds = omega (
         arith,
         count_opened _ _ _ c.count_in-count.ensures args.sheet.now c.requires.directory_value,
         c.requires.nodes_in_bounds,
         c.clear.ensures.kept.long,
         c.mark_charts-bodies.ensures.2.kept.long,
-      ) }
+      );
+    }
 
 pub overflow_add-gone : goal.overflow_add-gone
 overflow_add-gone c = omega (arith, c.mark_charts-bodies.ensures.1, c.mark_bindings-bindings.ensures.0, count_limit c.args.sheet.now 7)
@@ -53,16 +56,20 @@ pub bounds-marks-n-in-loop-n : goal.bounds-marks-n-in-loop-n
 bounds-marks-n-in-loop-n c = omega (arith, c.loop-n.invariant.2.long, c.loop-n.invariant.3.inside, c.requires.nodes_in_bounds)
 
 pub mark_operands-gone-requires : goal.mark_operands-gone-requires
-mark_operands-gone-requires c = record { directory_value = c.requires.directory_value; m_in_bounds = room_set c.loop-n.marks (c.loop-n.n - 1) _
-            (omega (
-              arith,
-              c.loop-n.invariant.2.long,
-              c.loop-n.invariant.3.inside,
-              c.requires.nodes_in_bounds,
-              c.mark_bindings-bindings.ensures.1.kept.long,
-              c.mark_charts-bodies.ensures.2.kept.long,
-              c.clear.ensures.kept.long,
-            )); k_bound = omega (arith, c.slice_known-in-loop-n-1.given (c.loop-n.n - 1)) }
+mark_operands-gone-requires c = record {
+  directory_value = c.requires.directory_value;
+  m_in_bounds = room_set c.loop-n.marks (c.loop-n.n - 1) _
+      (omega (
+        arith,
+        c.loop-n.invariant.2.long,
+        c.loop-n.invariant.3.inside,
+        c.requires.nodes_in_bounds,
+        c.mark_bindings-bindings.ensures.1.kept.long,
+        c.mark_charts-bodies.ensures.2.kept.long,
+        c.clear.ensures.kept.long,
+      ));
+  k_bound = omega (arith, c.slice_known-in-loop-n-1.given (c.loop-n.n - 1));
+}
 
 pub overflow_add-gone-in-loop-n : goal.overflow_add-gone-in-loop-n
 overflow_add-gone-in-loop-n c = omega (arith, c.loop-n.invariant.1, c.mark_operands-gone.ensures.1)

@@ -15,12 +15,12 @@ use Rattle.engine_arming.proofs.arm_with.Goals as goal
 
 pub gather-o-requires : goal.gather-o-requires
 gather-o-requires c = (
-      c.requires.0,
-      c.requires.1.ready,
-      arm_data _ _ _ _ c.requires.1.ready _ _ c.requires.1.there c.requires.1.statement c.requires.1.form _ c.requires.2,
-      four_data _ _ c.requires.1.ready.running _ _ c.requires.2,
-      refl,
-    )
+  c.requires.0,
+  c.requires.1.ready,
+  arm_data _ _ _ _ c.requires.1.ready _ _ c.requires.1.there c.requires.1.statement c.requires.1.form _ c.requires.2,
+  four_data _ _ c.requires.1.ready.running _ _ c.requires.2,
+  refl,
+)
 
 pub returns-then-period-lt1 : goal.returns-then-period-lt1
 returns-then-period-lt1 c = let args = c.args in

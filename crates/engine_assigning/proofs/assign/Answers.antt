@@ -24,12 +24,12 @@ returns-in-Word c = let args = c.args in
 
 pub returns-in-Refused : goal.returns-in-Refused
 returns-in-Refused c = let x2-is = sym c.in-Refused.is ∙ c.eval-x.ensures in (
-      c.requires.1.ready.locals.sixteen,
-      λ depth. on-refused _ _ _ _ _ _ x2-is ∙ sym (assign_word _ _ _ _ c.requires.1.ready _ _ c.requires.1.there c.requires.1.statement c.requires.1.form depth _),
-    )
+  c.requires.1.ready.locals.sixteen,
+  λ depth. on-refused _ _ _ _ _ _ x2-is ∙ sym (assign_word _ _ _ _ c.requires.1.ready _ _ c.requires.1.there c.requires.1.statement c.requires.1.form depth _),
+)
 
 pub returns-in-Stuck : goal.returns-in-Stuck
 returns-in-Stuck c = let enum-told-is = sym c.in-Stuck.is ∙ c.eval-x.ensures in (
-      c.requires.1.ready.locals.sixteen,
-      λ depth. on-stuck _ _ _ _ enum-told-is ∙ sym (assign_word _ _ _ _ c.requires.1.ready _ _ c.requires.1.there c.requires.1.statement c.requires.1.form depth _),
-    )
+  c.requires.1.ready.locals.sixteen,
+  λ depth. on-stuck _ _ _ _ enum-told-is ∙ sym (assign_word _ _ _ _ c.requires.1.ready _ _ c.requires.1.there c.requires.1.statement c.requires.1.form depth _),
+)

@@ -22,7 +22,8 @@ overflow_sub-limit-in-Refused c = let m = c.limit-limit.ensures.0 in
     omega arith
 
 pub never_taken-requires : goal.never_taken-requires
-never_taken-requires c = not_stuck c.requires.0 (sym c.run_body-r.ensures.0 ∙ c.in-Stuck.is)
+never_taken-requires c = absurd
+    (not_stuck c.requires.0 (sym c.run_body-r.ensures.0 ∙ c.in-Stuck.is))
 
 pub returns-in-Done : goal.returns-in-Done
 returns-in-Done c = let h = c.requires.0 in
@@ -36,6 +37,3 @@ returns-in-Refused c = let h = c.requires.0 in
     let m = c.limit-limit.ensures.0 in
     let ran = sym c.run_body-r.ensures.0 ∙ c.in-Refused.is in
     refused-event h _ _ _ _ _ m _ c.answer-in-Refused.ensures.0 ran (c.answer-in-Refused.ensures.2 (refused_some h _ _ ran))
-
-pub returns-in-Stuck : goal.returns-in-Stuck
-returns-in-Stuck c = absurd c.never_taken.ensures

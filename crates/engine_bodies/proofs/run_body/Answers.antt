@@ -30,10 +30,8 @@ pub read-requires : goal.read-requires
 read-requires c = c.requires.0.playing.directory
 
 pub never_taken-requires : goal.never_taken-requires
-never_taken-requires c = not_absent _ _ (body-there c.requires.0) (sym c.read.ensures ∙ c.in_default.is)
-
-pub returns-in_default : goal.returns-in_default
-returns-in_default c = absurd c.never_taken.ensures
+never_taken-requires c = absurd
+    (not_absent _ _ (body-there c.requires.0) (sym c.read.ensures ∙ c.in_default.is))
 
 pub context-context-requires : goal.context-context-requires
 context-context-requires c = let l = few-elements c.requires.0 in

@@ -13,15 +13,13 @@ unfolding sum_below first_binding
 loop-i-init c = (omega arith, refl, refl, rows_none _ _ c.requires.2)
 
 pub never_taken-requires : goal.never_taken-requires
-never_taken-requires c = let ok = c.requires.1 in
+never_taken-requires c = absurd
+    (let ok = c.requires.1 in
     let l = c.loop-i-test.true in
     let s = c.args.sheet.now in
     let j = c.loop-i.i in
     let m : j < elements_of s = omega (arith, c.elements-count.ensures.0) in
-    bound-there _ ok _ _ m c.loop-i.invariant.2 (sym c.chart_bound.ensures ∙ c.in_default.is)
-
-pub returns-in_default : goal.returns-in_default
-returns-in_default c = absurd c.never_taken.ensures
+    bound-there _ ok _ _ m c.loop-i.invariant.2 (sym c.chart_bound.ensures ∙ c.in_default.is))
 
 pub overflow_mul-i : goal.overflow_mul-i
 overflow_mul-i c = let l = c.loop-i-test.true in

@@ -53,9 +53,9 @@ loop-at-preserved c =
     let same = c.same_class.ensures in
     elim c.if-same_class.branch [
       | then-same_class+else-last-end w ↦ subst (λ last. Looked args.st.now args.n args.t last (c.loop-at.at + 8)) (sym w.last-is)
-        (looked_found _ _ c.requires.0 c.requires.1 c.requires.2 _ _ _ c.loop-at.invariant c.loop-at-test.true (sym same ∙ w.if-same_class.true) (λ q. w.if-last-end.false (q ∙ sym end)))
+          (looked_found _ _ c.requires.0 c.requires.1 c.requires.2 _ _ _ c.loop-at.invariant c.loop-at-test.true (sym same ∙ w.if-same_class.true) (λ q. w.if-last-end.false (q ∙ sym end)))
       | else-same_class w ↦ subst (λ last. Looked args.st.now args.n args.t last (c.loop-at.at + 8)) (sym w.last-is)
-        (looked_passed _ _ c.requires.0 c.requires.1 c.requires.2 _ _ _ c.loop-at.invariant c.loop-at-test.true (sym same ∙ w.if-same_class.false))
+          (looked_passed _ _ c.requires.0 c.requires.1 c.requires.2 _ _ _ c.loop-at.invariant c.loop-at-test.true (sym same ∙ w.if-same_class.false))
     ]
 
 pub returns : goal.returns

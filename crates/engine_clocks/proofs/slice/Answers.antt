@@ -35,20 +35,15 @@ chart_of-requires c = let i = c.loop-i.i in
     (c.requires.directory, c.requires.passed, c.requires.cells, subst (λ x. is_bound s (x + i) ≡ true) (sym f) (number_bound s i m))
 
 pub never_taken-requires : goal.never_taken-requires
-never_taken-requires c = let i = c.loop-i.i in
+never_taken-requires c = absurd
+    (let i = c.loop-i.i in
     let s = c.args.sheet.now in
     let l = c.loop-i-test.true in
     let f = c.loop-i.invariant.1 in
     let n = c.loop-i.invariant.2 in
     let m : i < elements_of s = omega arith in
     let none = sym c.chart_of.ensures ∙ c.in_default.is in
-    has_chart s c.requires.passed _ (number_bound s i m) (ap (λ x. chart_of s (x + i)) (sym f) ∙ none)
-
-pub shape_of-st-in_default : goal.shape_of-st-in_default
-shape_of-st-in_default c = absurd c.never_taken.ensures
-
-pub returns-in_default : goal.returns-in_default
-returns-in_default c = absurd c.never_taken.ensures
+    has_chart s c.requires.passed _ (number_bound s i m) (ap (λ x. chart_of s (x + i)) (sym f) ∙ none))
 
 pub overflow_add-first-in-loop-i : goal.overflow_add-first-in-loop-i
 overflow_add-first-in-loop-i c = let s = c.args.sheet.now in

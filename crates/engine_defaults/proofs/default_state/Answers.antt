@@ -18,16 +18,11 @@ loop-i-init c = let whole = ap length c.zero.ensures ∙ length-replicate _ (pos
     (omega arith, c.elements-count.ensures.0, whole, refl, filled_none _ c.requires.1 _ whole, refl)
 
 pub never_taken-requires : goal.never_taken-requires
-never_taken-requires c = let inv = c.loop-i.invariant in
+never_taken-requires c = absurd
+    (let inv = c.loop-i.invariant in
     let l = c.loop-i-test.true in
     let none = sym c.chart_bound.ensures ∙ c.in_default.is in
-    bound-there _ c.requires.1 _ _ (omega (arith, inv.1)) inv.5 none
-
-pub shape_of-st-in_default : goal.shape_of-st-in_default
-shape_of-st-in_default c = absurd c.never_taken.ensures
-
-pub returns-in_default : goal.returns-in_default
-returns-in_default c = absurd c.never_taken.ensures
+    bound-there _ c.requires.1 _ _ (omega (arith, inv.1)) inv.5 none)
 
 pub default_cells-cell-requires : goal.default_cells-cell-requires
 unfolding cell_at place_at state_length

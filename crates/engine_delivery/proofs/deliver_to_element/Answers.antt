@@ -19,14 +19,12 @@ pub read-requires : goal.read-requires
 read-requires c = c.requires.0.beside.playing.directory
 
 pub never_taken-requires : goal.never_taken-requires
-never_taken-requires c = let word = c.args.t.receiver in
+never_taken-requires c = absurd
+    (let word = c.args.t.receiver in
     let receiver = number_read word c.struct_told-1.given.1.0.1 _ c.number-e.ensures in
     let bound = receiver-bound _ c.requires.0.beside.playing.passed _ c.requires.0.fits c.requires.0.class c.requires.1 _ receiver in
     let none = sym c.read.ensures ∙ c.in_default.is in
-    has_chart _ c.requires.0.beside.playing.passed _ bound (sym c.chart_number-n.ensures ∙ none)
-
-pub returns-in_default : goal.returns-in_default
-returns-in_default c = absurd c.never_taken.ensures
+    has_chart _ c.requires.0.beside.playing.passed _ bound (sym c.chart_number-n.ensures ∙ none))
 
 pub number-requires : goal.number-requires
 number-requires c = let read = given c.args.t.port c.struct_told-2-1.given.1.1.0.1 in

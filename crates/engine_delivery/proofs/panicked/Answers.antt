@@ -9,10 +9,8 @@ pub read-requires : goal.read-requires
 read-requires c = c.requires.0.playing.directory
 
 pub never_taken-requires : goal.never_taken-requires
-never_taken-requires c = has_chart _ c.requires.0.playing.passed _ c.requires.1 (sym c.chart_number-n.ensures ∙ sym c.read.ensures ∙ c.in_default.is)
-
-pub returns-in_default : goal.returns-in_default
-returns-in_default c = absurd c.never_taken.ensures
+never_taken-requires c = absurd
+    (has_chart _ c.requires.0.playing.passed _ c.requires.1 (sym c.chart_number-n.ensures ∙ sym c.read.ensures ∙ c.in_default.is))
 
 pub run_panic_body-requires : goal.run_panic_body-requires
 run_panic_body-requires c = let there = sym c.read.ensures ∙ c.in-Present.is in

@@ -20,6 +20,7 @@ module _ {a b : ℤ} (x : SFits w32 a) (y : SFits w32 b) where
 
   product-back : to_z w64 (of_z w64 ((a -ℤ b *ℤ quot_z a b) *ℤ b)) ≡ (a -ℤ b *ℤ quot_z a b) *ℤ b
   product-back = back64 (mul-fits (left-over-fits x y) y)
+
 word : (c : goal.After-bool_word) → SFits w32 c.bool_word.result
 word c = record { sfits = c.bool_word.type_inv }
 

@@ -10,13 +10,16 @@ use Rattle.engine_ints.proofs.modulo.Goals as goal
 
 not-zero : (c : goal.After-floored) → is_zero c.args.b ≡ false
 not-zero c = not_zero_wide c.ranges.b c.if-y-eq0.false
+
 -- the quotient as it is read back
 read : (c : goal.After-floored) → to_z w64 (of_z w64 c.floored.result) ≡ quotient c.args.a c.args.b
 read c = rw (rw (back c.ranges.a, back c.ranges.b) at c.floored.ensures) (back64 (quotient_fits c.ranges.a c.ranges.b))
+
 -- a − b × (a div b) in 64 bits
 rest : (c : goal.After-floored) → to_z w64 (of_z w64 (to_z w32 (of_z w32 c.args.a))) -ℤ to_z w64 (of_z w64 (to_z w64 (of_z w64 (to_z w32 (of_z w32 c.args.b))) *ℤ to_z w64 (of_z w64 c.floored.result))) ≡ remainder c.args.a c.args.b
 unfolding remainder
 rest c = rw (wide c.ranges.a, wide c.ranges.b, read c, back64 (quotient-whole-fits c.ranges.a c.ranges.b)) refl
+
 fits : (c : goal.After-floored) → SFits w32 (remainder c.args.a c.args.b)
 fits c = remainder-fits c.ranges.a c.ranges.b (not-zero c)
 

@@ -10,6 +10,7 @@ use Rattle.engine_limit.proofs.limit.Goals as goal
 field-zero : (s : List ℕ) (x : ℕ) → x ≡ field_at s 0 0 3 → x ≡ 0 → default_limit ≡ limit_of s
 unfolding field_at field_of
 field-zero s x e z = sym (limit_zero default_limit s (sym e ∙ z))
+
 field-given : (s : List ℕ) (x : ℕ) → x ≡ field_at s 0 0 3 → (x ≡ 0 → ⊥) → x ≡ limit_of s
 unfolding field_at field_of
 field-given s x e z = e ∙ sym (limit_given default_limit s (λ q. z (e ∙ q)))

@@ -21,8 +21,8 @@ returns-then-class_full c = (λ s e. sym (appended-class_full s _ _ c.requires.h
 pub returns : goal.returns
 unfolding changed_to
 returns c = (
-      λ s e. sym (ap on (c.put_last.ensures s e)
-          ∙ appended_room s _ _ c.requires.head (let q = c.waiting_count-n.ensures in let h = c.if-n-ge-PLACES.false in omega arith)
-          (leb-false class_limit _ (sym (c.class_full.ensures s e) ∙ c.if-class_full.false))),
-      λ n. absurd (n refl),
-    )
+  λ s e. sym (ap on (c.put_last.ensures s e)
+      ∙ appended_room s _ _ c.requires.head (let q = c.waiting_count-n.ensures in let h = c.if-n-ge-PLACES.false in omega arith)
+      (leb-false class_limit _ (sym (c.class_full.ensures s e) ∙ c.if-class_full.false))),
+  λ n. absurd (n refl),
+)

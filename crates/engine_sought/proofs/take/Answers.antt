@@ -11,7 +11,7 @@ telegram_at-t-requires c = (c.requires.long, omega (arith, waiting_limit _ c.req
 
 pub returns : goal.returns
 returns c = λ s o. record {
-      waits = omega (arith, c.waiting_count.ensures, c.if-waiting_count-j.false);
-      telegram = c.telegram_at-t.ensures s o.whole;
-      left = c.remove.ensures s o;
-    }
+  waits = omega (arith, c.waiting_count.ensures, c.if-waiting_count-j.false);
+  telegram = c.telegram_at-t.ensures s o.whole;
+  left = c.remove.ensures s o;
+}

@@ -100,20 +100,15 @@ returns-in-Refused c = let ok = c.requires.passed in
     refused_ends _ ok _ _ _ _ p q m l _ inv.1 _ _ ran.0 ran.1 _ inv.3 _ _ left _ _ zeros.1 whole _ zeros.0
 
 pub never_taken-requires : goal.never_taken-requires
-never_taken-requires c = let ok = c.requires.passed in
+never_taken-requires c = absurd
+    (let ok = c.requires.passed in
     let p = c.externals-first.ensures.0 in
     let q = c.elements-count.ensures.0 in
     let m = c.limit-most.ensures.0 in
     let l = c.loop-i-test.true in
     let o = c.loop-i.invariant.1 in
     let ran = c.initial-r.ensures in
-    not_stuck _ ok _ _ _ _ p q m l _ o _ _ ran.0 ran.1 c.in-Stuck.is
-
-pub shape_of-st-in-Stuck : goal.shape_of-st-in-Stuck
-shape_of-st-in-Stuck c = absurd c.never_taken.ensures
-
-pub returns-in-Stuck : goal.returns-in-Stuck
-returns-in-Stuck c = absurd c.never_taken.ensures
+    not_stuck _ ok _ _ _ _ p q m l _ o _ _ ran.0 ran.1 c.in-Stuck.is)
 
 pub loop-i-preserved : goal.loop-i-preserved
 loop-i-preserved c = let ok = c.requires.passed in

@@ -11,10 +11,8 @@ pub read-requires : goal.read-requires
 read-requires c = c.requires.0.directory
 
 pub never_taken-requires : goal.never_taken-requires
-never_taken-requires c = has_chart _ c.requires.0.passed _ c.requires.1 (sym c.chart_number-n.ensures ∙ sym c.read.ensures ∙ c.in_default.is)
-
-pub returns-in_default : goal.returns-in_default
-returns-in_default c = absurd c.never_taken.ensures
+never_taken-requires c = absurd
+    (has_chart _ c.requires.0.passed _ c.requires.1 (sym c.chart_number-n.ensures ∙ sym c.read.ensures ∙ c.in_default.is))
 
 pub with_role-j-requires : goal.with_role-j-requires
 with_role-j-requires c = c.requires.0.directory

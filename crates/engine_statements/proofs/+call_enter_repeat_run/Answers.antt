@@ -317,11 +317,11 @@ run-returns-in_default-op t c = (c.requires.1.locals.sixteen, step_back _ _ _ _ 
 
 pub run-returns-in_default-op-2 : goal.run-returns-in_default-op-2
 run-returns-in_default-op-2 t c = let r-is = sym c.read.ensures ∙ c.in-Present.is in (
-      c.requires.1.locals.sixteen,
-      step_back _ _ _ _ _ _ _ c.if-left-eq0.false
-          (other_stuck _ _ _ _ c.requires.1 _ _ r-is _ _
-          (λ p q.
-          let a = past_four c.in_default-op.if-op-lt40-own.false c.in_default-op.in_default-own.rest.0.0.0.0.1 c.in_default-op.in_default-own.rest.0.0.0.1 c.in_default-op.in_default-own.rest.0.0.1 c.in_default-op.in_default-own.rest.0.1 in
-          let f = c.in_default-op.in_default-own.rest.1 in
-          omega arith)),
-    )
+  c.requires.1.locals.sixteen,
+  step_back _ _ _ _ _ _ _ c.if-left-eq0.false
+      (other_stuck _ _ _ _ c.requires.1 _ _ r-is _ _
+      (λ p q.
+      let a = past_four c.in_default-op.if-op-lt40-own.false c.in_default-op.in_default-own.rest.0.0.0.0.1 c.in_default-op.in_default-own.rest.0.0.0.1 c.in_default-op.in_default-own.rest.0.0.1 c.in_default-op.in_default-own.rest.0.1 in
+      let f = c.in_default-op.in_default-own.rest.1 in
+      omega arith)),
+)

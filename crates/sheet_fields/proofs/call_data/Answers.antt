@@ -11,6 +11,7 @@ use Rattle.sheet_fields.proofs.call_data.Goals as goal
 none-called : (s : List ℕ) (c r : Record) → c.f5 ≤ r.f1 → call_data s c r ≡ 0
 unfolding call_data called_body number_or0
 none-called s c r h = rw (call_data, called_body, le-ltb r.f1 c.f5 h) refl
+
 called : (s : List ℕ) (c r : Record) → r.f1 < c.f5 → call_data s c r ≡ field_at s 5 (c.f4 + r.f1) 4
 unfolding call_data called_body field_at field_of
 called s c r h = rw (call_data, called_body, lt-ltb r.f1 c.f5 h) refl

@@ -10,6 +10,7 @@ use Rattle.sheet_fields.proofs.operand.Goals as goal
 leading : (r : Record) (o : Operands) (j : ℕ) → j < o.count → operand_at r o j ≡ field_of r (o.first + j)
 unfolding operand_at
 leading r o j h = rw (operand_at, lt-ltb j o.count h) refl
+
 following : (r : Record) (o : Operands) (j : ℕ) → o.count ≤ j → operand_at r o j ≡ field_of r (4 + (j - o.count))
 unfolding operand_at
 following r o j h = rw (operand_at, le-ltb j o.count h) refl

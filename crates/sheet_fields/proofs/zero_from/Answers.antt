@@ -13,6 +13,7 @@ use Rattle.sheet_fields.proofs.zero_from.Goals as goal
 all-zero : (r : Record) (n k : ℕ) → 8 - n ≡ k → all_below k (is_zero r n) ≡ true → true ≡ zero_from n r
 unfolding zero_from
 all-zero r n k e h = sym (rw (e) h)
+
 one-not : (r : Record) (n i x : ℕ) → i < 8 - n → x ≡ field_of r (n + i) → (x ≡ 0 → ⊥) → false ≡ zero_from n r
 unfolding zero_from
 one-not r n i x l e h = sym (all_fails_lem (8 - n) (is_zero r n) i l (ne_eqb _ _ (λ z. h (e ∙ z))))
