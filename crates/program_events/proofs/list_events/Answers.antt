@@ -1,4 +1,4 @@
-use Rattle.std.proofs.Common.{◌≡◌, ◌+◌, ◌*◌, ◌≤◌, ◌<◌, length, refl, sym, ap, subst, ◌∙◌, arith, rules}
+use Rattle.std.proofs.Common.{◌≡◌, ◌+◌, ◌*◌, ◌≤◌, ◌<◌, length, refl, ap, subst, ◌∙◌, rules}
 use native.Mathlib.Numerals.{add-one}
 use mir.Syntax.{w32}
 use mir.Val.{to_z, of_z}
@@ -11,7 +11,7 @@ use Rattle.machine_lists.specs.Words.{answer_in}
 use Rattle.program_text.specs.Decimal.{Put}
 use Rattle.program_listing.specs.Listing.{event_line}
 use Rattle.program_events.specs.Lines.{lines_of}
-use Rattle.program_events.proofs.Pending.{Pending, none_pending, line_put, room_left}
+use Rattle.program_events.proofs.Pending.{none_pending, line_put, room_left}
 use Rattle.program_events.proofs.list_events.Goals as goal
 
 pub loop-i-init : goal.loop-i-init

@@ -1,4 +1,4 @@
-use Rattle.std.proofs.Common.{◌≤◌, refl, sym, ◌∙◌, arith}
+use Rattle.std.proofs.Common.{◌≤◌, sym, ◌∙◌, arith}
 use lib.IntN.{pos}
 use Rattle.machine_passed.proofs.Records.{cells_limit}
 use Rattle.engine_store.specs.Layout.{longest}
