@@ -1,6 +1,5 @@
-// A reader opened on a lent sheet: the bytes and the directory that was tested once, held together. The borrow checker
-// covers no function over a struct that holds a reference, so each of the three is proved by hand, and each leaves the
-// work to the covered functions of `sheet_reader`.
+// A reader opened on a lent sheet: the bytes and the directory that was tested once, held together. Each of the three
+// functions leaves the work to those of `sheet_reader`.
 #![tactic(auto)]
 
 ghost use Rattle.std.specs.Prelude.{◌≡◌};
@@ -30,7 +29,7 @@ pub fn record_of<'a>(r: Reader<'a>, section: usize, number: usize) -> Found
     sheet_reader::read(r.sheet, &r.directory, section, number)
 }
 
-// A reader is opened and asked once. Its parameters are plain, so whoever calls it needs no walk.
+// A reader is opened and asked once.
 pub fn record(sheet: &[u8], section: usize, number: usize) -> Found
     ensures { result ≡ record_of sheet.now section number }
 {
