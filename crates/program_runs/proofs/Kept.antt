@@ -25,5 +25,5 @@ module _ (s : List ℕ) where
   static-answers h = (answer 2 0 Nothing, fresh, sym (start-static s fresh h), refl)
 
   -- what start answers doesn't depend on the words of the state that is lent
-  pub start-answers : (lent : List ℤ) (a : Answer) (st : List ℤ) → check_of s ≡ Passed → length lent ≡ state_length s → StartGives s (limit_of s) lent a st → StartAnswers s a.number
-  start-answers lent a st ok l g = (a, st, g ∙ start_is s lent ok l ∙ sym (start_is s fresh ok (length-replicate (state_length s) (pos 0))), refl)
+  pub start_answers : (lent : List ℤ) (a : Answer) (st : List ℤ) → check_of s ≡ Passed → length lent ≡ state_length s → StartGives s (limit_of s) lent a st → StartAnswers s a.number
+  start_answers lent a st ok l g = (a, st, g ∙ start_is s lent ok l ∙ sym (start_is s fresh ok (length-replicate (state_length s) (pos 0))), refl)

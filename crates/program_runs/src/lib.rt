@@ -40,6 +40,7 @@ fn refused<W: Write, E: Eprint>(to: &mut W, errors: &E, number: u8) -> RunEnd
     }
 }
 
+#[tactic(auto, using(crate::proofs::Kept::start_answers))]
 fn play_states<R: Read, W: Write, E: Eprint>(
     from: &mut R,
     to: &mut W,
