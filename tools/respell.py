@@ -9,6 +9,7 @@ import collections
 import glob
 import os
 import re
+import subprocess
 import sys
 
 TOKEN = r"[^\s(){}\[\].,;:λ→`\"/*=<>≡≤≢×+∷∙|↦&!?]+"
@@ -46,13 +47,11 @@ def snake(part):
     return re.sub(r"(?<=[a-z0-9'])([A-Z])", lambda m: "_" + m.group(1).lower(), part)
 
 
-KIT_WORDS = None
-
-
 def kit_words():
     """Names that the toolchain's library declares: they stay, and join with a dash."""
     words = set()
-    root = "/opt/rattle/rattle"
+    page = subprocess.run(["rt", "doc"], capture_output=True, text=True, check=True).stdout.strip()
+    root = os.path.join(os.path.dirname(page), "rattle")
     for d, _, fs in os.walk(root):
         if "/out" in d:
             continue
