@@ -1,2 +1,1 @@
-mod Room
 mod Pending
