@@ -27,6 +27,6 @@ module _ (head : List ℕ) (came : ℕ) where
   unfolding sheet_size
   size_cut h = rw (sheet_size, lt-ltb came 4 h) refl
 
-  pub size-whole : 4 ≤ came → min (number_at head 0) 65536 ≡ sheet_size head came
+  pub size_whole : 4 ≤ came → min (number_at head 0) 65536 ≡ sheet_size head came
   unfolding sheet_size
-  size-whole h = rw (sheet_size, le-ltb came 4 h) refl
+  size_whole h = rw (sheet_size, le-ltb came 4 h) refl

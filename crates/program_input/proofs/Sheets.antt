@@ -6,7 +6,7 @@ use lib.ListN.{get_or-append}
 use Rattle.std.proofs.Math.Seq.{take-append_seam, drop-append_seam}
 use Rattle.engine_words.specs.Words.{number_at}
 use Rattle.program_input.specs.Input.{sheet_size, sheet_in}
-use Rattle.program_input.proofs.Answers.{size_cut, size-whole}
+use Rattle.program_input.proofs.Answers.{size_cut, size_whole}
 
 -- fewer bytes than a length has: there is no sheet
 sheet_short : (xs : List ℕ) → length xs < 4 → sheet_in xs ≡ []
@@ -23,7 +23,7 @@ unfolding sheet_in
 sheet_whole front ys e =
     let all = front ++ ys in
     let long : 4 ≤ length all = omega (arith, length-append front ys) in
-    let size : sheet_size all (length all) ≡ sheet_size front 4 = sym (size-whole all (length all) long) ∙ ap (λ k. min k 65536) (same_number front ys e) ∙ size-whole front 4 (omega arith) in
+    let size : sheet_size all (length all) ≡ sheet_size front 4 = sym (size_whole all (length all) long) ∙ ap (λ k. min k 65536) (same_number front ys e) ∙ size_whole front 4 (omega arith) in
     let rest : drop 4 all ≡ ys = ap (λ k. drop k all) (sym e) ∙ drop-append_seam front ys in
     ap (λ k. take k (drop 4 all)) size ∙ ap (take (sheet_size front 4)) rest
 

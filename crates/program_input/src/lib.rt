@@ -70,6 +70,7 @@ pub fn read_all<R: Read, E: Eprint>(from: &mut R, errors: &E, room: &mut [u8]) -
 
 // A sheet's length as far as it counts, where `came` of its four bytes came: every sheet of more than
 // 65,535 bytes is refused alike. An incomplete length is 0.
+#[tactic(auto, using(crate::proofs::Answers::size_cut, crate::proofs::Answers::size_whole))]
 fn sheet_size(head: &[u8; 4], came: usize) -> usize
     ensures { (result ≡ sheet_size head.now came) × (result ≤ 65536) }
 {
