@@ -31,7 +31,8 @@ pub fn next(
 {
     let e = engine_valid_events::event_of(sheet, directory, ev);
     let j = engine_sought::sought(st, e);
-    if engine_sought::may_undo(sheet, directory, cells, st, e, j) {
+    let needed = engine_sought::may_undo(sheet, directory, cells, st, e, j);
+    if needed {
         engine_copies::copy(st, spare);
     }
     engine_kinds::happened(sheet, directory, cells, spare, st, e, j)

@@ -5,23 +5,23 @@ use Rattle.machine_events.proofs.Apart.{receiver-bound}
 use Rattle.engine_queue.proofs.Laws.{laid}
 use Rattle.engine.proofs.Calls.{next_gives_lem}
 use Rattle.engine.proofs.next.Goals as goal
-use Rattle.engine.proofs.next.Goals.{then-may_undo, else-may_undo}
+use Rattle.engine.proofs.next.Goals.{then-needed, else-needed}
 
 pub sought-j-requires : goal.sought-j-requires
 sought-j-requires c = laid _ _ c.requires.0.state
 
-pub may_undo-requires : goal.may_undo-requires
-may_undo-requires c = (c.requires.0, c.sought-j.ensures _ c.requires.0.state.whole)
+pub may_undo-needed-requires : goal.may_undo-needed-requires
+may_undo-needed-requires c = (c.requires.0, c.sought-j.ensures _ c.requires.0.state.whole)
 
 pub happened-requires : goal.happened-requires
 happened-requires c = record {
   playing = c.requires.0;
   bound = ap (receiver_bound c.args.sheet.now) c.event_of-e.ensures ∙ receiver-bound c.args.sheet.now c.args.ev.now;
   sought = c.sought-j.ensures _ c.requires.0.state.whole;
-  long = c.if-may_undo.auto.spare ∙ c.requires.1;
-  copied = λ u. elim c.if-may_undo.branch [
-    | then-may_undo w ↦ w.spare-is ∙ w.copy.ensures
-    | else-may_undo w ↦ absurd (true_false u (sym c.may_undo.ensures ∙ w.if-may_undo.false))
+  long = c.if-needed.auto.spare ∙ c.requires.1;
+  copied = λ u. elim c.if-needed.branch [
+    | then-needed w ↦ w.spare-is ∙ w.copy.ensures
+    | else-needed w ↦ absurd (true_false u (sym c.may_undo-needed.ensures ∙ w.if-needed.false))
   ];
 }
 
