@@ -1,10 +1,10 @@
 -- Laws of the types of forms that name an element of an array, one for a path of the code.
+use Rattle.std.specs.Prelude.{Some, None}
 use Prim.Native.Nat.{ℕ, ◌+◌}
 use mathlib.Core.Path.{◌≡◌, sym, ap, ◌∙◌}
 use mathlib.Core.List.{List}
 use mathlib.Core.Bool.{Bool, true, false, not}
 use Rattle.sheet.specs.declared.Record.{Record}
-use Rattle.sheet.specs.declared.Found.TheVariants.{Present, Absent}
 use Rattle.sheet.specs.Sheet.{record_of}
 use Rattle.sheet.proofs.All.{and-true, and-false, false-and}
 use Rattle.sheet_rules.specs.declared.Typed.{Typed}
@@ -17,11 +17,11 @@ use Rattle.sheet_indices.proofs.Laws.{index_present, index-absent}
 
 -- whether x is of the index type of declaration d
 module _ (s : List ℕ) (d : ℕ) (x : Typed) where
-  pub indexed_absent : record_of s 2 d ≡ Absent → false ≡ indexed_by (index_at s d) x
+  pub indexed_absent : record_of s 2 d ≡ None → false ≡ indexed_by (index_at s d) x
   unfolding indexed_by
   indexed_absent e = sym (ap (λ k. indexed_by k x) (index-absent s d e))
 
-  module _ (r : Record) (p : record_of s 2 d ≡ Present r) where
+  module _ (r : Record) (p : record_of s 2 d ≡ Some r) where
     pub indexed : (k : Index) (b : Bool) → index_of s r.f1 ≡ k → b ≡ indexed_by k x → b ≡ indexed_by (index_at s d) x
     indexed k b e q = q ∙ sym (ap (λ k. indexed_by k x) (index_present s d r p ∙ e))
 

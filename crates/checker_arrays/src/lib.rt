@@ -2,23 +2,17 @@
 #![tactic(auto)]
 
 ghost use Rattle.std.specs.Prelude.{◌≡◌};
-ghost use Rattle.sheet.specs.Sheet.{directory_of};
 ghost use Rattle.sheet_rules.specs.Types.{chart_variable_index, indexed_by, read_element_type, assign_element_type};
 
-use sheet::{DECLARATIONS, Directory, Found, Record};
+use sheet::{DECLARATIONS, Record};
+use sheet_opened::Reader;
 use sheet_rules::Typed;
 
 // "19 and 44 take nothing else, with an index of the array's index type (Int for a number)"
-fn indexed_by(sheet: &[u8], directory: &Directory, c: Record, n: u16, x: Typed) -> bool
-    requires { directory.now ≡ directory_of sheet.now }
+fn indexed_by(sheet: &Reader, c: Record, n: u16, x: Typed) -> bool
     ensures { result ≡ indexed_by (chart_variable_index sheet.now c n) x }
 {
-    let Found::Present(r) = sheet_reader::read(
-        sheet,
-        directory,
-        DECLARATIONS,
-        c.f2 as usize + n as usize,
-    ) else {
+    let Some(r) = sheet.record(DECLARATIONS, c.f2 as usize + n as usize) else {
         return false;
     };
     let i = r.f1;
@@ -32,41 +26,23 @@ fn indexed_by(sheet: &[u8], directory: &Directory, c: Record, n: u16, x: Typed) 
     }
 }
 
-pub fn read_element_type(
-    sheet: &[u8],
-    directory: &Directory,
-    c: Record,
-    r: Record,
-    x: Typed,
-) -> Typed
-    requires { directory.now ≡ directory_of sheet.now }
+pub fn read_element_type(sheet: &Reader, c: Record, r: Record, x: Typed) -> Typed
     ensures { result ≡ read_element_type sheet.now c r x }
 {
-    if !indexed_by(sheet, directory, c, r.f1, x) {
+    if !indexed_by(sheet, c, r.f1, x) {
         return Typed::Wrong;
     }
-    Typed::Expression(sheet_types::chart_variable_type(sheet, directory, c, r.f1))
+    Typed::Expression(sheet_types::chart_variable_type(sheet, c, r.f1))
 }
 
 // The value that is assigned is of the type of the array's elements.
-pub fn assign_element_type(
-    sheet: &[u8],
-    directory: &Directory,
-    c: Record,
-    r: Record,
-    x: Typed,
-    y: Typed,
-) -> Typed
-    requires { directory.now ≡ directory_of sheet.now }
+pub fn assign_element_type(sheet: &Reader, c: Record, r: Record, x: Typed, y: Typed) -> Typed
     ensures { result ≡ assign_element_type sheet.now c r x y }
 {
-    if !indexed_by(sheet, directory, c, r.f1, x) {
+    if !indexed_by(sheet, c, r.f1, x) {
         return Typed::Wrong;
     }
-    if !sheet_types::is_of(
-        y,
-        sheet_types::chart_variable_type(sheet, directory, c, r.f1),
-    ) {
+    if !sheet_types::is_of(y, sheet_types::chart_variable_type(sheet, c, r.f1)) {
         return Typed::Wrong;
     }
     Typed::Statement

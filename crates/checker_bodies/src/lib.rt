@@ -2,30 +2,29 @@
 #![tactic(auto)]
 
 ghost use Rattle.std.specs.Prelude.{◌≡◌};
-ghost use Rattle.sheet.specs.Sheet.{directory_of};
 ghost use Rattle.sheet_rules.specs.Shape.{reaction_shape, body_shape};
 
-use sheet::{DECLARATIONS, Directory, HEAD, NAMES, NODES, Record};
+use sheet::{DECLARATIONS, HEAD, NAMES, NODES, Record};
+use sheet_opened::Reader;
 
 // The port and the name of a reaction are there, and 0 in another body.
-fn reaction_fits(sheet: &[u8], directory: &Directory, r: Record) -> bool
-    requires { directory.now ≡ directory_of sheet.now }
+fn reaction_fits(sheet: &Reader, r: Record) -> bool
     ensures { result ≡ reaction_shape sheet.now r }
 {
     let role = r.f0;
     match role {
         2 => {
-            let ports = sheet_fields::field_at(sheet, directory, HEAD, 0, 2);
+            let ports = sheet_fields::field_at(sheet, HEAD, 0, 2);
             if ports <= r.f1 as usize {
                 return false;
             }
-            (r.f2 as usize) < sheet_reader::count_in(directory, NAMES)
+            (r.f2 as usize) < sheet.count(NAMES)
         }
         3 => {
             if r.f1 != 0 {
                 return false;
             }
-            (r.f2 as usize) < sheet_reader::count_in(directory, NAMES)
+            (r.f2 as usize) < sheet.count(NAMES)
         }
         _ => {
             if r.f1 != 0 {
@@ -36,27 +35,26 @@ fn reaction_fits(sheet: &[u8], directory: &Directory, r: Record) -> bool
     }
 }
 
-pub fn body_fits(sheet: &[u8], directory: &Directory, r: Record) -> bool
-    requires { directory.now ≡ directory_of sheet.now }
+pub fn body_fits(sheet: &Reader, r: Record) -> bool
     ensures { result ≡ body_shape sheet.now r }
 {
     if 4 < r.f0 {
         return false;
     }
-    if !reaction_fits(sheet, directory, r) {
+    if !reaction_fits(sheet, r) {
         return false;
     }
-    if !sheet_fields::in_section(sheet, directory, DECLARATIONS, r.f3, r.f4) {
+    if !sheet_fields::in_section(sheet, DECLARATIONS, r.f3, r.f4) {
         return false;
     }
     if 4 < r.f4 {
         return false;
     }
-    if !sheet_fields::in_section(sheet, directory, DECLARATIONS, r.f5, r.f6) {
+    if !sheet_fields::in_section(sheet, DECLARATIONS, r.f5, r.f6) {
         return false;
     }
     if 16 < r.f4 as usize + r.f6 as usize {
         return false;
     }
-    (r.f7 as usize) < sheet_reader::count_in(directory, NODES)
+    (r.f7 as usize) < sheet.count(NODES)
 }

@@ -2,10 +2,10 @@
 #![tactic(auto)]
 
 ghost use Rattle.std.specs.Prelude.{◌≡◌};
-ghost use Rattle.sheet.specs.Sheet.{directory_of};
 ghost use Rattle.sheet_rules.specs.Shape.{head_shape, enumerated_shape, type_exists, declaration_shape, name_shape};
 
-use sheet::{DECLARATIONS, Directory, ENUMERATED_TYPES, Record};
+use sheet::{DECLARATIONS, ENUMERATED_TYPES, Record};
+use sheet_opened::Reader;
 
 pub fn head_fits(r: Record) -> bool
     ensures { result ≡ head_shape r }
@@ -43,8 +43,7 @@ pub fn enumerated_fits(r: Record) -> bool
     sheet_fields::zero_from(r, 2)
 }
 
-fn type_exists(sheet: &[u8], directory: &Directory, t: usize) -> bool
-    requires { directory.now ≡ directory_of sheet.now }
+fn type_exists(sheet: &Reader, t: usize) -> bool
     ensures { result ≡ type_exists sheet.now t }
 {
     if t <= 6 {
@@ -53,27 +52,25 @@ fn type_exists(sheet: &[u8], directory: &Directory, t: usize) -> bool
     if t < 8 {
         return false;
     }
-    t - 8 < sheet_reader::count_in(directory, ENUMERATED_TYPES)
+    t - 8 < sheet.count(ENUMERATED_TYPES)
 }
 
-pub fn declaration_fits(sheet: &[u8], directory: &Directory, r: Record) -> bool
-    requires { directory.now ≡ directory_of sheet.now }
+pub fn declaration_fits(sheet: &Reader, r: Record) -> bool
     ensures { result ≡ declaration_shape sheet.now r }
 {
-    if !type_exists(sheet, directory, r.f0 as usize) {
+    if !type_exists(sheet, r.f0 as usize) {
         return false;
     }
-    if !sheet_indices::index_exists(sheet, directory, r.f1) {
+    if !sheet_indices::index_exists(sheet, r.f1) {
         return false;
     }
     sheet_fields::zero_from(r, 2)
 }
 
-pub fn name_fits(sheet: &[u8], directory: &Directory, r: Record) -> bool
-    requires { directory.now ≡ directory_of sheet.now }
+pub fn name_fits(sheet: &Reader, r: Record) -> bool
     ensures { result ≡ name_shape sheet.now r }
 {
-    if !sheet_fields::in_section(sheet, directory, DECLARATIONS, r.f0, r.f1) {
+    if !sheet_fields::in_section(sheet, DECLARATIONS, r.f0, r.f1) {
         return false;
     }
     if 4 < r.f1 {

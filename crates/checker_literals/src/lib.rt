@@ -2,13 +2,12 @@
 #![tactic(auto)]
 
 ghost use Rattle.std.specs.Prelude.{◌≡◌};
-ghost use Rattle.sheet.specs.Sheet.{directory_of};
 ghost use Rattle.sheet_rules.specs.Shape.{literal_shape, constant_shape};
 
-use sheet::{Directory, ENUMERATED_TYPES, Found, HEAD, NODES, Record};
+use sheet::{ENUMERATED_TYPES, HEAD, NODES, Record};
+use sheet_opened::Reader;
 
-pub fn literal_fits(sheet: &[u8], directory: &Directory, r: Record) -> bool
-    requires { directory.now ≡ directory_of sheet.now }
+pub fn literal_fits(sheet: &Reader, r: Record) -> bool
     ensures { result ≡ literal_shape sheet.now r }
 {
     let op = r.f0;
@@ -21,21 +20,19 @@ pub fn literal_fits(sheet: &[u8], directory: &Directory, r: Record) -> bool
         }
         2 => sheet_fields::zero_from(r, 3),
         3 => {
-            if sheet_fields::field_at(sheet, directory, ENUMERATED_TYPES, r.f1 as usize, 0)
-                <= r.f2 as usize
-            {
+            if sheet_fields::field_at(sheet, ENUMERATED_TYPES, r.f1 as usize, 0) <= r.f2 as usize {
                 return false;
             }
             sheet_fields::zero_from(r, 3)
         }
         4 => {
-            if sheet_fields::field_at(sheet, directory, HEAD, 0, 0) <= r.f1 as usize {
+            if sheet_fields::field_at(sheet, HEAD, 0, 0) <= r.f1 as usize {
                 return false;
             }
             sheet_fields::zero_from(r, 2)
         }
         5 => {
-            if sheet_fields::field_at(sheet, directory, HEAD, 0, 2) <= r.f1 as usize {
+            if sheet_fields::field_at(sheet, HEAD, 0, 2) <= r.f1 as usize {
                 return false;
             }
             sheet_fields::zero_from(r, 2)
@@ -44,11 +41,10 @@ pub fn literal_fits(sheet: &[u8], directory: &Directory, r: Record) -> bool
     }
 }
 
-pub fn constant_fits(sheet: &[u8], directory: &Directory, n: usize) -> bool
-    requires { directory.now ≡ directory_of sheet.now }
+pub fn constant_fits(sheet: &Reader, n: usize) -> bool
     ensures { result ≡ constant_shape sheet.now n }
 {
-    let Found::Present(r) = sheet_reader::read(sheet, directory, NODES, n) else {
+    let Some(r) = sheet.record(NODES, n) else {
         return false;
     };
     if r.f0 < 1 {
@@ -57,5 +53,5 @@ pub fn constant_fits(sheet: &[u8], directory: &Directory, n: usize) -> bool
     if 6 < r.f0 {
         return false;
     }
-    literal_fits(sheet, directory, r)
+    literal_fits(sheet, r)
 }

@@ -3,12 +3,13 @@
 
 ghost use Rattle.std.specs.Prelude.{◌≡◌, ◌+◌, ◌<◌, ◌≤◌, length, eqb};
 ghost use Rattle.sheet.specs.Names.{root, bodies, charts};
-ghost use Rattle.sheet.specs.Sheet.{record_of, directory_of};
+ghost use Rattle.sheet.specs.Sheet.{record_of};
 ghost use Rattle.sheet_rules.specs.Fields.{one_if, number_or0};
 ghost use Rattle.sheet_rules.specs.Uses.{over_bodies, root_uses};
 ghost use Rattle.checker_pass.specs.Marks.{named, marked, Marked};
 
-use sheet::{BODIES, CHARTS, Directory, Found};
+use sheet::{BODIES, CHARTS};
+use sheet_opened::Reader;
 
 // A mark that is named once more: 0, 1, 2 and no further.
 fn once_more(v: u16) -> u16
@@ -45,20 +46,12 @@ pub fn mark(marks: &mut [u16], top: usize, n: usize, k: u16)
 }
 
 // A body names its root. How many records were gone over: one, if it is there.
-fn mark_root(
-    sheet: &[u8],
-    directory: &Directory,
-    marks: &mut [u16],
-    count: usize,
-    number: usize,
-    k: u16,
-) -> usize
-    requires directory_value { directory.now ≡ directory_of sheet.now }
+fn mark_root(sheet: &Reader, marks: &mut [u16], count: usize, number: usize, k: u16) -> usize
     requires count_in_bounds { count ≤ length marks.old }
     requires k_bound { k < 16384 }
     ensures { (result ≡ number_or0 (record_of sheet.now bodies number) (λ b. 1)) × (result ≤ 1) × Marked count k marks.old marks.new (λ n. number_or0 (record_of sheet.now bodies number) (λ b. one_if (eqb (root b) n))) }
 {
-    let Found::Present(b) = sheet_reader::read(sheet, directory, BODIES, number) else {
+    let Some(b) = sheet.record(BODIES, number) else {
         return 0;
     };
     mark(marks, count, b.f7 as usize, k);
@@ -66,28 +59,19 @@ fn mark_root(
 }
 
 // The bodies of chart i name their roots. How many bodies were gone over.
-pub fn mark_chart(
-    sheet: &[u8],
-    directory: &Directory,
-    marks: &mut [u16],
-    count: usize,
-    i: usize,
-) -> usize
-    requires directory_value { directory.now ≡ directory_of sheet.now }
+pub fn mark_chart(sheet: &Reader, marks: &mut [u16], count: usize, i: usize) -> usize
     requires count_in_bounds { count ≤ length marks.old }
     ensures { (result ≡ number_or0 (record_of sheet.now charts i) (over_bodies sheet.now (λ b. 1))) × (result < 65536) × Marked count (i + 1) marks.old marks.new (λ n. number_or0 (record_of sheet.now charts i) (root_uses sheet.now n)) }
 {
-    let Found::Present(c) = sheet_reader::read(sheet, directory, CHARTS, i) else {
+    let Some(c) = sheet.record(CHARTS, i) else {
         return 0;
     };
     let k = (i + 1) as u16;
     let first = c.f4 as usize;
     let total = c.f5 as usize;
     let mut gone: usize = 0;
-    let mut j: usize = 0;
-    while j < total {
-        gone += mark_root(sheet, directory, marks, count, first + j, k);
-        j += 1;
+    for j in 0..total {
+        gone += mark_root(sheet, marks, count, first + j, k);
     }
     gone
 }

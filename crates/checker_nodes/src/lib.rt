@@ -4,12 +4,12 @@
 ghost use Rattle.std.specs.Prelude.{◌≡◌, ◌+◌, ltb, eqb};
 ghost use Rattle.sheet.specs.All.{◌and◌};
 ghost use Rattle.sheet.specs.Names.{chart_variables, chart_bodies};
-ghost use Rattle.sheet.specs.Sheet.{directory_of};
 ghost use Rattle.sheet_rules.specs.Fields.{zero_from};
 ghost use Rattle.sheet_rules.specs.Forms.{call_data};
 ghost use Rattle.sheet_rules.specs.Shape.{variables_at, send_shape};
 
-use sheet::{Directory, Found, NAMES, Record};
+use sheet::{NAMES, Record};
+use sheet_opened::Reader;
 
 fn variables_at(c: Record, b: Record, place: u16) -> usize
     ensures { result ≡ variables_at c b place }
@@ -51,19 +51,17 @@ pub fn chart_variable_fits(c: Record, r: Record, from: usize) -> bool
 }
 
 // A data field more than the name has is 0.
-pub fn send_fits(sheet: &[u8], directory: &Directory, r: Record) -> bool
-    requires { directory.now ≡ directory_of sheet.now }
+pub fn send_fits(sheet: &Reader, r: Record) -> bool
     ensures { result ≡ send_shape sheet.now r }
 {
-    let Found::Present(n) = sheet_reader::read(sheet, directory, NAMES, r.f3 as usize) else {
+    let Some(n) = sheet.record(NAMES, r.f3 as usize) else {
         return false;
     };
     sheet_fields::zero_from(r, 4 + n.f1 as usize)
 }
 
 // An internal send has neither component nor port.
-pub fn internal_fits(sheet: &[u8], directory: &Directory, r: Record) -> bool
-    requires { directory.now ≡ directory_of sheet.now }
+pub fn internal_fits(sheet: &Reader, r: Record) -> bool
     ensures { result ≡ eqb r.f1 0 and eqb r.f2 0 and send_shape sheet.now r }
 {
     if r.f1 != 0 {
@@ -72,22 +70,20 @@ pub fn internal_fits(sheet: &[u8], directory: &Directory, r: Record) -> bool
     if r.f2 != 0 {
         return false;
     }
-    send_fits(sheet, directory, r)
+    send_fits(sheet, r)
 }
 
-pub fn arm_fits(sheet: &[u8], directory: &Directory, c: Record, r: Record) -> bool
-    requires { directory.now ≡ directory_of sheet.now }
+pub fn arm_fits(sheet: &Reader, c: Record, r: Record) -> bool
     ensures { result ≡ ltb r.f1 (chart_variables c).count and send_shape sheet.now r }
 {
     if !chart_variable_there(c, r) {
         return false;
     }
-    send_fits(sheet, directory, r)
+    send_fits(sheet, r)
 }
 
 // A data field more than the called body has parameters is 0.
-pub fn call_fits(sheet: &[u8], directory: &Directory, c: Record, r: Record) -> bool
-    requires { directory.now ≡ directory_of sheet.now }
+pub fn call_fits(sheet: &Reader, c: Record, r: Record) -> bool
     ensures { result ≡ ltb r.f1 (chart_bodies c).count and eqb r.f2 0 and eqb r.f3 0 and zero_from (4 + call_data sheet.now c r) r }
 {
     if c.f5 <= r.f1 {
@@ -99,5 +95,5 @@ pub fn call_fits(sheet: &[u8], directory: &Directory, c: Record, r: Record) -> b
     if r.f3 != 0 {
         return false;
     }
-    sheet_fields::zero_from(r, 4 + sheet_fields::call_data(sheet, directory, c, r))
+    sheet_fields::zero_from(r, 4 + sheet_fields::call_data(sheet, c, r))
 }

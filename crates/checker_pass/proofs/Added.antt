@@ -1,4 +1,5 @@
 -- What each part of the test adds, as the definitions of the uses count it.
+use Rattle.std.specs.Prelude.{Option, Some, None}
 use Prim.Native.Nat.{ℕ, zero, suc, ◌+◌, ◌-◌, ◌≤◌, ◌<◌}
 use mathlib.Core.Path.{◌≡◌, refl, sym, ap, ◌∙◌}
 use mathlib.Core.List.{List}
@@ -8,8 +9,6 @@ use native.Mathlib.Decide.{dec_lt}
 use lib.Dec.{eqb}
 use borrow.Author.Tests.{le-leb, lt-leb}
 use Rattle.sheet.specs.declared.Record.{Record}
-use Rattle.sheet.specs.declared.Found.{Found}
-use Rattle.sheet.specs.declared.Found.TheVariants.{Present, Absent}
 use Rattle.sheet.specs.Names.{charts, bodies, nodes, bindings, root, chart_bodies, chart_parameters, bound_chart}
 use Rattle.sheet.specs.Sheet.{count_of, record_of}
 use Rattle.sheet.proofs.Sheet.{record_present, record_absent, present-below}
@@ -32,12 +31,12 @@ module _ (s : List ℕ) where
   unfolding home_chart
   home-none k e = rw e refl
 
-  pub home_absent : (k : ℕ) → record_of s charts (k - 1) ≡ Absent → no_chart ≡ home_chart s k
+  pub home_absent : (k : ℕ) → record_of s charts (k - 1) ≡ None → no_chart ≡ home_chart s k
   unfolding home_chart chart_or
   home_absent zero p = refl
   home_absent (suc k) p = rw (ap (record_of s charts) (let e : k ≡ suc k - 1 = omega arith in e) ∙ p) refl
 
-  pub home-there : (k : ℕ) (c : Record) → (k ≡ 0 → ⊥) → record_of s charts (k - 1) ≡ Present c → c ≡ home_chart s k
+  pub home-there : (k : ℕ) (c : Record) → (k ≡ 0 → ⊥) → record_of s charts (k - 1) ≡ Some c → c ≡ home_chart s k
   unfolding home_chart chart_or
   home-there zero c n p = absurd (n refl)
   home-there (suc k) c n p = rw (ap (record_of s charts) (let e : k ≡ suc k - 1 = omega arith in e) ∙ p) refl
@@ -45,10 +44,10 @@ module _ (s : List ℕ) where
 -- ---- a record that is gone over, or isn't there
 
 module _ (top k : ℕ) (a : List ℕ) where
-  pub over_absent : (f : Found) (g : Record → ℕ → ℕ) → f ≡ Absent → (0 ≡ number_or0 f (λ r. 1)) × (0 ≤ 1) × Marked top k a a (λ n. number_or0 f (λ r. g r n))
+  pub over_absent : (f : Option Record) (g : Record → ℕ → ℕ) → f ≡ None → (0 ≡ number_or0 f (λ r. 1)) × (0 ≤ 1) × Marked top k a a (λ n. number_or0 f (λ r. g r n))
   over_absent f g p = (sym (number_absent f (λ r. 1) p), omega arith, marked-none top k a _ (λ n l. number_absent f (λ r. g r n) p))
 
-  pub over-present : (d : List ℕ) (f : Found) (r : Record) (g : Record → ℕ → ℕ) → f ≡ Present r → Marked top k a d (g r) → (1 ≡ number_or0 f (λ r. 1)) × (1 ≤ 1) × Marked top k a d (λ n. number_or0 f (λ r. g r n))
+  pub over-present : (d : List ℕ) (f : Option Record) (r : Record) (g : Record → ℕ → ℕ) → f ≡ Some r → Marked top k a d (g r) → (1 ≡ number_or0 f (λ r. 1)) × (1 ≤ 1) × Marked top k a d (λ n. number_or0 f (λ r. g r n))
   over-present d f r g p h = (sym (number-present f r (λ r. 1) p), omega arith, marked_as top k a d _ _ (λ n l. sym (number-present f r (λ r. g r n) p)) h)
 
 -- ---- in turn j: a body's root, a constant, an operand
@@ -73,16 +72,16 @@ abbrev pub operand_turn : Record → Operands → ℕ → ℕ → ℕ
 operand_turn r o n j = one_if (eqb (operand_at r o j) n)
 
 module _ (s : List ℕ) (top k : ℕ) (a : List ℕ) where
-  pub chart_absent : (i : ℕ) → record_of s charts i ≡ Absent → (0 ≡ number_or0 (record_of s charts i) (over_bodies s (λ b. 1))) × (0 < 65536) × Marked top k a a (λ n. number_or0 (record_of s charts i) (root_uses s n))
+  pub chart_absent : (i : ℕ) → record_of s charts i ≡ None → (0 ≡ number_or0 (record_of s charts i) (over_bodies s (λ b. 1))) × (0 < 65536) × Marked top k a a (λ n. number_or0 (record_of s charts i) (root_uses s n))
   chart_absent i p = (sym (number_absent _ _ p), omega arith, marked-none top k a _ (λ n l. number_absent _ _ p))
 
-  pub chart_added : (d : List ℕ) (i x : ℕ) (c : Record) → record_of s charts i ≡ Present c → x ≡ sum_below (chart_bodies c).count (body_turn s (chart_bodies c).first) → x < 65536 → Marked top k a d (λ n. sum_below (chart_bodies c).count (root_turn s (chart_bodies c).first n)) → (x ≡ number_or0 (record_of s charts i) (over_bodies s (λ b. 1))) × (x < 65536) × Marked top k a d (λ n. number_or0 (record_of s charts i) (root_uses s n))
+  pub chart_added : (d : List ℕ) (i x : ℕ) (c : Record) → record_of s charts i ≡ Some c → x ≡ sum_below (chart_bodies c).count (body_turn s (chart_bodies c).first) → x < 65536 → Marked top k a d (λ n. sum_below (chart_bodies c).count (root_turn s (chart_bodies c).first n)) → (x ≡ number_or0 (record_of s charts i) (over_bodies s (λ b. 1))) × (x < 65536) × Marked top k a d (λ n. number_or0 (record_of s charts i) (root_uses s n))
   unfolding over_bodies root_uses
   chart_added d i x c p e l h = (e ∙ sym (number-present _ c (over_bodies s (λ b. 1)) p), l, marked_as top k a d _ _ (λ n _. sym (number-present _ c (root_uses s n) p)) h)
 
 -- ---- the constants of the element whose first binding record is k
 
-module _ (s : List ℕ) (k : ℕ) (b : Record) (here : record_of s bindings k ≡ Present b) (total : ℕ) (total-is : total ≡ field_at s charts (bound_chart b) 1) where
+module _ (s : List ℕ) (k : ℕ) (b : Record) (here : record_of s bindings k ≡ Some b) (total : ℕ) (total-is : total ≡ field_at s charts (bound_chart b) 1) where
   parameters_are : number_or0 (chart_bound s k) (λ c. (chart_parameters c).count) ≡ total
   unfolding field_at field_of
   parameters_are = ap (λ f. number_or0 f (λ c. (chart_parameters c).count)) (bound-chart s k b here) ∙ sym total-is
@@ -92,9 +91,9 @@ module _ (s : List ℕ) (k : ℕ) (b : Record) (here : record_of s bindings k �
   unfolding constant_uses count_below number_or0 sum_below
   uses_total n = go (chart_bound s k) ∙ ap (λ (x : ℕ). sum_below x (λ j. one_if (holds (constant_binding s k j) (λ b. eqb (constant_of b j) n)))) parameters_are
     where
-      go : (f : Found) → number_or0 f (λ c. sum_below (chart_parameters c).count (λ j. one_if (holds (constant_binding s k j) (λ b. eqb (constant_of b j) n)))) ≡ sum_below (number_or0 f (λ c. (chart_parameters c).count)) (λ j. one_if (holds (constant_binding s k j) (λ b. eqb (constant_of b j) n)))
-      go (Present c) = refl
-      go Absent = refl
+      go : (f : Option Record) → number_or0 f (λ c. sum_below (chart_parameters c).count (λ j. one_if (holds (constant_binding s k j) (λ b. eqb (constant_of b j) n)))) ≡ sum_below (number_or0 f (λ c. (chart_parameters c).count)) (λ j. one_if (holds (constant_binding s k j) (λ b. eqb (constant_of b j) n)))
+      go (Some c) = refl
+      go None = refl
 
   -- a constant in the first record, and in the second
   first_turn : (n j : ℕ) → j < constants_in_record → one_if (holds (constant_binding s k j) (λ b. eqb (constant_of b j) n)) ≡ constant_turn b n j
@@ -104,9 +103,9 @@ module _ (s : List ℕ) (k : ℕ) (b : Record) (here : record_of s bindings k �
   unfolding number_or0
   second_turn n j = let e = constant_second k (constants_in_record + j) (omega arith) in go (record_of s bindings (k + 1)) (ap (record_of s bindings) e.0) (e.1 ∙ (let z : 1 + (constants_in_record + j - constants_in_record) ≡ 1 + j = omega arith in z))
     where
-      go : (f : Found) → constant_binding s k (constants_in_record + j) ≡ f → constant_field (constants_in_record + j) ≡ 1 + j → one_if (holds (constant_binding s k (constants_in_record + j)) (λ b. eqb (constant_of b (constants_in_record + j)) n)) ≡ number_or0 f (λ d. constant_turn d n j)
-      go (Present d) p q = ap one_if (holds-present _ d _ p) ∙ ap (λ (x : ℕ). one_if (eqb (field_of d x) n)) q
-      go Absent p q = ap one_if (holds_absent _ _ p)
+      go : (f : Option Record) → constant_binding s k (constants_in_record + j) ≡ f → constant_field (constants_in_record + j) ≡ 1 + j → one_if (holds (constant_binding s k (constants_in_record + j)) (λ b. eqb (constant_of b (constants_in_record + j)) n)) ≡ number_or0 f (λ d. constant_turn d n j)
+      go (Some d) p q = ap one_if (holds-present _ d _ p) ∙ ap (λ (x : ℕ). one_if (eqb (field_of d x) n)) q
+      go None p q = ap one_if (holds_absent _ _ p)
 
   inside : k < count_of s bindings
   inside = present-below s bindings k b here
@@ -144,9 +143,9 @@ module _ (s : List ℕ) (k : ℕ) (b : Record) (here : record_of s bindings k �
         both : {a b c d : ℕ} → a ≡ b → c ≡ d → a + c ≡ b + d
         both p q = omega (arith, p, q)
 
-        absorbed : (f : Found) → sum_below (total - constants_in_record) (λ j. number_or0 f (λ d. constant_turn d n j)) ≡ number_or0 f (λ d. sum_below (total - constants_in_record) (constant_turn d n))
-        absorbed (Present r) = refl
-        absorbed Absent = sum-zero (total - constants_in_record) _ (λ j m. refl)
+        absorbed : (f : Option Record) → sum_below (total - constants_in_record) (λ j. number_or0 f (λ d. constant_turn d n j)) ≡ number_or0 f (λ d. sum_below (total - constants_in_record) (constant_turn d n))
+        absorbed (Some r) = refl
+        absorbed None = sum-zero (total - constants_in_record) _ (λ j m. refl)
 
     -- two records
     pub many_added : (top x : ℕ) (a e d : List ℕ) → x ≡ number_or0 (record_of s bindings (k + 1)) (λ b. 1) → x ≤ 1 → Marked top 0 a e (constants_named b constants_in_record) → Marked top 0 e d (λ m. number_or0 (record_of s bindings (k + 1)) (λ b. constants_named b (total - constants_in_record) m)) → (k + (1 + x) ≡ gone_to s k) × (1 + x ≤ 2) × Marked top 0 a d (λ n. constant_uses s n k)
@@ -175,9 +174,9 @@ module _ (s : List ℕ) where
       reach b = elim b [ true ↦ behind s k | false ↦ count_of s bindings ]
 
 module _ (s : List ℕ) (m k : ℕ) (a : List ℕ) where
-  pub operands_absent : (c : Record) → record_of s nodes m ≡ Absent → (0 ≡ number_or0 (record_of s nodes m) (λ r. 1)) × (0 ≤ 1) × Marked m k a a (operand_uses s c m)
+  pub operands_absent : (c : Record) → record_of s nodes m ≡ None → (0 ≡ number_or0 (record_of s nodes m) (λ r. 1)) × (0 ≤ 1) × Marked m k a a (operand_uses s c m)
   operands_absent c p = (sym (number_absent _ _ p), omega arith, marked-none m k a _ (λ n l. no_operands s c m n p))
 
-  pub operands_added : (d : List ℕ) (c : Record) (r : Record) (o : Operands) → record_of s nodes m ≡ Present r → o ≡ operands_of s c r → Marked m k a d (λ n. sum_below (operand_count o) (operand_turn r o n)) → (1 ≡ number_or0 (record_of s nodes m) (λ r. 1)) × (1 ≤ 1) × Marked m k a d (operand_uses s c m)
+  pub operands_added : (d : List ℕ) (c : Record) (r : Record) (o : Operands) → record_of s nodes m ≡ Some r → o ≡ operands_of s c r → Marked m k a d (λ n. sum_below (operand_count o) (operand_turn r o n)) → (1 ≡ number_or0 (record_of s nodes m) (λ r. 1)) × (1 ≤ 1) × Marked m k a d (operand_uses s c m)
   unfolding count_below
   operands_added d c r o p e h = (sym (number-present _ r (λ r. 1) p), omega arith, marked_as m k a d _ _ (λ n l. ap (λ (o : Operands). sum_below (operand_count o) (operand_turn r o n)) e ∙ sym (uses-are s c m n r p l)) h)

@@ -1,12 +1,12 @@
 -- What the test promises that each node is used exactly once.
-use Rattle.std.specs.Prelude.{ℕ, ◌+◌, ◌≤◌, ◌<◌, ◌≡◌, List, true, length, get_or}
+use Rattle.std.specs.Prelude.{ℕ, ◌+◌, ◌≤◌, ◌<◌, ◌≡◌, List, true, length, get_or, Result, Ok, Err}
 use Rattle.sheet.specs.Names.{bodies, nodes, bindings}
 use Rattle.sheet.specs.Sheet.{count_of}
 use Rattle.sheet_rules.specs.Uses.{uses_of, used_once, mark_of, calls_in_one_body, gone_over}
 use Rattle.sheet_rules.specs.Check.{otherwise_in_shape}
 use Rattle.checker_pass.specs.declared.Tested.{Tested}
-use Rattle.checker_pass.specs.declared.NodeMarks.{NodeMarks}
-use Rattle.checker_pass.specs.declared.NodeMarks.TheVariants.{Done, TooFew}
+use Rattle.checker_pass.specs.declared.Unmarked.{Unmarked}
+use Rattle.checker_pass.specs.declared.Unmarked.TheVariants.{TooFew}
 
 -- for a sheet and the marks that were lent, before and after
 pub record TestGives (s before after : List ℕ) (t : Tested) : Type 0 where
@@ -23,6 +23,6 @@ pub record TestGives (s before after : List ℕ) (t : Tested) : Type 0 where
   pub long : length after ≡ length before
 
 -- for any bytes and any lent marks: one for each node is enough; with fewer nothing is written
-abbrev pub MarkingGives : List ℕ → List ℕ → List ℕ → NodeMarks → Type 0
-MarkingGives s before after (Done t) = (count_of s nodes ≤ length before) × TestGives s before after t
-MarkingGives s before after TooFew = (length before < count_of s nodes) × (after ≡ before)
+abbrev pub MarkingGives : List ℕ → List ℕ → List ℕ → Result Tested Unmarked → Type 0
+MarkingGives s before after (Ok t) = (count_of s nodes ≤ length before) × TestGives s before after t
+MarkingGives s before after (Err TooFew) = (length before < count_of s nodes) × (after ≡ before)

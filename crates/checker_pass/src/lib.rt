@@ -1,14 +1,13 @@
 // What the test tells that each node is used exactly once. There is no code here.
 #![tactic(auto)]
 
-// What marking the nodes of any bytes comes to: the test's result, or that too few marks were lent.
+// Why no node is marked: fewer marks are lent than the sheet has nodes.
 #[derive(Clone, Copy)]
-pub enum NodeMarks {
-    Done(Tested),
+pub enum Unmarked {
     TooFew,
 }
 
-// Whether each node is used exactly once, and how many records the test went over.
+// Whether each node is used exactly once, and how many records the test went over: both are told in any case.
 #[derive(Clone, Copy)]
 pub struct Tested {
     pub once: bool,

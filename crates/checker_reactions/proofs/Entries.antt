@@ -1,4 +1,5 @@
 -- Laws of arrays of bodies by name: the table of internal reactions, and the chains of reactions to a name.
+use Rattle.std.specs.Prelude.{Option, Some, None}
 use Prim.Native.Nat.{ℕ, zero, suc, ◌+◌, ◌-◌, ◌≤◌, ◌<◌}
 use mathlib.Core.Path.{◌≡◌, refl, sym, ap, ◌∙◌}
 use mathlib.Core.List.{List}
@@ -10,8 +11,7 @@ use lib.Seq.{get_or-set_same, get_or-set_other}
 use lib.Dec.{eqb}
 use borrow.Author.Tests.{ltb-true, leb-true, lt-ltb, le-ltb, le-leb, eq-eqb, ne_eqb, eqb-true, eqb-false}
 use Rattle.sheet.specs.declared.Record.{Record}
-use Rattle.sheet.specs.declared.Found.{Found}
-use Rattle.sheet.specs.declared.Found.TheVariants.{Present, Absent}
+use Rattle.checker_reactions.specs.declared.Tables.{Tables}
 use Rattle.sheet.specs.All.{◌and◌, all_below}
 use Rattle.sheet.specs.Sheet.{count_of, record_of}
 use Rattle.sheet.proofs.All.{true_false, not_so, and-true, and_first, and_second, true-and, false-and, all_fails_lem}
@@ -31,7 +31,7 @@ all-each zero p h = refl
 all-each (suc n) p h = and-true _ _ (all-each n p (λ i l. h i (omega arith))) (h n (omega arith))
 
 -- a body that is there has a place in an array
-pub body-small : (s : List ℕ) (i : ℕ) (b : Record) → record_of s 5 i ≡ Present b → i < 4095
+pub body-small : (s : List ℕ) (i : ℕ) (b : Record) → record_of s 5 i ≡ Some b → i < 4095
 unfolding holds
 body-small s i b e = elim (dec_lt i (count_of s 5)) [
   | yes l ↦ omega (arith, count_limit s 5)
@@ -60,7 +60,7 @@ module _ (s : List ℕ) (p : ℕ → Record → Bool) where
   pub not_entered : (i : ℕ) (t : List ℕ) → length t ≡ 4096 → ((n : ℕ) → n < 4096 → is_a s i (p n) ≡ false) → Entered s p i t t
   not_entered i t l h = record { size = l; new = λ n q k. absurd (true_false k (h n q)); old = λ n q k. refl }
 
-  pub entered_at : (i m : ℕ) (t : List ℕ) (b : Record) → record_of s 5 i ≡ Present b → length t ≡ 4096 → m < 4096 → ((n : ℕ) → p n b ≡ eqb m n) → Entered s p i t (set t m (i + 1))
+  pub entered_at : (i m : ℕ) (t : List ℕ) (b : Record) → record_of s 5 i ≡ Some b → length t ≡ 4096 → m < 4096 → ((n : ℕ) → p n b ≡ eqb m n) → Entered s p i t (set t m (i + 1))
   entered_at i m t b e l q h = record {
     size = length-set t m (i + 1) ∙ l;
     new = λ n r k. let same : m ≡ n = eqb-true m n (sym (h n) ∙ sym (holds-present _ b (p n) e) ∙ k) in rw (sym same) (get_or-set_same t m (i + 1) 0 (omega arith));
@@ -70,10 +70,10 @@ module _ (s : List ℕ) (p : ℕ → Record → Bool) where
 -- ---- the table of internal reactions
 
 module _ (s : List ℕ) (i : ℕ) (t : List ℕ) (l : length t ≡ 4096) where
-  pub enter_absent : record_of s 5 i ≡ Absent → Entered s reacts_to i t t
+  pub enter_absent : record_of s 5 i ≡ None → Entered s reacts_to i t t
   enter_absent e = not_entered s reacts_to i t l (λ n q. holds_absent _ _ e)
 
-  module _ (b : Record) (e : record_of s 5 i ≡ Present b) where
+  module _ (b : Record) (e : record_of s 5 i ≡ Some b) where
     pub enter_other : (b.f0 ≡ 3 → ⊥) → Entered s reacts_to i t t
     enter_other h = not_entered s reacts_to i t l (λ n q. holds-present _ b (reacts_to n) e ∙ false-and _ _ (ne_eqb _ 3 h))
 
@@ -141,7 +141,7 @@ module _ (s : List ℕ) (first : ℕ) where
       past : (e : ℕ) → first < up_to i e → ⊥
       past e h = elim (dec_lt i e) [ yes q ↦ omega (arith, up_past i e q) | no q ↦ omega (arith, up_in i e (omega arith)) ]
 
-  module _ (i : ℕ) (b : Record) (there : record_of s 5 i ≡ Present b) (last last' previous previous' : List ℕ) (ch : Chains s first i last previous) (h : Linked b i last last' previous previous') where
+  module _ (i : ℕ) (b : Record) (there : record_of s 5 i ≡ Some b) (last last' previous previous' : List ℕ) (ch : Chains s first i last previous) (h : Linked b i last last' previous previous') where
     tests : (n : ℕ) → is_a s i (named n) ≡ named n b
     tests n = holds-present _ b (named n) there
 
@@ -235,15 +235,15 @@ same_role_lem a b h = ap is_reaction (sym (eqb-true _ _ (and_first _ _ (and_seco
 abbrev pub differs : Record → Record → Bool
 differs b a = not (same_reaction a b)
 
-other_name : (f : Found) (b : Record) → holds f (λ a. true) ≡ true → holds f (named b.f2) ≡ false → holds f (differs b) ≡ true
+other_name : (f : Option Record) (b : Record) → holds f (λ a. true) ≡ true → holds f (named b.f2) ≡ false → holds f (differs b) ≡ true
 unfolding holds
-other_name (Present a) b h k = ap not (not_so _ (λ e. true_false (same_named a b e) k))
-other_name Absent b h k = h
+other_name (Some a) b h k = ap not (not_so _ (λ e. true_false (same_named a b e) k))
+other_name None b h k = h
 
-not_reaction : (f : Found) (b : Record) → holds f (λ a. true) ≡ true → is_reaction b.f0 ≡ false → holds f (differs b) ≡ true
+not_reaction : (f : Option Record) (b : Record) → holds f (λ a. true) ≡ true → is_reaction b.f0 ≡ false → holds f (differs b) ≡ true
 unfolding holds
-not_reaction (Present a) b h k = ap not (not_so _ (λ e. true_false (same_role_lem a b e) k))
-not_reaction Absent b h k = h
+not_reaction (Some a) b h k = ap not (not_so _ (λ e. true_false (same_role_lem a b e) k))
+not_reaction None b h k = h
 
 module _ (s : List ℕ) (c : Record) (j : ℕ) (b : Record) where
   pub no_twins : ((m : ℕ) → c.f4 ≤ m → m < c.f4 + j → is_a s m (differs b) ≡ true) → true ≡ no_twin s c j b
@@ -271,7 +271,7 @@ module _ (s : List ℕ) (first i : ℕ) (b : Record) (last previous : List ℕ) 
     one = λ k. rw h ((ch.latest b.f2 q).one (omega (arith, h)));
   }
 
-  pub walk_more : (e e' : ℕ) (a : Record) → Walked s first i b e → first < e → record_of s 5 (e - 1) ≡ Present a → same_reaction a b ≡ false → e' ≡ up_to (e - 1) (get_or previous (e - 1) 0) → e' ≤ e - 1 → Walked s first i b e'
+  pub walk_more : (e e' : ℕ) (a : Record) → Walked s first i b e → first < e → record_of s 5 (e - 1) ≡ Some a → same_reaction a b ≡ false → e' ≡ up_to (e - 1) (get_or previous (e - 1) 0) → e' ≤ e - 1 → Walked s first i b e'
   walk_more e e' a w f there d h l = record {
     inside = omega (arith, w.inside);
     seen = λ m u r k. elim (dec_lt m (e - 1)) [
@@ -294,14 +294,14 @@ static-small s c b h k = class-small s b.f2 _ (and_first _ _ (rw (role_static, k
 
 -- ---- from body to body, and from chart to chart
 
-pub chained_next : (s : List ℕ) (first j : ℕ) (b : Record) (last last' previous previous' : List ℕ) → record_of s 5 (first + j) ≡ Present b → Chains s first (first + j) last previous → Linked b (first + j) last last' previous previous' → Chains s first (first + (j + 1)) last' previous'
+pub chained_next : (s : List ℕ) (first j : ℕ) (b : Record) (last last' previous previous' : List ℕ) → record_of s 5 (first + j) ≡ Some b → Chains s first (first + j) last previous → Linked b (first + j) last last' previous previous' → Chains s first (first + (j + 1)) last' previous'
 chained_next s first j b last last' previous previous' there ch h = let same : first + j + 1 ≡ first + (j + 1) = omega arith in rw same at (chained s first (first + j) b there last last' previous previous' ch h)
 
-pub chains_start : (s : List ℕ) (first : ℕ) (table last previous : List ℕ) → Ready s table last previous → Chains s first (first + 0) last previous
-chains_start s first table last previous r = chains_none s first (first + 0) last previous (omega arith) r.last_entries r.previous_size
+pub chains_start : (s : List ℕ) (first : ℕ) (t : Tables) → Ready s t → Chains s first (first + 0) t.last t.previous
+chains_start s first t r = chains_none s first (first + 0) t.last t.previous (omega arith) r.last_entries r.previous_size
 
-pub ready : (s : List ℕ) (first i : ℕ) (table last previous : List ℕ) → Entries s reacts_to table → Chains s first i last previous → Ready s table last previous
-ready s first i table last previous e ch = record { table_entries = e; last_entries = ch.entries; previous_size = ch.size }
+pub ready : (s : List ℕ) (first i : ℕ) (t : Tables) → Entries s reacts_to t.internal → Chains s first i t.last t.previous → Ready s t
+ready s first i t e ch = record { table_entries = e; last_entries = ch.entries; previous_size = ch.size }
 
-pub ready-zeros : (s : List ℕ) → Ready s (replicate 4096 0) (replicate 4096 0) (replicate 4096 0)
+pub ready-zeros : (s : List ℕ) → Ready s (record { internal = replicate 4096 0; last = replicate 4096 0; previous = replicate 4096 0 })
 ready-zeros s = record { table_entries = no_entries_lem s reacts_to; last_entries = no_entries_lem s named; previous_size = length-replicate {A = ℕ} 4096 0 }

@@ -2,6 +2,7 @@
 -- any bodies of the sheet.
 use Rattle.std.specs.Prelude.{ℕ, ◌+◌, ◌-◌, ◌<◌, ◌≤◌, ◌≡◌, List, Bool, true, false, length, get_or, ltb, eqb}
 use Rattle.sheet.specs.declared.Record.{Record}
+use Rattle.checker_reactions.specs.declared.Tables.{Tables}
 use Rattle.sheet.specs.All.{◌and◌}
 use Rattle.sheet.specs.Names.{bodies, role, reaction_name}
 use Rattle.sheet.specs.Sheet.{record_of}
@@ -57,7 +58,7 @@ pub record Linked (b : Record) (i : ℕ) (last last' previous previous' : List �
   pub others : (m : ℕ) → (m ≡ i → ⊥) → get_or previous' m 0 ≡ get_or previous m 0
 
 -- the arrays as they are handed from chart to chart
-pub record Ready (s : List ℕ) (table last previous : List ℕ) : Type 0 where
-  pub table_entries : Entries s reacts_to table
-  pub last_entries : Entries s named last
-  pub previous_size : length previous ≡ 4096
+pub record Ready (s : List ℕ) (t : Tables) : Type 0 where
+  pub table_entries : Entries s reacts_to t.internal
+  pub last_entries : Entries s named t.last
+  pub previous_size : length t.previous ≡ 4096

@@ -2,20 +2,28 @@
 #![tactic(auto)]
 
 ghost use Rattle.std.specs.Prelude.{◌≡◌, length};
-ghost use Rattle.sheet.specs.Sheet.{directory_of};
 ghost use Rattle.sheet_rules.specs.Types.{reacts_to};
 ghost use Rattle.sheet_types.specs.Table.{Table};
 ghost use Rattle.checker_reactions.specs.Entries.{Entries, Entered};
 
-use sheet::{BODIES, ByRecord, Directory, Found, Record};
+use sheet::{BODIES, ByRecord, Record};
+use sheet_opened::Reader;
+
+// The reactions of a chart by name: its internal ones, the latest one to each name, and for a body the one before it
+// to the same name. The arrays are handed from chart to chart as they are.
+#[derive(Drop)]
+pub struct Tables {
+    pub internal: ByRecord,
+    pub last: ByRecord,
+    pub previous: ByRecord,
+}
 
 // Enters body i in the table of internal reactions, if it is one.
-fn enter(sheet: &[u8], directory: &Directory, table: &mut ByRecord, i: usize)
-    requires directory_value { directory.now ≡ directory_of sheet.now }
+fn enter(sheet: &Reader, table: &mut ByRecord, i: usize)
     requires table_len { length table.old ≡ 4096 }
     ensures { Entered sheet.now reacts_to i table.old table.new }
 {
-    let Found::Present(b) = sheet_reader::read(sheet, directory, BODIES, i) else {
+    let Some(b) = sheet.record(BODIES, i) else {
         return;
     };
     if b.f0 != 3 {
@@ -30,16 +38,13 @@ fn enter(sheet: &[u8], directory: &Directory, table: &mut ByRecord, i: usize)
 
 // Enters the internal reactions of chart c. What other charts left there stays: a body that is not
 // of this chart, or one that reacts to that name in it too.
-pub fn fill(sheet: &[u8], directory: &Directory, table: &mut ByRecord, c: Record)
-    requires directory_value { directory.now ≡ directory_of sheet.now }
+pub fn fill(sheet: &Reader, table: &mut ByRecord, c: Record)
     requires entries { Entries sheet.now reacts_to table.old }
     ensures { Entries sheet.now reacts_to table.new × Table sheet.now c table.new }
 {
     let first = c.f4 as usize;
     let count = c.f5 as usize;
-    let mut j: usize = 0;
-    while j < count {
-        enter(sheet, directory, table, first + j);
-        j += 1;
+    for j in 0..count {
+        enter(sheet, table, first + j);
     }
 }

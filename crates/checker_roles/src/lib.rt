@@ -3,35 +3,33 @@
 
 ghost use Rattle.std.specs.Prelude.{◌≡◌, ◌<◌, ◌≤◌};
 ghost use Rattle.sheet.specs.Names.{body_parameters, body_locals};
-ghost use Rattle.sheet.specs.Sheet.{directory_of};
 ghost use Rattle.sheet_rules.specs.Fields.{one_if};
 ghost use Rattle.sheet_rules.specs.Static.{plain_data, same_types, reaction_static, role_static, bodies_with, has_role};
 
-use sheet::{BODIES, Directory, Found, Range, Record};
+use sheet::{BODIES, Range, Record};
+use sheet_opened::Reader;
 
 // "clocks .. stand in no declaration range but chart variables", nor does an array.
-pub fn plain_data(sheet: &[u8], directory: &Directory, g: Range) -> bool
-    requires { (directory.now ≡ directory_of sheet.now) × (g.first < 65536) × (g.count < 65536) }
+pub fn plain_data(sheet: &Reader, g: Range) -> bool
+    requires { (g.first < 65536) × (g.count < 65536) }
     ensures { result ≡ plain_data sheet.now g }
 {
     let first = g.first;
     let count = g.count;
-    let mut j: usize = 0;
-    while j < count {
-        if sheet_types::is_clock(sheet_types::type_at(sheet, directory, first + j)) {
+    for j in 0..count {
+        if sheet_types::is_clock(sheet_types::type_at(sheet, first + j)) {
             return false;
         }
-        if !sheet_indices::is_plain(sheet, directory, first + j) {
+        if !sheet_indices::is_plain(sheet, first + j) {
             return false;
         }
-        j += 1;
     }
     true
 }
 
 // Whether two ranges of declarations have the same types in order.
-fn same_types(sheet: &[u8], directory: &Directory, g: Range, h: Range) -> bool
-    requires { (directory.now ≡ directory_of sheet.now) × (g.first < 65536) × (g.count < 65536) × (h.first < 65536) }
+fn same_types(sheet: &Reader, g: Range, h: Range) -> bool
+    requires { (g.first < 65536) × (g.count < 65536) × (h.first < 65536) }
     ensures { result ≡ same_types sheet.now g h }
 {
     let count = g.count;
@@ -40,14 +38,10 @@ fn same_types(sheet: &[u8], directory: &Directory, g: Range, h: Range) -> bool
     if count != h.count {
         return false;
     }
-    let mut j: usize = 0;
-    while j < count {
-        if sheet_types::type_at(sheet, directory, from + j)
-            != sheet_types::type_at(sheet, directory, with + j)
-        {
+    for j in 0..count {
+        if sheet_types::type_at(sheet, from + j) != sheet_types::type_at(sheet, with + j) {
             return false;
         }
-        j += 1;
     }
     true
 }
@@ -70,67 +64,51 @@ pub fn locals(b: Record) -> Range
     }
 }
 
-fn reaction_static(sheet: &[u8], directory: &Directory, b: Record) -> bool
-    requires { directory.now ≡ directory_of sheet.now }
+fn reaction_static(sheet: &Reader, b: Record) -> bool
     ensures { result ≡ reaction_static sheet.now b }
 {
     let name = b.f2 as usize;
     if b.f0 == 2 {
-        if !sheet_types::has_class(sheet, directory, name, 0) {
+        if !sheet_types::has_class(sheet, name, 0) {
             return false;
         }
-        return same_types(
-            sheet,
-            directory,
-            parameters(b),
-            sheet_types::name_range(sheet, directory, name),
-        );
+        return same_types(sheet, parameters(b), sheet_types::name_range(sheet, name));
     }
-    if !sheet_types::has_class(sheet, directory, name, 1) {
+    if !sheet_types::has_class(sheet, name, 1) {
         return false;
     }
-    same_types(
-        sheet,
-        directory,
-        parameters(b),
-        sheet_types::name_range(sheet, directory, name),
-    )
+    same_types(sheet, parameters(b), sheet_types::name_range(sheet, name))
 }
 
-pub fn role_static(sheet: &[u8], directory: &Directory, b: Record) -> bool
-    requires { directory.now ≡ directory_of sheet.now }
+pub fn role_static(sheet: &Reader, b: Record) -> bool
     ensures { result ≡ role_static sheet.now b }
 {
     let role = b.f0;
     match role {
         0..=1 => b.f4 == 0,
-        2..=3 => reaction_static(sheet, directory, b),
+        2..=3 => reaction_static(sheet, b),
         _ => true,
     }
 }
 
 // How many bodies of chart c have a role.
-pub fn bodies_with(sheet: &[u8], directory: &Directory, c: Record, role: u16) -> usize
-    requires { directory.now ≡ directory_of sheet.now }
+pub fn bodies_with(sheet: &Reader, c: Record, role: u16) -> usize
     ensures { result ≡ bodies_with sheet.now c role }
 {
     let first = c.f4 as usize;
     let count = c.f5 as usize;
     let mut n: usize = 0;
-    let mut j: usize = 0;
-    while j < count {
-        n += role_count(sheet, directory, first + j, role);
-        j += 1;
+    for j in 0..count {
+        n += role_count(sheet, first + j, role);
     }
     n
 }
 
 // 1 if body i has a role, else 0.
-fn role_count(sheet: &[u8], directory: &Directory, i: usize, role: u16) -> usize
-    requires { directory.now ≡ directory_of sheet.now }
+fn role_count(sheet: &Reader, i: usize, role: u16) -> usize
     ensures { (result ≡ one_if (has_role sheet.now i role)) × (result ≤ 1) }
 {
-    let Found::Present(b) = sheet_reader::read(sheet, directory, BODIES, i) else {
+    let Some(b) = sheet.record(BODIES, i) else {
         return 0;
     };
     if b.f0 == role { 1 } else { 0 }

@@ -2,11 +2,11 @@
 #![tactic(auto)]
 
 ghost use Rattle.std.specs.Prelude.{◌≡◌, ◌<◌, length, get_or};
-ghost use Rattle.sheet.specs.Sheet.{directory_of};
 ghost use Rattle.sheet_rules.specs.Types.{internal_name, clock_of, external_type, internal_type, arm_type, call_type};
 ghost use Rattle.sheet_types.specs.Table.{tabled, Table};
 
-use sheet::{ByRecord, Directory, Found, Record};
+use sheet::{ByRecord, Record};
+use sheet_opened::Reader;
 use sheet_rules::Typed;
 
 // Whether a table's entry is a body of chart c.
@@ -28,26 +28,17 @@ fn has_reaction(table: &ByRecord, c: Record, n: u16) -> bool
     in_chart(c, table[n as usize])
 }
 
-fn internal_name(sheet: &[u8], directory: &Directory, table: &ByRecord, c: Record, n: u16) -> bool
-    requires directory_value { directory.now ≡ directory_of sheet.now }
+fn internal_name(sheet: &Reader, table: &ByRecord, c: Record, n: u16) -> bool
     requires table { Table sheet.now c table.now }
     ensures { result ≡ internal_name sheet.now c n }
 {
-    if !sheet_types::has_class(sheet, directory, n as usize, 1) {
+    if !sheet_types::has_class(sheet, n as usize, 1) {
         return false;
     }
     has_reaction(table, c, n)
 }
 
-pub fn external_type(
-    sheet: &[u8],
-    directory: &Directory,
-    r: Record,
-    x: Typed,
-    y: Typed,
-    d: bool,
-) -> Typed
-    requires { directory.now ≡ directory_of sheet.now }
+pub fn external_type(sheet: &Reader, r: Record, x: Typed, y: Typed, d: bool) -> Typed
     ensures { result ≡ external_type sheet.now r x y d }
 {
     if !sheet_types::is_of(x, 2) {
@@ -56,7 +47,7 @@ pub fn external_type(
     if !sheet_types::is_of(y, 3) {
         return Typed::Wrong;
     }
-    if !sheet_types::has_class(sheet, directory, r.f3 as usize, 0) {
+    if !sheet_types::has_class(sheet, r.f3 as usize, 0) {
         return Typed::Wrong;
     }
     if !d {
@@ -65,19 +56,11 @@ pub fn external_type(
     Typed::Statement
 }
 
-pub fn internal_type(
-    sheet: &[u8],
-    directory: &Directory,
-    table: &ByRecord,
-    c: Record,
-    r: Record,
-    d: bool,
-) -> Typed
-    requires directory_value { directory.now ≡ directory_of sheet.now }
+pub fn internal_type(sheet: &Reader, table: &ByRecord, c: Record, r: Record, d: bool) -> Typed
     requires table { Table sheet.now c table.now }
     ensures { result ≡ internal_type sheet.now c r d }
 {
-    if !internal_name(sheet, directory, table, c, r.f3) {
+    if !internal_name(sheet, table, c, r.f3) {
         return Typed::Wrong;
     }
     if !d {
@@ -96,33 +79,23 @@ fn clock_of(op: u16) -> usize
     }
 }
 
-pub fn arm_type(
-    sheet: &[u8],
-    directory: &Directory,
-    table: &ByRecord,
-    c: Record,
-    r: Record,
-    x: Typed,
-    d: bool,
-) -> Typed
-    requires directory_value { directory.now ≡ directory_of sheet.now }
+pub fn arm_type(sheet: &Reader, table: &ByRecord, c: Record, r: Record, x: Typed, d: bool) -> Typed
     requires table { Table sheet.now c table.now }
     ensures { result ≡ arm_type sheet.now c r x d }
 {
-    if sheet_types::chart_variable_type(sheet, directory, c, r.f1) != clock_of(r.f0) {
+    if sheet_types::chart_variable_type(sheet, c, r.f1) != clock_of(r.f0) {
         return Typed::Wrong;
     }
     if !sheet_types::is_of(x, 1) {
         return Typed::Wrong;
     }
-    internal_type(sheet, directory, table, c, r, d)
+    internal_type(sheet, table, c, r, d)
 }
 
-pub fn call_type(sheet: &[u8], directory: &Directory, c: Record, r: Record, d: bool) -> Typed
-    requires { directory.now ≡ directory_of sheet.now }
+pub fn call_type(sheet: &Reader, c: Record, r: Record, d: bool) -> Typed
     ensures { result ≡ call_type sheet.now c r d }
 {
-    let Found::Present(p) = sheet_types::called_body(sheet, directory, c, r) else {
+    let Some(p) = sheet_types::called_body(sheet, c, r) else {
         return Typed::Wrong;
     };
     if p.f0 != 4 {

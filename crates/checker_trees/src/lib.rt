@@ -2,84 +2,68 @@
 #![tactic(auto)]
 
 ghost use Rattle.std.specs.Prelude.{◌≡◌};
-ghost use Rattle.sheet.specs.Sheet.{directory_of};
 ghost use Rattle.sheet_rules.specs.Shape.{tree_shape, trees_shape};
 ghost use Rattle.sheet_rules.specs.Check.{nodes_shape};
 
-use sheet::{BODIES, CHARTS, Directory, Found, NODES, Record};
+use sheet::{BODIES, CHARTS, NODES, Record};
+use sheet_opened::Reader;
 
 // The tree of a node has at most that many levels, and each node of it fits its chart and body.
-fn tree_fits(
-    sheet: &[u8],
-    directory: &Directory,
-    c: Record,
-    b: Record,
-    levels: usize,
-    n: usize,
-) -> bool
-    requires { directory.now ≡ directory_of sheet.now }
+fn tree_fits(sheet: &Reader, c: Record, b: Record, levels: usize, n: usize) -> bool
     ensures { result ≡ tree_shape sheet.now c b levels n }
 {
     if levels == 0 {
         return false;
     }
-    let Found::Present(r) = sheet_reader::read(sheet, directory, NODES, n) else {
+    let Some(r) = sheet.record(NODES, n) else {
         return false;
     };
-    if !checker_fields::fields_fit(sheet, directory, c, b, r) {
+    if !checker_fields::fields_fit(sheet, c, b, r) {
         return false;
     }
-    let o = sheet_fields::operands(sheet, directory, c, r);
+    let o = sheet_fields::operands(sheet, c, r);
     let count = o.count + o.tail;
-    let mut j: usize = 0;
-    while j < count {
+    for j in 0..count {
         let m = sheet_fields::operand(r, o, j);
         if n <= m {
             return false;
         }
-        if !tree_fits(sheet, directory, c, b, levels - 1, m) {
+        if !tree_fits(sheet, c, b, levels - 1, m) {
             return false;
         }
-        j += 1;
     }
     true
 }
 
 // The trees of the bodies of chart c.
-fn trees_fit(sheet: &[u8], directory: &Directory, c: Record) -> bool
-    requires { directory.now ≡ directory_of sheet.now }
+fn trees_fit(sheet: &Reader, c: Record) -> bool
     ensures { result ≡ trees_shape sheet.now c }
 {
     let first = c.f4 as usize;
     let count = c.f5 as usize;
-    let mut j: usize = 0;
-    while j < count {
-        let Found::Present(b) = sheet_reader::read(sheet, directory, BODIES, first + j) else {
+    for j in 0..count {
+        let Some(b) = sheet.record(BODIES, first + j) else {
             return false;
         };
-        if !tree_fits(sheet, directory, c, b, 64, b.f7 as usize) {
+        if !tree_fits(sheet, c, b, 64, b.f7 as usize) {
             return false;
         }
-        j += 1;
     }
     true
 }
 
 // The trees of every chart's bodies.
-pub fn nodes_fit(sheet: &[u8], directory: &Directory) -> bool
-    requires { directory.now ≡ directory_of sheet.now }
+pub fn nodes_fit(sheet: &Reader) -> bool
     ensures { result ≡ nodes_shape sheet.now }
 {
-    let count = sheet_reader::count_in(directory, CHARTS);
-    let mut k: usize = 0;
-    while k < count {
-        let Found::Present(c) = sheet_reader::read(sheet, directory, CHARTS, k) else {
+    let count = sheet.count(CHARTS);
+    for k in 0..count {
+        let Some(c) = sheet.record(CHARTS, k) else {
             return false;
         };
-        if !trees_fit(sheet, directory, c) {
+        if !trees_fit(sheet, c) {
             return false;
         }
-        k += 1;
     }
     true
 }

@@ -3,12 +3,13 @@
 #![tactic(auto)]
 
 ghost use Rattle.std.specs.Prelude.{◌≡◌, true, ◌+◌, ◌<◌, ◌≤◌, length};
-ghost use Rattle.sheet.specs.Sheet.{directory_of};
 ghost use Rattle.sheet_rules.specs.Shape.{is_reaction};
 ghost use Rattle.sheet_rules.specs.Static.{same_reaction, no_twin};
 ghost use Rattle.checker_reactions.specs.Entries.{up_to, Chains, Linked};
 
-use sheet::{BODIES, ByRecord, Directory, Found, Record};
+use checker_reactions::Tables;
+use sheet::{BODIES, Record};
+use sheet_opened::Reader;
 
 fn is_reaction(b: Record) -> bool
     ensures { result ≡ is_reaction b.f0 }
@@ -49,19 +50,10 @@ fn earlier(e: u16, i: usize) -> usize
 
 // Whether no body of chart c before body j, which is b, reacts to the same. Only those that react
 // to its name are compared, from the latest one back.
-pub fn no_twin(
-    sheet: &[u8],
-    directory: &Directory,
-    last: &ByRecord,
-    previous: &ByRecord,
-    c: Record,
-    j: usize,
-    b: Record,
-) -> bool
-    requires directory_value { directory.now ≡ directory_of sheet.now }
+pub fn no_twin(sheet: &Reader, tables: &Tables, c: Record, j: usize, b: Record) -> bool
     requires j_bound { j < 65536 }
     requires j_bound_2 { c.f4 + j < 4096 }
-    requires chains { Chains sheet.now c.f4 (c.f4 + j) last.now previous.now }
+    requires chains { Chains sheet.now c.f4 (c.f4 + j) tables.now.last tables.now.previous }
     requires f2_bound { is_reaction b.f0 ≡ true → b.f2 < 4096 }
     ensures { result ≡ no_twin sheet.now c j b }
 {
@@ -69,30 +61,32 @@ pub fn no_twin(
         return true;
     }
     let first = c.f4 as usize;
-    let mut e = earlier(last[b.f2 as usize], first + j);
+    let mut e = earlier(tables.last[b.f2 as usize], first + j);
+    // A while, as each entry tells the next one.
     while first < e {
         let i = e - 1;
-        let Found::Present(a) = sheet_reader::read(sheet, directory, BODIES, i) else {
+        let Some(a) = sheet.record(BODIES, i) else {
             return false;
         };
         if same_reaction(a, b) {
             return false;
         }
-        e = earlier(previous[i], i);
+        e = earlier(tables.previous[i], i);
     }
     true
 }
 
 // Enters body i, which is b, as the latest reaction to its name.
-pub fn link(last: &mut ByRecord, previous: &mut ByRecord, i: usize, b: Record)
-    requires last_len { (length last.old ≡ 4096) × (length previous.old ≡ 4096) × (i < 4096) }
+pub fn link(tables: &mut Tables, i: usize, b: Record)
+    requires last_len { (length tables.old.last ≡ 4096) × (length tables.old.previous ≡ 4096) × (i < 4096) }
     requires f2_bound { is_reaction b.f0 ≡ true → b.f2 < 4096 }
-    ensures { Linked b i last.old last.new previous.old previous.new }
+    ensures linked { Linked b i tables.old.last tables.new.last tables.old.previous tables.new.previous }
+    ensures internal { tables.new.internal ≡ tables.old.internal }
 {
     if !is_reaction(b) {
         return;
     }
     let n = b.f2 as usize;
-    previous[i] = last[n];
-    last[n] = (i + 1) as u16;
+    tables.previous[i] = tables.last[n];
+    tables.last[n] = (i + 1) as u16;
 }

@@ -1,4 +1,5 @@
 -- Laws of the types of nodes, one for a path of the code.
+use Rattle.std.specs.Prelude.{Some, None}
 use Prim.Native.Nat.{ℕ, ◌+◌, ◌≤◌, ◌<◌}
 use mathlib.Core.Path.{◌≡◌, refl, sym, ap, ◌∙◌}
 use mathlib.Core.List.{List}
@@ -6,7 +7,6 @@ use mathlib.Core.Bool.{Bool, true, false}
 use native.Mathlib.Omega.{arith}
 use Rattle.sheet.specs.declared.Record.{Record}
 use Rattle.sheet.specs.declared.Range.{Range}
-use Rattle.sheet.specs.declared.Found.TheVariants.{Present, Absent}
 use Rattle.sheet.specs.All.{all_below}
 use Rattle.sheet.specs.Sheet.{record_of}
 use Rattle.sheet.proofs.All.{all_fails_lem}
@@ -44,11 +44,11 @@ module _ (s : List ℕ) (c b : Record) (n : ℕ) where
   abbrev lower : ℕ → Typed
   lower = lower_type n (type_of s c b)
 
-  pub typed_absent : record_of s 6 n ≡ Absent → Wrong ≡ type_of s c b n
+  pub typed_absent : record_of s 6 n ≡ None → Wrong ≡ type_of s c b n
   unfolding type_step
   typed_absent p = sym (type_step_lem s c b n ∙ rw (type_step, p) refl)
 
-  module _ (r : Record) (p : record_of s 6 n ≡ Present r) where
+  module _ (r : Record) (p : record_of s 6 n ≡ Some r) where
     typed_at : (f : Form) → form_of r.f0 ≡ f → type_in s c b lower r f ≡ type_of s c b n
     unfolding type_step
     typed_at f e = sym (type_step_lem s c b n ∙ rw (type_step, p, e) refl)

@@ -4,54 +4,48 @@
 ghost use Rattle.std.specs.Prelude.{◌≡◌, ℕ, ◌≤◌, ◌<◌, length, get_or, eqb};
 ghost use Rattle.sheet.specs.All.{◌and◌};
 ghost use Rattle.sheet.specs.Names.{charts, bindings, nodes};
-ghost use Rattle.sheet.specs.Sheet.{count_of, directory_of};
+ghost use Rattle.sheet.specs.Sheet.{count_of};
 ghost use Rattle.sheet_rules.specs.Uses.{over_bodies, over_charts, over_bindings, constant_uses};
 ghost use Rattle.checker_pass.specs.Marks.{Cleared, Marked, RootsMarked};
 ghost use Rattle.checker_pass.specs.Test.{TestGives};
 
 use checker_pass::Tested;
-use sheet::{BINDINGS, CHARTS, Directory, NODES};
+use sheet::{BINDINGS, CHARTS, NODES};
+use sheet_opened::Reader;
 
 // No node is named yet: the marks of the first `count` nodes are 0.
 fn clear(marks: &mut [u16], count: usize)
     requires { count ≤ length marks.old }
     ensures { Cleared count marks.old marks.new }
 {
-    let mut i: usize = 0;
-    while i < count {
-        marks[i] = 0;
-        i += 1;
-    }
+    marks[..count].fill(0);
 }
 
 // All bodies name their roots. How many bodies were gone over.
-fn mark_charts(sheet: &[u8], directory: &Directory, marks: &mut [u16], count: usize) -> usize
-    requires directory_value { directory.now ≡ directory_of sheet.now }
+fn mark_charts(sheet: &Reader, marks: &mut [u16], count: usize) -> usize
     requires count_in_bounds { count ≤ length marks.old }
     requires by_index { (n : ℕ) → n < count → get_or marks.old n 0 ≡ 0 }
     ensures { (result ≡ over_charts sheet.now (over_bodies sheet.now (λ b. 1))) × (result ≤ 268369920) × RootsMarked sheet.now (count_of sheet.now charts) count marks.old marks.new }
 {
-    let total = sheet_reader::count_in(directory, CHARTS);
+    let total = sheet.count(CHARTS);
     let mut gone: usize = 0;
-    let mut i: usize = 0;
-    while i < total {
-        gone += checker_marks::mark_chart(sheet, directory, marks, count, i);
-        i += 1;
+    for i in 0..total {
+        gone += checker_marks::mark_chart(sheet, marks, count, i);
     }
     gone
 }
 
 // All bindings name their constants. How many binding records were gone over: the number of the next one
 // tells it.
-fn mark_bindings(sheet: &[u8], directory: &Directory, marks: &mut [u16], count: usize) -> usize
-    requires directory_value { directory.now ≡ directory_of sheet.now }
+fn mark_bindings(sheet: &Reader, marks: &mut [u16], count: usize) -> usize
     requires count_in_bounds { count ≤ length marks.old }
     ensures { (result ≡ count_of sheet.now bindings) × Marked count 0 marks.old marks.new (λ n. over_bindings sheet.now (constant_uses sheet.now n)) }
 {
-    let total = sheet_reader::count_in(directory, BINDINGS);
+    let total = sheet.count(BINDINGS);
     let mut k: usize = 0;
+    // A while, as an element takes one record or two.
     while k < total {
-        k += checker_constant_marks::mark_binding(sheet, directory, marks, count, k);
+        k += checker_constant_marks::mark_binding(sheet, marks, count, k);
     }
     k
 }
@@ -68,25 +62,22 @@ fn still_once(once: bool, used: u16) -> bool
 
 // Whether each node is used exactly once. A mark for each node is lent, whatever it holds, and ends as 0, 1 or 2.
 // Operands are lower, so going down from the last node, whatever uses a node has been gone over before it.
-pub fn used_once(sheet: &[u8], directory: &Directory, marks: &mut [u16]) -> Tested
-    requires directory_value { directory.now ≡ directory_of sheet.now }
+pub fn used_once(sheet: &Reader, marks: &mut [u16]) -> Tested
     requires nodes_in_bounds { count_of sheet.now nodes ≤ length marks.old }
     ensures { TestGives sheet.now marks.old marks.new result }
 {
-    let count = sheet_reader::count_in(directory, NODES);
+    let count = sheet.count(NODES);
     clear(marks, count);
-    let bodies = mark_charts(sheet, directory, marks, count);
-    let bindings = mark_bindings(sheet, directory, marks, count);
+    let bodies = mark_charts(sheet, marks, count);
+    let bindings = mark_bindings(sheet, marks, count);
     let mut gone = bodies + bindings;
     let mut once = true;
-    let mut n = count;
-    while 0 < n {
-        n -= 1;
+    for n in (0..count).rev() {
         let mark = marks[n];
         let used = mark % 4;
         marks[n] = used;
         once = still_once(once, used);
-        gone += checker_operand_marks::mark_operands(sheet, directory, marks, n, mark / 4);
+        gone += checker_operand_marks::mark_operands(sheet, marks, n, mark / 4);
     }
     Tested {
         once: once,

@@ -8,15 +8,15 @@
 // said on standard error.
 #![tactic(auto)]
 
-ghost use Rattle.std.specs.Prelude.{◌+◌, ◌≤◌, ◌≡◌, length};
+ghost use Rattle.std.specs.Prelude.{◌+◌, ◌≤◌, ◌≡◌, length, IfOk};
 ghost use Rattle.sheet_rules.specs.Check.{check_number};
 
-use machine::{Answer, Handed};
-use program_input::EVENT_BYTES;
+use machine::{Answer, Telegram};
+use program_events::Stopped;
+use program_input::{EVENT_BYTES, Unread};
+use program_text::Unwritten;
 use sheet_rules::Checked;
-use std::env::FillError;
 use std::io::{Read, Write};
-use std::rt::Env;
 
 // The longest sheet, state and event that it takes.
 const SHEET: usize = 70000;
@@ -25,87 +25,141 @@ const STATE: usize = 6000;
 
 const EVENT: usize = 16;
 
-// What the next number is where the input has ended or can't be read: more than any kind or length.
-const NONE: usize = 4294967296;
-
-fn read_number<R: Read, E: Eprint>(from: &mut R, errors: &E) -> usize {
-    let mut bytes = [0u8; 4];
-    let came = program_input::read_all(from, errors, &mut bytes);
-    if came.count < 4 {
-        return NONE;
-    }
-    engine_words::number(&bytes, 0) as usize
+// Why no more calls are replayed. What failed was said on standard error.
+#[derive(Clone, Copy)]
+enum Unreplayed {
+    // the call isn't whole, or it is one that isn't taken
+    NotTaken,
+    Stopped(Stopped),
 }
 
-// Whether as many words came as there is room for.
-fn read_words<R: Read, E: Eprint>(from: &mut R, errors: &E, out: &mut [i32]) -> bool
+impl From<Stopped> for Unreplayed {
+    fn from(why: Stopped) -> Unreplayed {
+        Unreplayed::Stopped(why)
+    }
+}
+
+impl From<Unread> for Unreplayed {
+    fn from(why: Unread) -> Unreplayed {
+        Unreplayed::Stopped(Stopped::Unread(why))
+    }
+}
+
+impl From<Unwritten> for Unreplayed {
+    fn from(why: Unwritten) -> Unreplayed {
+        Unreplayed::Stopped(Stopped::Unwritten(why))
+    }
+}
+
+// Reads as many bytes as there is room for.
+fn read_whole<R: Read, E: Eprint>(
+    from: &mut R,
+    errors: &E,
+    room: &mut [u8],
+) -> Result<(), Unreplayed> {
+    let came = program_input::read_all(from, errors, room)?;
+    if came < room.len() {
+        return Err(Unreplayed::NotTaken);
+    }
+    Ok(())
+}
+
+fn read_number<R: Read, E: Eprint>(from: &mut R, errors: &E) -> Result<usize, Unreplayed> {
+    let mut bytes = [0u8; 4];
+    read_whole(from, errors, &mut bytes)?;
+    Ok(engine_words::number(&bytes, 0) as usize)
+}
+
+// Reads the length of a sheet, a state or an event. One of more than `most` isn't taken.
+fn read_length<R: Read, E: Eprint>(
+    from: &mut R,
+    errors: &E,
+    most: usize,
+) -> Result<usize, Unreplayed>
+    ensures { IfOk result (λ n. n ≤ most) }
+{
+    let length = read_number(from, errors)?;
+    if most < length {
+        return Err(Unreplayed::NotTaken);
+    }
+    Ok(length)
+}
+
+// Reads as many words as there is room for.
+fn read_words<R: Read, E: Eprint>(
+    from: &mut R,
+    errors: &E,
+    out: &mut [i32],
+) -> Result<(), Unreplayed>
     requires { length out.old ≤ 6000 }
 {
     let mut bytes = [0u8; 24000];
     let size = 4 * out.len();
-    let came = program_input::read_all(from, errors, &mut bytes[..size]);
-    if came.count < size {
-        return false;
-    }
+    read_whole(from, errors, &mut bytes[..size])?;
     engine_words::words(&bytes, 0, out);
-    true
+    Ok(())
 }
 
-// The words that end a line. Each `print_` gives whether all was written.
-fn print_words<W: Write, E: Eprint>(to: &mut W, errors: &E, words: &[i32]) -> bool {
-    if words.len() == 0 {
+// The words that end a line.
+fn print_words<W: Write, E: Eprint>(
+    to: &mut W,
+    errors: &E,
+    words: &[i32],
+) -> Result<(), Unwritten> {
+    let [first, rest @ ..] = words else {
         return program_text::write_out(to, errors, b"-\n");
-    }
+    };
     let mut out = [0u8; 32768];
-    let mut at = program_text::put_signed(&mut out, 0, words[0]);
-    let mut i: usize = 1;
-    while i < words.len() {
-        let place = program_text::with_room(to, errors, &out, at, 23);
-        if !place.written {
-            return false;
-        }
-        let next = program_text::put(&mut out, place.at, b',');
-        at = program_text::put_signed(&mut out, next, words[i]);
-        i += 1;
+    let mut at = program_text::put_signed(&mut out, 0, *first);
+    for z in rest {
+        let place = program_text::with_room(to, errors, &out, at, 23)?;
+        let next = program_text::put(&mut out, place, b',');
+        at = program_text::put_signed(&mut out, next, *z);
     }
     let end = program_text::put(&mut out, at, b'\n');
     program_text::write_out(to, errors, &out[..end])
 }
 
-fn put_handed(out: &mut [u8], at: usize, h: Handed) -> usize
+fn put_handed(out: &mut [u8], at: usize, h: Option<Telegram>) -> usize
     requires { at + 153 ≤ length out.old }
     ensures { result ≤ at + 153 }
 {
     match h {
-        Handed::Nothing => program_text::put(out, at, b'-'),
-        Handed::Outside(t) => program_listing::put_telegram(out, at, b',', t),
+        None => program_text::put(out, at, b'-'),
+        Some(t) => program_listing::put_telegram(out, at, b',', t),
     }
 }
 
-fn print_start<W: Write, E: Eprint>(to: &mut W, errors: &E, a: Answer, res: &[i32]) -> bool {
+fn print_start<W: Write, E: Eprint>(
+    to: &mut W,
+    errors: &E,
+    a: Answer,
+    res: &[i32],
+) -> Result<(), Unwritten> {
     let mut out = [0u8; 42];
     let counts = program_listing::put_counts(&mut out, 0, a.number, a.steps);
     let end = program_text::put(&mut out, counts, b' ');
-    if !program_text::write_out(to, errors, &out[..end]) {
-        return false;
-    }
+    program_text::write_out(to, errors, &out[..end])?;
     print_words(to, errors, res)
 }
 
-fn print_event<W: Write, E: Eprint>(to: &mut W, errors: &E, a: Answer, res: &[i32]) -> bool {
+fn print_event<W: Write, E: Eprint>(
+    to: &mut W,
+    errors: &E,
+    a: Answer,
+    res: &[i32],
+) -> Result<(), Unwritten> {
     let mut out = [0u8; 196];
     let counts = program_listing::put_counts(&mut out, 0, a.number, a.steps);
     let next = program_text::put(&mut out, counts, b' ');
     let h = a.handed;
     let handed = put_handed(&mut out, next, h);
     let end = program_text::put(&mut out, handed, b' ');
-    if !program_text::write_out(to, errors, &out[..end]) {
-        return false;
-    }
+    program_text::write_out(to, errors, &out[..end])?;
     print_words(to, errors, res)
 }
 
-// The paper's number.
+// The paper's number. `Checked` and `From` are both from elsewhere, so this can be no `From` of a `u64`.
 fn answer(r: Checked) -> u64
     ensures { result ≡ check_number r }
 {
@@ -116,8 +170,11 @@ fn answer(r: Checked) -> u64
     }
 }
 
-// Each `replay_` gives whether the call was whole and its answer written.
-fn replay_check<W: Write, E: Eprint>(to: &mut W, errors: &E, sheet: &[u8]) -> bool {
+fn replay_check<W: Write, E: Eprint>(
+    to: &mut W,
+    errors: &E,
+    sheet: &[u8],
+) -> Result<(), Unwritten> {
     let mut out = [0u8; 21];
     let number = program_text::put_decimal(&mut out, 0, answer(checker::check(sheet)));
     let end = program_text::put(&mut out, number, b'\n');
@@ -129,14 +186,12 @@ fn replay_start<R: Read, W: Write, E: Eprint>(
     to: &mut W,
     errors: &E,
     sheet: &[u8],
-) -> bool {
-    let length = read_number(from, errors);
-    if STATE < length {
-        return false;
-    }
+) -> Result<(), Unreplayed> {
+    let length = read_length(from, errors, STATE)?;
     let mut result = [777i32; STATE];
     let a = engine::start(sheet, &mut result[..length]);
-    print_start(to, errors, a, &result[..length])
+    print_start(to, errors, a, &result[..length])?;
+    Ok(())
 }
 
 fn replay_event<R: Read, W: Write, E: Eprint>(
@@ -144,44 +199,31 @@ fn replay_event<R: Read, W: Write, E: Eprint>(
     to: &mut W,
     errors: &E,
     sheet: &[u8],
-) -> bool {
-    let before = read_number(from, errors);
-    if STATE < before {
-        return false;
-    }
+) -> Result<(), Unreplayed> {
+    let before = read_length(from, errors, STATE)?;
     let mut old = [0i32; STATE];
-    if !read_words(from, errors, &mut old[..before]) {
-        return false;
-    }
-    let length = read_number(from, errors);
-    if STATE < length {
-        return false;
-    }
-    let count = read_number(from, errors);
-    if EVENT < count {
-        return false;
-    }
+    read_words(from, errors, &mut old[..before])?;
+    let length = read_length(from, errors, STATE)?;
+    let count = read_length(from, errors, EVENT)?;
     let mut ev = [0i32; EVENT];
-    if !read_words(from, errors, &mut ev[..count]) {
-        return false;
-    }
+    read_words(from, errors, &mut ev[..count])?;
     let mut result = [777i32; STATE];
     let a = engine::event(sheet, &old[..before], &mut result[..length], &ev[..count]);
-    print_event(to, errors, a, &result[..length])
+    print_event(to, errors, a, &result[..length])?;
+    Ok(())
 }
 
-// Reads past `count` events, and gives whether they came.
-fn skip_events<R: Read, E: Eprint>(from: &mut R, errors: &E, count: usize) -> bool {
+// Reads past `count` events.
+fn skip_events<R: Read, E: Eprint>(
+    from: &mut R,
+    errors: &E,
+    count: usize,
+) -> Result<(), Unreplayed> {
     let mut ev = [0u8; EVENT_BYTES];
-    let mut left = count;
-    while 0 < left {
-        let came = program_input::read_all(from, errors, &mut ev);
-        if came.count < EVENT_BYTES {
-            return false;
-        }
-        left -= 1;
+    for _ in 0..count {
+        read_whole(from, errors, &mut ev)?;
     }
-    true
+    Ok(())
 }
 
 // After a start other than 0 the events are still there.
@@ -190,19 +232,14 @@ fn replay_run<R: Read, W: Write, E: Eprint>(
     to: &mut W,
     errors: &E,
     sheet: &[u8],
-) -> bool {
-    let count = read_number(from, errors);
-    if NONE <= count {
-        return false;
-    }
+) -> Result<(), Unreplayed> {
+    let count = read_number(from, errors)?;
     let played = program_runs::play(from, to, errors, sheet, count as u64);
-    if !played.well {
-        return false;
+    played.end?;
+    if played.number != 0 {
+        skip_events(from, errors, count)?;
     }
-    if played.number == 0 {
-        return true;
-    }
-    skip_events(from, errors, count)
+    Ok(())
 }
 
 fn replay<R: Read, W: Write, E: Eprint>(
@@ -211,14 +248,15 @@ fn replay<R: Read, W: Write, E: Eprint>(
     errors: &E,
     kind: usize,
     sheet: &[u8],
-) -> bool {
+) -> Result<(), Unreplayed> {
     match kind {
-        0 => replay_check(to, errors, sheet),
-        1 => replay_start(from, to, errors, sheet),
-        2 => replay_event(from, to, errors, sheet),
-        3 => replay_run(from, to, errors, sheet),
-        _ => false,
+        0 => replay_check(to, errors, sheet)?,
+        1 => replay_start(from, to, errors, sheet)?,
+        2 => replay_event(from, to, errors, sheet)?,
+        3 => replay_run(from, to, errors, sheet)?,
+        _ => return Err(Unreplayed::NotTaken),
     }
+    Ok(())
 }
 
 // `sheet` is room for any sheet that it takes, cleared once for all calls.
@@ -227,32 +265,17 @@ fn replay_next<R: Read, W: Write, E: Eprint>(
     to: &mut W,
     errors: &E,
     sheet: &mut [u8],
-) -> bool
+) -> Result<(), Unreplayed>
     requires { length sheet.old ≡ 70000 }
 {
-    let kind = read_number(from, errors);
-    if NONE <= kind {
-        return false;
-    }
-    let size = read_number(from, errors);
-    if SHEET < size {
-        return false;
-    }
-    let came = program_input::read_all(from, errors, &mut sheet[..size]);
-    if came.count < size {
-        return false;
-    }
+    let kind = read_number(from, errors)?;
+    let size = read_length(from, errors, SHEET)?;
+    read_whole(from, errors, &mut sheet[..size])?;
     replay(from, to, errors, kind, &sheet[..size])
 }
 
-// Whether there is an argument behind the program's own name.
-fn has_argument(rt: &HostRuntime) -> bool {
-    let mut first = [0u8; 1];
-    !matches!(rt.arg(1, &mut first), Err(FillError::NotPresent))
-}
-
 fn main(rt: HostRuntime) {
-    if has_argument(&rt) {
+    if program_runs::has_argument(&rt, 1) {
         let _ = rt.eprintln(
             "use: conformance\nReplays calls from standard input and writes each answer on a line of standard output.",
         );
@@ -261,11 +284,9 @@ fn main(rt: HostRuntime) {
     let mut from = rt.stdin();
     let mut to = rt.stdout();
     let mut sheet = [0u8; SHEET];
-    let mut left: u64 = 1000000000000;
-    while 0 < left {
-        if !replay_next(&mut from, &mut to, &rt, &mut sheet) {
+    for _ in 0..1000000000000u64 {
+        if replay_next(&mut from, &mut to, &rt, &mut sheet).is_err() {
             return;
         }
-        left -= 1;
     }
 }

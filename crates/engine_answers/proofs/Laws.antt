@@ -1,5 +1,6 @@
 -- Answers in eleven words.
-use Prim.Native.Nat.{ℕ, suc, ◌+◌, ◌-◌, ◌<◌, ◌≤◌}
+use Rattle.std.specs.Prelude.{Option, Some, None}
+use Prim.Native.Nat.{ℕ, suc, ◌+◌, ◌<◌, ◌≤◌}
 use mathlib.Core.Path.{◌≡◌, refl, sym, ap, ◌∙◌}
 use mathlib.Core.List.{List, [], ◌∷◌, ◌++◌}
 use mathlib.Core.Bool.{true, false, true≢false}
@@ -12,8 +13,6 @@ use mir.Val.{to_z}
 use mir.ValLaws.{to_z_pos}
 use borrow.Author.Tests.{ltb-true, lt-ltb}
 use Rattle.machine.specs.declared.Telegram.{Telegram}
-use Rattle.machine.specs.declared.Handed.{Handed}
-use Rattle.machine.specs.declared.Handed.TheVariants.{Nothing, Outside}
 use Rattle.machine.specs.declared.Answer.{Answer}
 use Rattle.machine.specs.Values.{is_below, is_zero}
 use Rattle.machine.specs.State.{word_of, telegram_in, put_words}
@@ -22,10 +21,10 @@ use Rattle.machine_lists.specs.Words.{words_of_answer, handed_words, handed_in, 
 
 -- ---- eleven words
 
-eight : (h : Handed) → length (handed_words h) ≡ 8
+eight : (h : Option Telegram) → length (handed_words h) ≡ 8
 unfolding handed_words
-eight Nothing = refl
-eight (Outside t) = refl
+eight None = refl
+eight (Some t) = refl
 
 pub answer_length : (a : Answer) → length (answer_words a) ≡ words_of_answer
 answer_length a = ap (λ n. suc (suc (suc n))) (eight a.handed)
@@ -42,14 +41,6 @@ module _ (l : List ℤ) (at : ℕ) where
   pub front_put : (ws : List ℤ) (n : ℕ) → at ≤ length l → at + length ws ≡ n → take n (put_words l at ws) ≡ take at l ++ ws
   unfolding put_words
   front_put ws n h e = take_at (take at l ++ ws) (drop (at + length ws) l) n (length-append (take at l) ws ∙ ap (λ k. k + length ws) (length-take-le at l h) ∙ e)
-
-pub nothing_words : (h : Handed) → h ≡ Nothing → (pos 0 ∷ pos 0 ∷ pos 0 ∷ pos 0 ∷ pos 0 ∷ pos 0 ∷ pos 0 ∷ pos 0 ∷ []) ≡ handed_words h
-unfolding handed_words
-nothing_words h e = sym (ap handed_words e)
-
-pub outside-words : (h : Handed) (t : Telegram) → h ≡ Outside t → (pos 1 ∷ t.receiver ∷ t.port ∷ t.name ∷ t.d0 ∷ t.d1 ∷ t.d2 ∷ t.d3 ∷ []) ≡ handed_words h
-unfolding handed_words
-outside-words h t e = sym (ap handed_words e)
 
 -- number, steps and dropped are stored, then what is handed
 module _ (l : List ℤ) (at : ℕ) (a : Answer) where
@@ -68,19 +59,16 @@ module _ (l : List ℤ) (at : ℕ) (a : Answer) where
 -- ---- what was handed outside, by an answer's words
 
 module _ (ws : List ℤ) (at : ℕ) where
-  pub handed_none : is_zero (word_of ws at) ≡ true → handed_in ws at ≡ Nothing
-  handed_none h = ap (λ b. elim b as (λ b. Handed) [ true ↦ Nothing | false ↦ Outside (telegram_in ws at) ]) h
+  pub handed_none : is_zero (word_of ws at) ≡ true → handed_in ws at ≡ None
+  handed_none h = ap (λ b. elim b as (λ b. Option Telegram) [ true ↦ None | false ↦ Some (telegram_in ws at) ]) h
 
-  pub handed_one : is_zero (word_of ws at) ≡ false → handed_in ws at ≡ Outside (telegram_in ws at)
-  handed_one h = ap (λ b. elim b as (λ b. Handed) [ true ↦ Nothing | false ↦ Outside (telegram_in ws at) ]) h
+  pub handed_one : is_zero (word_of ws at) ≡ false → handed_in ws at ≡ Some (telegram_in ws at)
+  handed_one h = ap (λ b. elim b as (λ b. Option Telegram) [ true ↦ None | false ↦ Some (telegram_in ws at) ]) h
 
 -- ---- an answer by its words
 
 pub below-there : (n : ℕ) (z : ℤ) → is_below z n ≡ true → nat_abs z ≡ number_below n z
 below-there n z h = sym (ap (λ b. elim b as (λ b. ℕ) [ true ↦ nat_abs z | false ↦ 0 ]) h)
-
-pub below_none : (n : ℕ) (z : ℤ) → is_below z n ≡ false → 0 ≡ number_below n z
-below_none n z h = sym (ap (λ b. elim b as (λ b. ℕ) [ true ↦ nat_abs z | false ↦ 0 ]) h)
 
 pub below_less : (n : ℕ) (z : ℤ) → is_below z n ≡ true → nat_abs z < n
 unfolding is_below
@@ -92,19 +80,19 @@ unfolding is_below
 number_back_lem n k z e l = ap (number_below n) e ∙ sym (below-there n (pos k) (lt-ltb k n l))
 
 -- among a telegram's words its sender is not: 1 stands there
-abbrev pub Marked : Handed → Type 0
-Marked Nothing = Unit {0}
-Marked (Outside t) = t.sender ≡ pos 1
+abbrev pub Marked : Option Telegram → Type 0
+Marked None = Unit {0}
+Marked (Some t) = t.sender ≡ pos 1
 
 module _ (ws : List ℤ) (at : ℕ) where
-  handed_back : (h : Handed) → ((k : ℕ) → k < 8 → word_of ws (at + k) ≡ word_of (handed_words h) k) → Marked h → handed_in ws at ≡ h
+  handed_back : (h : Option Telegram) → ((k : ℕ) → k < 8 → word_of ws (at + k) ≡ word_of (handed_words h) k) → Marked h → handed_in ws at ≡ h
   unfolding handed_words telegram_in word_of is_zero
-  handed_back Nothing w m = let e : at + 0 ≡ at = omega arith in handed_none ws at (ap is_zero (rw e at (w 0 (omega arith))))
-  handed_back (Outside t) w m =
+  handed_back None w m = let e : at + 0 ≡ at = omega arith in handed_none ws at (ap is_zero (rw e at (w 0 (omega arith))))
+  handed_back (Some t) w m =
       let e : at + 0 ≡ at = omega arith in
       let first = rw e at (w 0 (omega arith)) in
       handed_one ws at (ap is_zero first)
-      ∙ ap Outside (λ i. record {
+      ∙ ap Some (λ i. record {
         sender = (first ∙ sym m) i;
         receiver = w 1 (omega arith) i;
         port = w 2 (omega arith) i;

@@ -3,9 +3,19 @@
 
 ghost use Rattle.std.specs.Prelude.{◌+◌, ◌<◌, ◌≤◌, ◌≡◌, length};
 ghost use Rattle.machine.specs.State.{word_of, put_words};
-ghost use Rattle.machine_lists.specs.Words.{words_of_answer, answer_words, number_below, handed_in, answer_in};
+ghost use Rattle.machine_lists.specs.Words.{words_of_answer, handed_words, answer_words, number_below, handed_in, answer_in};
 
-use machine::{Answer, Handed};
+use machine::{Answer, Telegram};
+
+// What an answer handed outside, in the last eight of its words: 1 stands where a telegram has its sender.
+fn handed_words(handed: Option<Telegram>) -> [i32; 8]
+    ensures { result ≡ handed_words handed }
+{
+    match handed {
+        None => [0; 8],
+        Some(t) => [1, t.receiver, t.port, t.name, t.d0, t.d1, t.d2, t.d3],
+    }
+}
 
 // An answer in eleven words.
 pub fn put_answer(answers: &mut [i32], at: usize, a: Answer)
@@ -15,22 +25,7 @@ pub fn put_answer(answers: &mut [i32], at: usize, a: Answer)
     answers[at] = a.number as i32;
     answers[at + 1] = a.steps as i32;
     answers[at + 2] = a.dropped as i32;
-    let handed = a.handed;
-    match handed {
-        Handed::Nothing => engine_rows::put_words(answers, at + 3, 0, 0, 0, 0, 0, 0, 0, 0),
-        Handed::Outside(t) => engine_rows::put_words(
-            answers,
-            at + 3,
-            1,
-            t.receiver,
-            t.port,
-            t.name,
-            t.d0,
-            t.d1,
-            t.d2,
-            t.d3,
-        ),
-    }
+    engine_rows::put_words(answers, at + 3, handed_words(a.handed));
 }
 
 // A word as a number below `end`. What `put_answer` put is one; any other word is 0.
@@ -45,14 +40,14 @@ fn number_below(answers: &[i32], at: usize, end: usize) -> usize
 }
 
 // What an answer handed outside, by the last eight of its words.
-fn handed_at(answers: &[i32], at: usize) -> Handed
+fn handed_at(answers: &[i32], at: usize) -> Option<Telegram>
     requires { at + 8 ≤ length answers.now }
     ensures { result ≡ handed_in answers.now at }
 {
     if engine_valid_words::zero_at(answers, at) {
-        return Handed::Nothing;
+        return None;
     }
-    Handed::Outside(engine_rows::telegram_in(answers, at))
+    Some(engine_rows::telegram_in(answers, at))
 }
 
 // An answer from its eleven words.

@@ -10,7 +10,7 @@ use lib.Dec.{eqb}
 use lib.IntN.{ℤ, pos, negsuc}
 use lib.Signed.{le_z, lt_z}
 use mir.Syntax.{w32}
-use mir.Val.{SFits, of_z, to_z}
+use mir.Val.{of_z, to_z}
 use borrow.Author.Tests.{le-ltb, eq-eqb, ne_eqb, le-leb}
 use Rattle.sheet.specs.declared.Record.{Record}
 use Rattle.machine.specs.declared.Ran.TheVariants.{Done, Refused}
@@ -20,7 +20,6 @@ use Rattle.machine.specs.State.{cell_at, put_words}
 use Rattle.machine.specs.Eval.{bool_word}
 use Rattle.machine.specs.Run.{world, armed, clock_set, run_of}
 use Rattle.machine_passed.proofs.Indices.{clock-plain}
-use Rattle.engine_ints.proofs.Range.{back}
 use Rattle.engine_context.specs.Context.{cell_in}
 use Rattle.engine_ready.specs.Ready.{context_at, Lies}
 use Rattle.engine_ready.specs.Words.{four_words}
@@ -63,11 +62,11 @@ value_cycler op period n = rw (clock_of, ne_eqb op 36 n) (go (eqb op 37))
     go true = refl
     go false = refl
 
-pub value_back_lem : (t : ℕ) (period z : ℤ) → SFits w32 period → z ≡ armed_value t period → to_z w32 (of_z w32 z) ≡ armed_value t period
+pub value_back_lem : (t : ℕ) (period z : ℤ) → to_z w32 (of_z w32 period) ≡ period → z ≡ armed_value t period → to_z w32 (of_z w32 z) ≡ armed_value t period
 value_back_lem t period z h e = rw e (go (eqb t 5))
   where
     go : (b : Bool) → to_z w32 (of_z w32 (elim b [ true ↦ period | false ↦ pos 0 ])) ≡ elim b [ true ↦ period | false ↦ pos 0 ]
-    go true = back h
+    go true = h
     go false = refl
 
 below_one : (period : ℤ) (b : Bool) → lt_z period (pos 1) ≡ b → le_z (pos 1) period ≡ not b

@@ -1,4 +1,5 @@
 -- What an assignment comes to.
+use Rattle.std.specs.Prelude.{Option, Some, None}
 use Prim.Native.Nat.{ℕ, ◌+◌, ◌<◌}
 use mathlib.Core.Path.{◌≡◌, refl, sym, ap, subst, ◌∙◌}
 use mathlib.Core.List.{List}
@@ -20,8 +21,6 @@ use Rattle.machine.specs.Run.{world, assigned}
 use Rattle.machine_sound.proofs.Locals.{few}
 use Rattle.engine_context.specs.Context.{cell_in}
 use Rattle.engine_ready.specs.Ready.{context_at, Lies, Reaches, IsExpression}
-use Rattle.engine_context.specs.declared.Place.{Place}
-use Rattle.engine_context.specs.declared.Place.TheVariants.{At, Outside}
 use Rattle.engine_ready.specs.Words.{put_at}
 use Rattle.engine_ready.proofs.Cells.{plain_is_lem, lies, reaches}
 use Rattle.engine_ready.proofs.Statements.{assign-inside, assign-plain, element-below, index_operand, element_operand}
@@ -73,11 +72,11 @@ module _ (s w : List ℕ) (st lo : List ℤ) (n : ℕ) (r : Record) where
 
 -- ---- a value to an element, by where its index was found to lead
 
-module _ (p q : Place) (z : ℤ) (l : ℕ) (st lo : List ℤ) (found : q ≡ p) where
-  pub put_there : (k : ℕ) → q ≡ At k → world (Done l) (set st k z) lo ≡ put_at p z l st lo
+module _ (p q : Option ℕ) (z : ℤ) (l : ℕ) (st lo : List ℤ) (found : q ≡ p) where
+  pub put_there : (k : ℕ) → q ≡ Some k → world (Done l) (set st k z) lo ≡ put_at p z l st lo
   unfolding put_at
   put_there k e = ap (λ p. put_at p z l st lo) (sym e ∙ found)
 
-  pub put_outside : q ≡ Outside → world (Refused 11 l) st lo ≡ put_at p z l st lo
+  pub put_outside : q ≡ None → world (Refused 11 l) st lo ≡ put_at p z l st lo
   unfolding put_at
   put_outside e = ap (λ p. put_at p z l st lo) (sym e ∙ found)

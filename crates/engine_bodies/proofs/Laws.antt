@@ -1,4 +1,5 @@
 -- Where a body that is called runs, as an engine holds it, and what its run comes to.
+use Rattle.std.specs.Prelude.{Some, None}
 use Prim.Native.Nat.{ℕ, ◌+◌, ◌*◌, ◌-◌, ◌<◌, ◌≤◌}
 use mathlib.Core.Path.{◌≡◌, refl, sym, ap, subst, ◌∙◌}
 use mathlib.Core.List.{List}
@@ -8,14 +9,12 @@ use lib.ListN.{length, get_or}
 use lib.IntN.{ℤ}
 use borrow.Author.Tests.{ltb-true, leb-true}
 use Rattle.sheet.specs.declared.Record.{Record}
-use Rattle.sheet.specs.declared.Found.TheVariants.{Present}
 use Rattle.sheet.specs.Names.{bodies, chart_variables, chart_bodies, body_parameters, body_locals, root}
 use Rattle.sheet.specs.Sheet.{record_of}
 use Rattle.sheet.proofs.All.{and_first, and_second}
 use Rattle.machine.specs.declared.Answer.{Answer}
 use Rattle.machine.specs.declared.Ran.{Ran}
 use Rattle.machine.specs.declared.Ran.TheVariants.{Done, Refused, Stuck}
-use Rattle.machine.specs.declared.Handed.TheVariants.{Nothing}
 use Rattle.sheet_rules.specs.declared.Checked.TheVariants.{Passed}
 use Rattle.sheet_rules.specs.Fields.{externals_of, components_of, type_at}
 use Rattle.sheet_rules.specs.Indices.{cells_before}
@@ -38,6 +37,7 @@ use Rattle.machine_promise.proofs.Bodies.{ran_is, ran_ends}
 use Rattle.engine_ready.specs.Ready.{record_or0, context_at, Running, Ready, IsStatement}
 use Rattle.machine_events.specs.Called.{Called}
 use Rattle.engine_bodies.specs.Bodies.{ToRun}
+use Rattle.engine_cells.specs.Cells.{CellTable}
 
 -- the numbers of the body: row i of the table is the element's
 abbrev Numbers : List ℕ → ℕ → ℕ → ℕ → Record → ℕ → List ℕ → Type 0
@@ -50,10 +50,7 @@ Numbers table e i n c number w =
     × (get_or w 4 0 ≡ number)
     × ((m : ℕ) → m ≤ (chart_variables c).count → get_or w (5 + m) 0 ≡ get_or table (34 * i + m) 0)
 
-module _ {s directory table : List ℕ} {st : List ℤ} {e n : ℕ} {c : Record} {number : ℕ} {zs : List ℤ} (h : ToRun s directory table st e n c number zs) where
-  abbrev ok : check_of s ≡ Passed
-  ok = h.playing.passed
-
+module _ {s : List ℕ} (ok : check_of s ≡ Passed) {st : List ℤ} {e n : ℕ} {c : Record} {number : ℕ} {zs : List ℤ} (h : ToRun s st e n c number zs) where
   abbrev called : Called s e number zs
   called = h.called
 
@@ -69,7 +66,7 @@ module _ {s directory table : List ℕ} {st : List ℤ} {e n : ℕ} {c : Record}
   unfolding chart_shape
   few-cells = leb-true _ _ (and_first _ _ (and_second _ _ (and_second _ _ (and_second _ _ (chart-shape s ok n c h.chart.there)))))
 
-  pub body-there : record_of s bodies number ≡ Present called.body
+  pub body-there : record_of s bodies number ≡ Some called.body
   body-there = ap (record_of s bodies) called.at ∙ called.inside.there
 
   same_chart : called.chart ≡ c
@@ -77,7 +74,7 @@ module _ {s directory table : List ℕ} {st : List ℤ} {e n : ℕ} {c : Record}
 
   -- ---- where the body runs, its record read
 
-  module _ (b : Record) (read : record_of s bodies number ≡ Present b) where
+  module _ (b : Record) (read : record_of s bodies number ≡ Some b) where
     abbrev x : Context
     x = record { element = e; chart = c; binding = binding_at s e; body = b }
 
@@ -104,18 +101,18 @@ module _ {s directory table : List ℕ} {st : List ℤ} {e n : ℕ} {c : Record}
     few_variables = few s ok x placed
 
     -- its numbers
-    module _ (i : ℕ) (row : i ≡ e - externals_of s) (w : List ℕ) (is : Numbers table e i n c number w) where
+    module _ {table : List ℕ} (lies : CellTable s table) (i : ℕ) (row : i ≡ e - externals_of s) (w : List ℕ) (is : Numbers table e i n c number w) where
       context_is : context_at s w ≡ x
       unfolding context_at record_or0
       context_is =
-          let k : get_or w 1 0 ≡ binding_at s e = is.2 ∙ ap (λ i. get_or table (34 * i + 33) 0) row ∙ h.playing.cells.binding e c h.chart.bound in
+          let k : get_or w 1 0 ≡ binding_at s e = is.2 ∙ ap (λ i. get_or table (34 * i + 33) 0) row ∙ lies.binding e c h.chart.bound in
           rw (context_at, is.1, k, is.3, is.5, h.chart.there, read) refl
 
       abbrev chart_is : (context_at s w).chart ≡ c
       chart_is = ap (λ x. x.chart) context_is
 
       cells : (m : ℕ) → m ≤ (chart_variables c).count → get_or w (5 + m) 0 ≡ first_cell s e + cells_before s c m
-      cells m l = is.6 m l ∙ ap (λ i. get_or table (34 * i + m) 0) row ∙ h.playing.cells.right e c h.chart.bound m l
+      cells m l = is.6 m l ∙ ap (λ i. get_or table (34 * i + m) 0) row ∙ lies.right e c h.chart.bound m l
 
       same_cells_lem : (m : ℕ) → first_cell s (get_or w 0 0) + cells_before s (context_at s w).chart m ≡ first_cell s e + cells_before s c m
       same_cells_lem m = ap (λ e. first_cell s e + cells_before s (context_at s w).chart m) is.1 ∙ ap (λ c. first_cell s e + cells_before s c m) chart_is
@@ -132,7 +129,7 @@ module _ {s directory table : List ℕ} {st : List ℤ} {e n : ℕ} {c : Record}
       pub ready : (lo : List ℤ) → lo ≡ locals_of s b zs → Ready s w st lo
       ready lo l = record {
         running = running;
-        state = h.playing.state;
+        state = h.state;
         locals = subst (Locals s (context_at s w)) (sym l) (subst (λ x. Locals s x (locals_of s b zs)) (sym context_is) (fresh_locals s ok x placed zs parameters));
       }
 
@@ -165,7 +162,7 @@ module _ {s directory table : List ℕ} {st : List ℤ} {e n : ℕ} {c : Record}
   ran_world = ran_body s (limit_of s) e (record_of s bodies number) zs st
 
   abbrev then_world : World
-  then_world = ran_body s (limit_of s) e (Present called.body) zs st
+  then_world = ran_body s (limit_of s) e (Some called.body) zs st
 
   abbrev y : Context
   y = record { element = e; chart = called.chart; binding = binding_at s e; body = called.body }
@@ -176,7 +173,7 @@ module _ {s directory table : List ℕ} {st : List ℤ} {e n : ℕ} {c : Record}
   ends : {r : Ran} → ran_world.ran ≡ r → Ends s y r then_world.st then_world.lo
   ends g =
       subst (λ r. Ends s y r then_world.st then_world.lo) (sym (ap (λ w. w.ran) same_world) ∙ g)
-      (ran_ends s ok e called.binding called.chart called.element called.body called.inside zs st h.playing.state called.parameters)
+      (ran_ends s ok e called.binding called.chart called.element called.body called.inside zs st h.state called.parameters)
 
   pub not_stuck : ran_world.ran ≡ Stuck → ⊥
   not_stuck g = ends g
@@ -197,16 +194,16 @@ module _ {s directory table : List ℕ} {st : List ℤ} {e n : ℕ} {c : Record}
 
   -- the answer of an event
   module _ (a : Answer) (old st' : List ℤ) (l limit : ℕ) (same : limit ≡ limit_of s) where
-    pub done_event : a ≡ answer 0 (limit - l) Nothing → ran_world.ran ≡ Done l → st' ≡ ran_world.st → ended a st' ≡ body_event s (limit_of s) old e (record_of s bodies number) zs st
+    pub done_event : a ≡ answer 0 (limit - l) None → ran_world.ran ≡ Done l → st' ≡ ran_world.st → ended a st' ≡ body_event s (limit_of s) old e (record_of s bodies number) zs st
     unfolding event_end
     done_event is g q =
-        ap (λ a. ended a st') (is ∙ ap (λ k. answer 0 (k - l) Nothing) same)
-        ∙ ap (ended (answer 0 (limit_of s - l) Nothing)) q
+        ap (λ a. ended a st') (is ∙ ap (λ k. answer 0 (k - l) None) same)
+        ∙ ap (ended (answer 0 (limit_of s - l) None)) q
         ∙ sym (ap (λ r. event_end (limit_of s) old r ran_world.st) g)
 
-    pub refused-event : (m : ℕ) → a ≡ answer m (limit - l) Nothing → ran_world.ran ≡ Refused m l → st' ≡ old → ended a st' ≡ body_event s (limit_of s) old e (record_of s bodies number) zs st
+    pub refused-event : (m : ℕ) → a ≡ answer m (limit - l) None → ran_world.ran ≡ Refused m l → st' ≡ old → ended a st' ≡ body_event s (limit_of s) old e (record_of s bodies number) zs st
     unfolding event_end
     refused-event m is g q =
-        ap (λ a. ended a st') (is ∙ ap (λ k. answer m (k - l) Nothing) same)
-        ∙ ap (ended (answer m (limit_of s - l) Nothing)) q
+        ap (λ a. ended a st') (is ∙ ap (λ k. answer m (k - l) None) same)
+        ∙ ap (ended (answer m (limit_of s - l) None)) q
         ∙ sym (ap (λ r. event_end (limit_of s) old r ran_world.st) g)

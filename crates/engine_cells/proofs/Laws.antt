@@ -1,4 +1,5 @@
 -- Charts by the number of a binding record, and the table of cells.
+use Rattle.std.specs.Prelude.{Some, None}
 use Prim.Native.Nat.{ℕ, ◌+◌, ◌*◌, ◌-◌, ◌<◌, ◌≤◌}
 use mathlib.Core.Path.{◌≡◌, refl, sym, ap, subst, ◌∙◌}
 use mathlib.Core.List.{List}
@@ -10,7 +11,6 @@ use lib.ListN.{length, get_or, set, length-set}
 use lib.Seq.{get_or-set_same, get_or-set_other}
 use borrow.Author.Tests.{leb-true, ltb-true}
 use Rattle.sheet.specs.declared.Record.{Record}
-use Rattle.sheet.specs.declared.Found.TheVariants.{Present, Absent}
 use Rattle.sheet.specs.Names.{charts, bindings, bound_chart, chart_parameters, chart_variables}
 use Rattle.sheet.specs.Sheet.{record_of}
 use Rattle.sheet.proofs.All.{true_false, and_first, and_second}
@@ -49,7 +49,7 @@ module _ (s : List ℕ) (ok : check_of s ≡ Passed) where
   bound-below = omega (arith, elements-rest s ok, components_limit s ok, two_externals s ok)
 
   -- "up to 32 variables"
-  pub chart_variables_lem : (e : ℕ) (c : Record) → chart_of s e ≡ Present c → (chart_variables c).count ≤ 32
+  pub chart_variables_lem : (e : ℕ) (c : Record) → chart_of s e ≡ Some c → (chart_variables c).count ≤ 32
   unfolding chart_shape
   chart_variables_lem e c p = let x = chart-element s e c p in leb-true _ _ (and_first _ _ (and_second _ _ (and_second _ _ (and_second _ _ (chart-shape s ok (bound_chart x.0) c x.1.chart)))))
 
@@ -76,14 +76,14 @@ module _ (s : List ℕ) (ok : check_of s ≡ Passed) where
     unfolding binding_at
     bound_is = ap (chart_bound s) (at ∙ ap (first_binding s) (let z : i ≡ externals_of s + i - externals_of s = omega arith in z)) ∙ chart_of_lem s (externals_of s + i) is_bound_lem
 
-    pub bound-there : chart_bound s k ≡ Absent → ⊥
+    pub bound-there : chart_bound s k ≡ None → ⊥
     bound-there q =
         let x = bound-element s ok (externals_of s + i) is_bound_lem in
         let there = element-chart s (externals_of s + i) x.0 x.1 x.2 in
         true_false (holds-present _ x.1 (λ c. true) there) (holds_absent _ (λ c. true) (sym bound_is ∙ q))
 
-    module _ (c : Record) (p : chart_bound s k ≡ Present c) where
-      pub bound-chart : chart_of s (externals_of s + i) ≡ Present c
+    module _ (c : Record) (p : chart_bound s k ≡ Some c) where
+      pub bound-chart : chart_of s (externals_of s + i) ≡ Some c
       bound-chart = sym bound_is ∙ p
 
       pub bound-count : cells_bound s i ≡ cells_before s c (chart_variables c).count
@@ -121,8 +121,8 @@ module _ (s : List ℕ) (c : Record) (at cell : ℕ) where
     old = λ m k. get_or-set_other t' (at + n) m x 0 (λ r. omega arith) ∙ h.old m k;
   }
 
-  pub row_whole : (n x : ℕ) (t t' : List ℕ) → n ≡ (chart_variables c).count → at + n < 2176 → x ≡ cell + cells_before s c n → Row s c at cell n t t' → (x ≡ cell + cells_before s c (chart_variables c).count) × Row s c at cell ((chart_variables c).count + 1) t (set t' (at + n) x)
-  row_whole n x t t' q l e h = (e ∙ ap (λ (k : ℕ). cell + cells_before s c k) q, subst (λ (k : ℕ). Row s c at cell (k + 1) t (set t' (at + n) x)) q (row_more n x t t' l e h))
+  pub row_whole : (n x : ℕ) (t t' : List ℕ) → n ≡ (chart_variables c).count → at + n < 2176 → x ≡ cell + cells_before s c n → Row s c at cell n t t' → (x ≡ cell + cells_before s c (chart_variables c).count) × Row s c at cell ((chart_variables c).count + 1) t (set t' (at + (chart_variables c).count) x)
+  row_whole n x t t' q l e h = (e ∙ ap (λ (k : ℕ). cell + cells_before s c k) q, subst (λ (k : ℕ). Row s c at cell (k + 1) t (set t' (at + k) x)) q (row_more n x t t' l e h))
 
 -- one variable more
 pub next_cell : (s : List ℕ) (c : Record) (cell n x y : ℕ) → x ≡ cell + cells_before s c n → y ≡ cells_taken s ((chart_variables c).first + n) → x + y ≡ cell + cells_before s c (n + 1)
@@ -136,14 +136,14 @@ no_cells s c cell = omega (arith, cells-none s c)
 -- the rows of the first i elements are there
 pub record Rows (s : List ℕ) (i : ℕ) (t : List ℕ) : Type 0 where
   pub size : length t ≡ 2176
-  pub right : (j : ℕ) (c : Record) → j < i → chart_bound s (first_binding s j) ≡ Present c → (n : ℕ) → n ≤ (chart_variables c).count → get_or t (34 * j + n) 0 ≡ sum_below j (cells_bound s) + cells_before s c n
+  pub right : (j : ℕ) (c : Record) → j < i → chart_bound s (first_binding s j) ≡ Some c → (n : ℕ) → n ≤ (chart_variables c).count → get_or t (34 * j + n) 0 ≡ sum_below j (cells_bound s) + cells_before s c n
   pub binding : (j : ℕ) → j < i → get_or t (34 * j + 33) 0 ≡ first_binding s j
 
 pub rows_none : (s t : List ℕ) → length t ≡ 2176 → Rows s 0 t
 rows_none s t l = record { size = l; right = λ j c m. absurd (omega arith); binding = λ j m. absurd (omega arith) }
 
 module _ (s : List ℕ) (ok : check_of s ≡ Passed) where
-  pub rows_more : (i k cell : ℕ) (c : Record) (t t' : List ℕ) → i < elements_of s → k ≡ first_binding s i → chart_bound s k ≡ Present c → cell ≡ sum_below i (cells_bound s) → Row s c (34 * i) cell ((chart_variables c).count + 1) t t' → Rows s i t → Rows s (i + 1) (set t' (34 * i + 33) k)
+  pub rows_more : (i k cell : ℕ) (c : Record) (t t' : List ℕ) → i < elements_of s → k ≡ first_binding s i → chart_bound s k ≡ Some c → cell ≡ sum_below i (cells_bound s) → Row s c (34 * i) cell ((chart_variables c).count + 1) t t' → Rows s i t → Rows s (i + 1) (set t' (34 * i + 33) k)
   rows_more i k cell c t t' l at p q h r = record {
     size = length-set t' (34 * i + 33) k ∙ h.size;
     right = λ j d m e n b. elim (ℕ_discrete j i) [

@@ -1,3 +1,1 @@
 pub mod Cells
-pub mod Playing
-pub mod Lent

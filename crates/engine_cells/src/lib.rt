@@ -4,7 +4,7 @@
 
 ghost use Rattle.std.specs.Prelude.{◌≡◌, true, ◌+◌, ◌<◌, ◌≤◌, length};
 ghost use Rattle.sheet.specs.Names.{chart_variables, charts};
-ghost use Rattle.sheet.specs.Sheet.{directory_of, record_of};
+ghost use Rattle.sheet.specs.Sheet.{record_of};
 ghost use Rattle.sheet_rules.specs.declared.Checked.TheVariants.{Passed};
 ghost use Rattle.sheet_rules.specs.Fields.{elements_of};
 ghost use Rattle.sheet_rules.specs.Indices.{cells_before};
@@ -13,7 +13,8 @@ ghost use Rattle.sheet_rules.specs.Check.{check_of};
 ghost use Rattle.machine.specs.Values.{is_bound, chart_of};
 ghost use Rattle.engine_cells.specs.Cells.{CellTable, Row};
 
-use sheet::{BINDINGS, CHARTS, Directory, Found, HEAD, Record};
+use sheet::{BINDINGS, CHARTS, HEAD, Record};
+use sheet_opened::Reader;
 
 // A row for each element: the first cells of its variables, "up to 32" in a chart, the cell behind the
 // last one's, and the number of its first binding record.
@@ -27,78 +28,100 @@ pub const LAYOUT: usize = 2176;
 
 pub type CellLayout = [usize; LAYOUT];
 
-// How many bound elements there are.
-pub fn elements(sheet: &[u8], directory: &Directory) -> usize
-    requires { (directory.now ≡ directory_of sheet.now) × (check_of sheet.now ≡ Passed) }
+// A passed sheet opened to be played: its reader, where its cells lie, and how many they are.
+#[derive(Drop)]
+pub struct Yard<'a> {
+    pub sheet: Reader<'a>,
+    pub cells: CellLayout,
+    pub count: usize,
+    pub ghost passed: { check_of sheet ≡ Passed },
+    pub ghost table: { CellTable sheet cells },
+    pub ghost counted: { count ≡ cells_of sheet },
+}
+
+impl<'a> Yard<'a> {
+    pub fn new(sheet: Reader<'a>) -> Self
+        requires { check_of sheet ≡ Passed }
+        ensures { result.sheet ≡ sheet.entry }
+    {
+        let mut cells = [0usize; LAYOUT];
+        let count = fill(&sheet, &mut cells);
+        Yard {
+            sheet,
+            cells,
+            count,
+        }
+    }
+
+    // How many bound elements there are.
+    pub fn elements(&self) -> usize
+        ensures { (result ≡ elements_of self.now.sheet) × (result < 64) }
+    {
+        elements(&self.sheet)
+    }
+
+    // The number of bound element e's chart, which the first record of its row names.
+    pub fn chart_number(&self, e: usize) -> usize
+        requires { is_bound self.now.sheet e ≡ true }
+        ensures { record_of self.now.sheet charts result ≡ chart_of self.now.sheet e }
+    {
+        let i = e - sheet_fields::field_at(&self.sheet, HEAD, 0, 1);
+        sheet_fields::field_at(&self.sheet, BINDINGS, self.cells[ROW * i + FIRST_RECORD], 0)
+    }
+
+    // The chart of bound element e, by its row.
+    pub fn chart(&self, e: usize) -> Option<Record>
+        requires { is_bound self.now.sheet e ≡ true }
+        ensures { result ≡ chart_of self.now.sheet e }
+    {
+        let n = self.chart_number(e);
+        self.sheet.record(CHARTS, n)
+    }
+}
+
+// How many elements a passed sheet binds.
+fn elements(sheet: &Reader) -> usize
+    requires { check_of sheet.now ≡ Passed }
     ensures { (result ≡ elements_of sheet.now) × (result < 64) }
 {
-    let components = sheet_fields::field_at(sheet, directory, HEAD, 0, 0);
-    components - sheet_fields::field_at(sheet, directory, HEAD, 0, 1)
-}
-
-// The number of bound element e's chart, which the first record of its row names.
-pub fn chart_number(sheet: &[u8], directory: &Directory, cells: &CellLayout, e: usize) -> usize
-    requires { (directory.now ≡ directory_of sheet.now) × (check_of sheet.now ≡ Passed) × CellTable sheet.now cells.now × (is_bound sheet.now e ≡ true) }
-    ensures { record_of sheet.now charts result ≡ chart_of sheet.now e }
-{
-    let i = e - sheet_fields::field_at(sheet, directory, HEAD, 0, 1);
-    sheet_fields::field_at(sheet, directory, BINDINGS, cells[ROW * i + FIRST_RECORD], 0)
-}
-
-// The chart of bound element e, by its row.
-pub fn chart_of(sheet: &[u8], directory: &Directory, cells: &CellLayout, e: usize) -> Found
-    requires { (directory.now ≡ directory_of sheet.now) × (check_of sheet.now ≡ Passed) × CellTable sheet.now cells.now × (is_bound sheet.now e ≡ true) }
-    ensures { result ≡ chart_of sheet.now e }
-{
-    let n = chart_number(sheet, directory, cells, e);
-    sheet_reader::read(sheet, directory, CHARTS, n)
+    let components = sheet_fields::field_at(sheet, HEAD, 0, 0);
+    components - sheet_fields::field_at(sheet, HEAD, 0, 1)
 }
 
 // Enters the cells of chart c's variables from place `at` on, the first one's being given, and gives
 // the cell behind them.
-fn fill_row(
-    sheet: &[u8],
-    directory: &Directory,
-    cells: &mut CellLayout,
-    c: Record,
-    at: usize,
-    cell: usize,
-) -> usize
-    requires { (directory.now ≡ directory_of sheet.now) × (length cells.old ≡ 2176) × ((chart_variables c).count ≤ 32) × (at + 34 ≤ 2176) × (cell + cells_before sheet.now c (chart_variables c).count ≤ 512) }
+fn fill_row(sheet: &Reader, cells: &mut CellLayout, c: Record, at: usize, cell: usize) -> usize
+    requires { (length cells.old ≡ 2176) × ((chart_variables c).count ≤ 32) × (at + 34 ≤ 2176) × (cell + cells_before sheet.now c (chart_variables c).count ≤ 512) }
     ensures { (result ≡ cell + cells_before sheet.now c (chart_variables c).count) × Row sheet.now c at cell ((chart_variables c).count + 1) cells.old cells.new }
 {
     let count = c.f3 as usize;
     let mut next = cell;
-    let mut n: usize = 0;
-    while n < count {
+    for n in 0..count {
         cells[at + n] = next;
-        let taken = sheet_indices::cells_taken(sheet, directory, c.f2 as usize + n);
+        let taken = sheet_indices::cells_taken(sheet, c.f2 as usize + n);
         next += taken;
-        n += 1;
     }
-    cells[at + n] = next;
+    cells[at + count] = next;
     next
 }
 
 // Fills the table, and gives how many cells there are. A passed sheet has at most 64 components. Each
 // element's records stand behind those of the elements before it.
-pub fn fill(sheet: &[u8], directory: &Directory, cells: &mut CellLayout) -> usize
-    requires { (directory.now ≡ directory_of sheet.now) × (check_of sheet.now ≡ Passed) × (length cells.old ≡ 2176) }
+fn fill(sheet: &Reader, cells: &mut CellLayout) -> usize
+    requires { (check_of sheet.now ≡ Passed) × (length cells.old ≡ 2176) }
     ensures { (result ≡ cells_of sheet.now) × CellTable sheet.now cells.new }
 {
-    let count = elements(sheet, directory);
+    let count = elements(sheet);
     let mut cell: usize = 0;
     let mut k: usize = 0;
-    let mut i: usize = 0;
-    while i < count {
-        let Found::Present(c) = sheet_bindings::chart_bound(sheet, directory, k) else {
-            sheet_branches::never_taken(true);
+    for i in 0..count {
+        let Some(c) = sheet_bindings::chart_bound(sheet, k) else {
+            prove!(false);
             return cell;
         };
-        cell = fill_row(sheet, directory, cells, c, ROW * i, cell);
+        cell = fill_row(sheet, cells, c, ROW * i, cell);
         cells[ROW * i + FIRST_RECORD] = k;
         k += sheet_bindings::records_for(c.f1);
-        i += 1;
     }
     cell
 }

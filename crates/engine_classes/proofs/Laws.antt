@@ -2,7 +2,7 @@
 use Prim.Native.Nat.{ℕ, ◌+◌, ◌*◌, ◌-◌, ◌<◌, ◌≤◌}
 use mathlib.Core.Path.{◌≡◌, refl, sym, ap, ◌∙◌}
 use mathlib.Core.List.{List}
-use mathlib.Core.Bool.{Bool, true, false, not}
+use mathlib.Core.Bool.{beq, Bool, true, false}
 use native.Mathlib.Omega.{arith}
 use native.Mathlib.Decide.{ℕ_discrete}
 use lib.ListN.{length}
@@ -21,19 +21,14 @@ use Rattle.engine_store.proofs.Lies.{place_in_lem}
 -- ---- telegrams of a class
 
 module _ (t u : Telegram) where
-  pub both-inside : is_internal t ≡ true → is_internal u ≡ eqb (class_of t) (class_of u)
-  both-inside q = go (is_internal u) refl
+  pub classes_alike : beq (is_internal t) (is_internal u) ≡ eqb (class_of t) (class_of u)
+  classes_alike = go (is_internal t) (is_internal u) refl refl
     where
-      go : (b : Bool) → is_internal u ≡ b → is_internal u ≡ eqb (class_of t) (class_of u)
-      go true r = rw (class-inside t q, class-inside u r) r
-      go false r = rw (class-inside t q, class-outside u r) r
-
-  pub both-outside : is_internal t ≡ false → not (is_internal u) ≡ eqb (class_of t) (class_of u)
-  both-outside q = go (is_internal u) refl
-    where
-      go : (b : Bool) → is_internal u ≡ b → not (is_internal u) ≡ eqb (class_of t) (class_of u)
-      go true r = rw (class-outside t q, class-inside u r) (ap not r)
-      go false r = rw (class-outside t q, class-outside u r) (ap not r)
+      go : (a b : Bool) → is_internal t ≡ a → is_internal u ≡ b → beq (is_internal t) (is_internal u) ≡ eqb (class_of t) (class_of u)
+      go true true p q = rw (class-inside t p, class-inside u q, p, q) refl
+      go true false p q = rw (class-inside t p, class-outside u q, p, q) refl
+      go false true p q = rw (class-outside t p, class-inside u q, p, q) refl
+      go false false p q = rw (class-outside t p, class-outside u q, p, q) refl
 
 -- how many of the first j are of t's class
 abbrev like_below : List ℕ → List ℤ → Telegram → ℕ → ℕ
@@ -65,9 +60,6 @@ module _ (st : List ℤ) (n : ℕ) (e : n ≡ waiting st) (fits : n ≤ places) 
   unfolding count_below sum_below
   looked_none h last at l a = record { seen = 0; need = class_limit; here = a; inside = omega arith; some = omega arith; most = omega arith; behind = omega arith; like = λ s w. refl }
 
-  pub end-inside : end ≤ length st
-  end-inside = omega arith
-
   -- there are too few
   pub class-few : n < class_limit → Full false
   unfolding waiting_like count_below sum_below
@@ -80,9 +72,6 @@ module _ (st : List ℤ) (n : ℕ) (e : n ≡ waiting st) (fits : n ≤ places) 
     looked_few h s w = sym (lt-leb class_limit (like_below s st t (waiting st)) (let c = count-on (λ i. same_class t (telegram_of s st i)) k.seen (waiting st) (omega (arith, k.inside)) in omega (arith, c.1, k.here, k.behind, k.like s w)))
 
     module _ (h : at ≤ last) where
-      pub looked_inside : at + 8 ≤ end
-      looked_inside = omega (arith, k.some, k.behind)
-
       next_here : at + 8 ≡ place_in (length st) (k.seen + 1)
       next_here = omega (arith, k.here)
 

@@ -15,16 +15,7 @@ fn same_class(st: &[i32], at: usize, t: Telegram) -> bool
     requires { at + 8 ≤ length st.now }
     ensures { result ≡ same_class t (telegram_in st.now at) }
 {
-    if t.sender != st[at] {
-        return false;
-    }
-    if t.receiver != st[at + 1] {
-        return false;
-    }
-    if t.port == -1 {
-        return st[at + 2] == -1;
-    }
-    st[at + 2] != -1
+    t.sender == st[at] && t.receiver == st[at + 1] && (t.port == -1) == (st[at + 2] == -1)
 }
 
 // Whether t's class is full, n being how many wait in all. From `last` on as many are left to look at as
@@ -39,6 +30,7 @@ pub fn class_full(st: &[i32], n: usize, t: Telegram) -> bool
     let mut at = engine_store::place_at(st.len(), 0);
     let end = engine_store::place_at(st.len(), n);
     let mut last = engine_store::place_at(st.len(), n - CLASS_LIMIT);
+    // A while, as its end moves while it runs.
     while at <= last {
         if same_class(st, at, t) {
             last += 8;

@@ -1,4 +1,5 @@
 -- A tick leaves the cells behind its own as they were, so the pass finds each clock as the slice found it.
+use Rattle.std.specs.Prelude.{Option, Some, None}
 use Prim.Native.Nat.{ℕ, zero, suc, ◌+◌, ◌*◌, ◌-◌, ◌<◌, ◌≤◌}
 use mathlib.Core.Path.{◌≡◌, refl, sym, ap, ◌∙◌}
 use mathlib.Core.List.{List, [], ◌∷◌}
@@ -10,8 +11,6 @@ use lib.Dec.{eqb}
 use lib.IntN.{ℤ, pos, ◌+ℤ◌, ◌-ℤ◌}
 use borrow.Author.Tests.{lt-ltb}
 use Rattle.sheet.specs.declared.Record.{Record}
-use Rattle.sheet.specs.declared.Found.{Found}
-use Rattle.sheet.specs.declared.Found.TheVariants.{Present, Absent}
 use Rattle.sheet.specs.All.{◌and◌}
 use Rattle.sheet.specs.Names.{declarations, names, declared_type, chart_variables, timer_type, timeout_type, is_clock}
 use Rattle.sheet.specs.Sheet.{count_of, record_of}
@@ -154,9 +153,9 @@ module _ (s : List ℕ) where
   unfolding sliced_variable
   variable_onward e d i st w h l = go (record_of s declarations d)
     where
-      go : (f : Found) → Onward s (cell_at (i + cells_taken s d)) st (elim f as (λ f. Changed) [ Present r ↦ sliced_each s e (declared_type r) (cells_taken s d) i st | Absent ↦ lost ])
-      go (Present r) = each_onward e (declared_type r) (cells_taken s d) i st w h l
-      go Absent = tt
+      go : (f : Option Record) → Onward s (cell_at (i + cells_taken s d)) st (elim f as (λ f. Changed) [ Some r ↦ sliced_each s e (declared_type r) (cells_taken s d) i st | None ↦ lost ])
+      go (Some r) = each_onward e (declared_type r) (cells_taken s d) i st w h l
+      go None = tt
 
   -- ---- a variable as the engine looks at it: "An array .. of clocks, gets 2", so that the first cell says all
 
@@ -288,7 +287,7 @@ module _ (s : List ℕ) where
   after_first from st o = after_none s from st o.whole (is_counted_lem s st o)
 
   -- element number i, whose number is read from the head
-  module _ (x i : ℕ) (c : Record) (head : x ≡ externals_of s) (p : chart_of s (externals_of s + i) ≡ Present c) where
+  module _ (x i : ℕ) (c : Record) (head : x ≡ externals_of s) (p : chart_of s (externals_of s + i) ≡ Some c) where
     first_next : first_cell s (externals_of s + i) + cells_before s c (chart_variables c).count ≡ first_cell s (externals_of s + (i + 1))
     unfolding first_cell
     first_next =

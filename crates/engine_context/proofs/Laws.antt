@@ -1,4 +1,5 @@
 -- The numbers of a running body, and where an index leads.
+use Rattle.std.specs.Prelude.{Some, None}
 use Prim.Native.Nat.{ℕ, ◌+◌, ◌-◌, ◌<◌, ◌≤◌}
 use mathlib.Core.Path.{◌≡◌, refl, sym, ap, ◌∙◌}
 use mathlib.Core.List.{List}
@@ -13,7 +14,6 @@ use Rattle.sheet_rules.specs.Shape.{most_cells}
 use Rattle.machine.specs.Values.{is_below}
 use Rattle.machine.specs.State.{cell_at}
 use Rattle.machine_states.proofs.Parts.{below_abs}
-use Rattle.engine_context.specs.declared.Place.TheVariants.{At, Outside}
 use Rattle.engine_context.specs.Context.{cell_in, Spans, leads_to}
 
 -- ---- the numbers: five, then its element's part of the table, of which n are copied
@@ -31,7 +31,7 @@ module _ (w : List ℕ) (n x : ℕ) where
 -- ---- an index, by the test that compares it
 
 module _ (w : List ℕ) (n : ℕ) (i : ℤ) (t : Bool) (test : t ≡ is_below i (cell_in w (n + 1) - cell_in w n)) where
-  pub goes_outside : not t ≡ true → Outside ≡ leads_to w n i
+  pub goes_outside : not t ≡ true → None ≡ leads_to w n i
   unfolding leads_to
   goes_outside h = rw (leads_to, sym test ∙ not-true t h) refl
 
@@ -39,9 +39,9 @@ module _ (w : List ℕ) (n : ℕ) (i : ℤ) (t : Bool) (test : t ≡ is_below i 
   goes_below h = sym test ∙ not-false t h
 
   module _ (h : not t ≡ false) (k : ℕ) (e : k ≡ nat_abs i) where
-    pub goes_inside : (at : ℕ) → at ≡ cell_at (cell_in w n + k) → At at ≡ leads_to w n i
+    pub goes_inside : (at : ℕ) → at ≡ cell_at (cell_in w n + k) → Some at ≡ leads_to w n i
     unfolding leads_to
-    goes_inside at q = ap At (q ∙ ap (λ (k : ℕ). cell_at (cell_in w n + k)) e) ∙ rw (leads_to, goes_below h) refl
+    goes_inside at q = ap Some (q ∙ ap (λ (k : ℕ). cell_at (cell_in w n + k)) e) ∙ rw (leads_to, goes_below h) refl
 
     -- the cell is one of the few
     pub goes_few : Spans w n → cell_in w n + k ≤ most_cells

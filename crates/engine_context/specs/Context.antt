@@ -1,10 +1,8 @@
 -- Where a body runs, as 38 numbers: the element, its first binding record's number, its chart's, its chart's first body's, the body's; then the first cell of each of its chart's variables, and one behind the last of them.
-use Rattle.std.specs.Prelude.{ℕ, ◌+◌, ◌-◌, ◌<◌, ◌≤◌, ◌≡◌, List, true, false, length, get_or, ℤ, nat_abs}
+use Rattle.std.specs.Prelude.{ℕ, ◌+◌, ◌-◌, ◌<◌, ◌≤◌, ◌≡◌, List, true, false, length, get_or, ℤ, nat_abs, Option, Some, None}
 use Rattle.sheet_rules.specs.Shape.{most_cells}
 use Rattle.machine.specs.Values.{is_below}
 use Rattle.machine.specs.State.{cell_at}
-use Rattle.engine_context.specs.declared.Place.{Place}
-use Rattle.engine_context.specs.declared.Place.TheVariants.{At, Outside}
 
 abbrev pub element_in : List ℕ → ℕ
 element_in w = get_or w 0 0
@@ -33,5 +31,5 @@ pub record Spans (w : List ℕ) (n : ℕ) : Type 0 where
   pub few : cell_in w (n + 1) ≤ most_cells
 
 -- where index i leads in variable n
-unfoldable pub leads_to : List ℕ → ℕ → ℤ → Place
-leads_to w n i = elim (is_below i (cell_in w (n + 1) - cell_in w n)) [ true ↦ At (cell_at (cell_in w n + nat_abs i)) | false ↦ Outside ]
+unfoldable pub leads_to : List ℕ → ℕ → ℤ → Option ℕ
+leads_to w n i = elim (is_below i (cell_in w (n + 1) - cell_in w n)) [ true ↦ Some (cell_at (cell_in w n + nat_abs i)) | false ↦ None ]

@@ -34,13 +34,6 @@ pub const LOCALS: usize = 16;
 
 pub type Locals = [i32; LOCALS];
 
-// Where in the state an index of an array leads: to the word of an element, or outside.
-#[derive(Clone, Copy)]
-pub enum Place {
-    At(usize),
-    Outside,
-}
-
 // The numbers of a running body of element e, bound by record k. Its row of the table of cells, number i,
 // is taken along.
 pub fn context(
@@ -62,11 +55,8 @@ pub fn context(
     w[CHART] = chart;
     w[FIRST_BODY] = first;
     w[BODY] = body;
-    let mut n: usize = 0;
-    while n <= count {
-        w[CELLS + n] = cells[ROW * i + n];
-        n += 1;
-    }
+    let row = ROW * i;
+    w[CELLS..CELLS + count + 1].copy_from_slice(&cells[row..row + count + 1]);
     w
 }
 
@@ -90,15 +80,15 @@ pub fn first_word(context: &Frame, n: usize) -> usize
 
 // The word of array n at index i. Its cells end where the next variable's begin, whatever the kind of
 // its index.
-pub fn element_word(context: &Frame, n: usize, i: i32) -> Place
+pub fn element_word(context: &Frame, n: usize, i: i32) -> Option<usize>
     requires { Spans context.now n }
     ensures { result ≡ leads_to context.now n i }
 {
     let first = context[CELLS + n];
     let count = context[CELLS + (n + 1)] - first;
     if !engine_valid_words::is_below(i, count) {
-        return Place::Outside;
+        return None;
     }
     let k = engine_valid_words::number(i);
-    Place::At(engine_store::cell_at(first + k))
+    Some(engine_store::cell_at(first + k))
 }

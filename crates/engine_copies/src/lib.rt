@@ -8,21 +8,12 @@ pub fn copy(from: &[i32], to: &mut [i32])
     requires { length to.old ≡ length from.now }
     ensures { to.new ≡ from.now }
 {
-    let mut i = 0;
-    while i < from.len() {
-        let z = from[i];
-        to[i] = z;
-        i += 1;
-    }
+    to.copy_from_slice(from);
 }
 
 // All words 0.
 pub fn zero(to: &mut [i32])
     ensures { to.new ≡ replicate (length to.old) (pos 0) }
 {
-    let mut i = 0;
-    while i < to.len() {
-        to[i] = 0;
-        i += 1;
-    }
+    to.fill(0);
 }

@@ -3,8 +3,7 @@ use Rattle.std.specs.Prelude.{ℕ, List, ℤ}
 use Rattle.sheet.specs.declared.Record.{Record}
 use Rattle.sheet.specs.declared.Range.{Range}
 use Rattle.machine.specs.Eval.{eval_of}
-use Rattle.engine_ints.specs.declared.Work.{Work}
-use Rattle.engine_ints.specs.Work.{work_of}
+use Rattle.engine_ints.specs.Work.{Work, work_of}
 use Rattle.engine_ready.specs.Ready.{context_at}
 use Rattle.engine_ready.specs.Words.{Data, data_from}
 

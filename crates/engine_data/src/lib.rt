@@ -1,57 +1,48 @@
 // Data worked out.
 #![tactic(auto)]
 
-ghost use Rattle.std.specs.Prelude.{◌≡◌, List, [], ℕ, ◌≤◌, length, ℤ};
-ghost use Rattle.sheet.specs.Sheet.{directory_of};
+ghost use Rattle.std.specs.Prelude.{◌≡◌, ◌≤◌};
+ghost use Rattle.sheet.specs.Names.{data_of};
 ghost use Rattle.engine_ready.specs.Ready.{Ready, HasData};
-ghost use Rattle.engine_ready.specs.Words.{given, ran_data, four_words};
+ghost use Rattle.engine_ready.specs.Words.{in_four};
 ghost use Rattle.engine_data.specs.Data.{data_at};
 
 use engine_context::{Frame, Locals};
-use engine_ints::Work;
-use machine::{Data, Ran};
-use sheet::{Directory, Range, Record};
+use engine_ints::Stop;
+use machine::{DATA, Data};
+use sheet::{Range, Record};
+use sheet_opened::Reader;
 
-// The data of a node, for the declarations of a range, into four words.
+// The declarations of a name's data.
+pub fn data_range(a: Record) -> Range
+    ensures { result ≡ data_of a }
+{
+    Range {
+        first: a.f0 as usize,
+        count: a.f1 as usize,
+    }
+}
+
+// The data of a node, for the declarations of a range, in four words, and the steps left.
 pub fn gather(
-    sheet: &[u8],
-    directory: &Directory,
+    sheet: &Reader,
     context: &Frame,
     st: &[i32],
     lo: &Locals,
     r: Record,
     g: Range,
-    into: &mut Data,
     left: u32,
-) -> Ran
-    requires { (directory.now ≡ directory_of sheet.now) × Ready sheet.now context.now st.now lo.now × HasData sheet.now context.now st.now lo.now r g × (g.count ≤ 4) × (into.old ≡ four_words []) }
-    ensures { (length into.new ≡ 4) × (result ≡ ran_data (data_at sheet.now context.now st.now lo.now r g left)) × ((zs : List ℤ) (m : ℕ) → data_at sheet.now context.now st.now lo.now r g left ≡ given zs m → into.new ≡ four_words zs) }
+) -> Result<(Data, u32), Stop>
+    requires { Ready sheet.now context.now st.now lo.now × HasData sheet.now context.now st.now lo.now r g × (g.count ≤ 4) }
+    ensures { result ≡ in_four (data_at sheet.now context.now st.now lo.now r g left) }
 {
+    let mut words = [0i32; DATA];
     let mut l = left;
-    let mut j: usize = 0;
-    while j < g.count {
-        let x = engine_expressions::eval(
-            sheet,
-            directory,
-            context,
-            st,
-            lo,
-            sheet_fields::field(r, 4 + j),
-            l,
-        );
-        match x {
-            Work::Word { word, left } => {
-                into[j] = word;
-                l = left;
-            }
-            Work::Refused { number, left } => {
-                return Ran::Refused { number, left };
-            }
-            Work::Stuck => {
-                return Ran::Stuck;
-            }
-        }
-        j += 1;
+    for j in 0..g.count {
+        let n = sheet_fields::field(r, 4 + j);
+        let (word, rest) = engine_expressions::eval(sheet, context, st, lo, n, l)?;
+        words[j] = word;
+        l = rest;
     }
-    Ran::Done { left: l }
+    Ok((words, l))
 }

@@ -1,4 +1,5 @@
 -- The default cells of variables put into a state, one behind the other.
+use Rattle.std.specs.Prelude.{Some}
 use Prim.Native.Nat.{ℕ, zero, suc, ◌+◌, ◌*◌, ◌<◌, ◌≤◌}
 use mathlib.Core.Path.{◌≡◌, refl, sym, ap, ◌∙◌}
 use mathlib.Core.List.{List, ◌∷◌, ◌++◌, append_assoc, append-nil}
@@ -7,7 +8,6 @@ use native.Mathlib.Numerals.{add-one}
 use lib.ListN.{length, replicate, length-append}
 use lib.IntN.{ℤ, pos}
 use Rattle.sheet.specs.declared.Record.{Record}
-use Rattle.sheet.specs.declared.Found.TheVariants.{Present}
 use Rattle.sheet.specs.Names.{chart_variables}
 use Rattle.sheet_rules.specs.declared.Checked.TheVariants.{Passed}
 use Rattle.sheet_rules.specs.Fields.{sum_below, type_at, externals_of, elements_of}
@@ -121,7 +121,7 @@ module _ (s : List ℕ) (ok : check_of s ≡ Passed) where
     unfolding cells_from
     filled_none w = record { whole = w; words = sym (put_none st₀ (cell_at 0)); before = refl }
 
-    pub filled_more : (st st' : List ℤ) (cell next i k : ℕ) (c : Record) → i < elements_of s → k ≡ first_binding s i → chart_bound s k ≡ Present c →
+    pub filled_more : (st st' : List ℤ) (cell next i k : ℕ) (c : Record) → i < elements_of s → k ≡ first_binding s i → chart_bound s k ≡ Some c →
         cell ≡ sum_below i (cells_bound s) → st' ≡ put_words st (cell_at cell) (default_cells s (chart_variables c).count (chart_variables c).first) →
         next ≡ cell + cells_before s c (chart_variables c).count → Filled s st₀ st cell i → Filled s st₀ st' next (i + 1)
     unfolding element_cells cell_at state_length place_at

@@ -2,57 +2,53 @@
 #![tactic(auto)]
 
 ghost use Rattle.std.specs.Prelude.{◌≡◌, ◌∷◌, ◌+◌, ◌<◌, ◌≤◌, length, replicate, pos};
-ghost use Rattle.sheet.specs.Sheet.{directory_of};
 ghost use Rattle.sheet.specs.Names.{chart_variables, body_parameters, body_locals};
-ghost use Rattle.sheet_rules.specs.declared.Checked.TheVariants.{Passed};
 ghost use Rattle.sheet_rules.specs.Indices.{cells_before};
 ghost use Rattle.machine.specs.Values.{default_of};
 ghost use Rattle.machine.specs.Run.{local_at, locals_of};
 ghost use Rattle.machine.specs.State.{cell_at, state_length, put_words};
 ghost use Rattle.machine.specs.Play.{alike, default_cells, default_state};
-ghost use Rattle.sheet_rules.specs.Check.{check_of};
-ghost use Rattle.engine_cells.specs.Lent.{CellsIn};
+ghost use Rattle.engine_cells.specs.Cells.{CellsIn};
 
+use engine_cells::Yard;
 use engine_context::{LOCALS, Locals};
 use machine::Data;
-use sheet::{Directory, ENUMERATED_TYPES, Found, Record};
+use sheet::{ENUMERATED_TYPES, Record};
+use sheet_opened::Reader;
 
 // "Defaults: false, 0, Log, log, the declared member, a stopped clock"
-fn default_of(sheet: &[u8], directory: &Directory, t: usize) -> i32
-    requires { directory.now ≡ directory_of sheet.now }
+fn default_of(sheet: &Reader, t: usize) -> i32
     ensures { result ≡ default_of sheet.now t }
 {
     if t < 8 {
         return 0;
     }
-    sheet_fields::field_at(sheet, directory, ENUMERATED_TYPES, t - 8, 1) as i32
+    sheet_fields::field_at(sheet, ENUMERATED_TYPES, t - 8, 1) as i32
 }
 
 // Variable i of a body that begins to run.
-fn local_at(sheet: &[u8], directory: &Directory, b: Record, d: &Data, i: usize) -> i32
-    requires { (directory.now ≡ directory_of sheet.now) × ((body_parameters b).count ≤ 4) × (i < (body_parameters b).count + (body_locals b).count) }
+fn local_at(sheet: &Reader, b: Record, d: &Data, i: usize) -> i32
+    requires { ((body_parameters b).count ≤ 4) × (i < (body_parameters b).count + (body_locals b).count) }
     ensures { result ≡ local_at sheet.now b d.now i }
 {
     let parameters = b.f4 as usize;
     if i < parameters {
         return d[i];
     }
-    let t = sheet_types::type_at(sheet, directory, b.f5 as usize + (i - parameters));
-    default_of(sheet, directory, t)
+    let t = sheet_types::type_at(sheet, b.f5 as usize + (i - parameters));
+    default_of(sheet, t)
 }
 
 // The variables of a body that begins to run: parameters from data, then "fresh default locals".
-pub fn fresh_locals(sheet: &[u8], directory: &Directory, b: Record, d: &Data) -> Locals
-    requires { (directory.now ≡ directory_of sheet.now) × ((body_parameters b).count ≤ 4) × ((body_parameters b).count + (body_locals b).count ≤ 16) }
+pub fn fresh_locals(sheet: &Reader, b: Record, d: &Data) -> Locals
+    requires { ((body_parameters b).count ≤ 4) × ((body_parameters b).count + (body_locals b).count ≤ 16) }
     ensures { result ≡ locals_of sheet.now b d.now }
 {
     let count = b.f4 as usize + b.f6 as usize;
     let mut locals = [0i32; LOCALS];
-    let mut i: usize = 0;
-    while i < count {
-        let z = local_at(sheet, directory, b, d, i);
+    for i in 0..count {
+        let z = local_at(sheet, b, d, i);
         locals[i] = z;
-        i += 1;
     }
     locals
 }
@@ -62,56 +58,44 @@ fn cells_alike(st: &mut [i32], cell: usize, n: usize, z: i32)
     requires { CellsIn st.old cell n }
     ensures { st.new ≡ put_words st.old (cell_at cell) (alike n (z ∷ replicate 7 (pos 0))) }
 {
-    let mut k: usize = 0;
-    while k < n {
+    for k in 0..n {
         engine_store::set_cell(st, engine_store::cell_at(cell + k), z);
-        k += 1;
     }
 }
 
 // The default cells of a chart's variables, from a cell on, whatever stood there, and the cell behind them.
-fn default_cells(
-    sheet: &[u8],
-    directory: &Directory,
-    st: &mut [i32],
-    c: Record,
-    cell: usize,
-) -> usize
-    requires { (directory.now ≡ directory_of sheet.now) × CellsIn st.old cell (cells_before sheet.now c (chart_variables c).count) }
+fn default_cells(sheet: &Reader, st: &mut [i32], c: Record, cell: usize) -> usize
+    requires { CellsIn st.old cell (cells_before sheet.now c (chart_variables c).count) }
     ensures { (result ≡ cell + cells_before sheet.now c (chart_variables c).count) × (st.new ≡ put_words st.old (cell_at cell) (default_cells sheet.now (chart_variables c).count (chart_variables c).first)) }
 {
     let count = c.f3 as usize;
     let mut next = cell;
-    let mut j: usize = 0;
-    while j < count {
+    for j in 0..count {
         let d = c.f2 as usize + j;
-        let t = sheet_types::type_at(sheet, directory, d);
-        let z = default_of(sheet, directory, t);
-        let taken = sheet_indices::cells_taken(sheet, directory, d);
+        let t = sheet_types::type_at(sheet, d);
+        let z = default_of(sheet, t);
+        let taken = sheet_indices::cells_taken(sheet, d);
         cells_alike(st, next, taken, z);
         next += taken;
-        j += 1;
     }
     next
 }
 
 // "all defaults, nothing waiting"
-pub fn default_state(sheet: &[u8], directory: &Directory, st: &mut [i32])
-    requires { (directory.now ≡ directory_of sheet.now) × (check_of sheet.now ≡ Passed) × (length st.old ≡ state_length sheet.now) }
-    ensures { st.new ≡ default_state sheet.now }
+pub fn default_state(yard: &Yard, st: &mut [i32])
+    requires { length st.old ≡ state_length yard.now.sheet }
+    ensures { st.new ≡ default_state yard.now.sheet }
 {
     engine_copies::zero(st);
-    let count = engine_cells::elements(sheet, directory);
+    let count = yard.elements();
     let mut cell: usize = 0;
     let mut k: usize = 0;
-    let mut i: usize = 0;
-    while i < count {
-        let Found::Present(c) = sheet_bindings::chart_bound(sheet, directory, k) else {
-            sheet_branches::never_taken(true);
+    for i in 0..count {
+        let Some(c) = sheet_bindings::chart_bound(&yard.sheet, k) else {
+            prove!(false);
             return;
         };
-        cell = default_cells(sheet, directory, st, c, cell);
+        cell = default_cells(&yard.sheet, st, c, cell);
         k += sheet_bindings::records_for(c.f1);
-        i += 1;
     }
 }

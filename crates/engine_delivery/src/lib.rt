@@ -2,8 +2,7 @@
 // element runs.
 #![tactic(auto)]
 
-ghost use Rattle.std.specs.Prelude.{true, false, ◌≡◌, nat_abs};
-ghost use Rattle.machine.specs.declared.Handed.TheVariants.{Outside};
+ghost use Rattle.std.specs.Prelude.{true, false, ◌≡◌, nat_abs, Some};
 ghost use Rattle.sheet_rules.specs.Fields.{externals_of};
 ghost use Rattle.sheet_rules.specs.Types.{reacts_to};
 ghost use Rattle.machine.specs.Values.{is_below, is_bound};
@@ -12,164 +11,93 @@ ghost use Rattle.engine_cells.specs.Cells.{ChartAt};
 ghost use Rattle.engine_delivery.specs.Arrived.{Beside, Arrived};
 
 use engine_answering::answered;
-use engine_cells::CellLayout;
-use machine::{Answer, DATA, Handed, Telegram};
-use sheet::{CHARTS, Directory, Found, Record};
+use engine_cells::Yard;
+use machine::{Answer, DATA, Telegram};
+use sheet::{CHARTS, Record};
 
 // Runs the panic body of element e, whose chart c is number n.
-fn run_panic_body(
-    sheet: &[u8],
-    directory: &Directory,
-    cells: &CellLayout,
-    old: &[i32],
-    st: &mut [i32],
-    e: usize,
-    n: usize,
-    c: Record,
-) -> Answer
-    requires { Beside sheet.now directory.now cells.now old.now st.old × ChartAt sheet.now e n c }
-    ensures { ended result st.new ≡ panicking sheet.now (limit_of sheet.now) old.now e st.old }
+fn run_panic_body(yard: &Yard, old: &[i32], st: &mut [i32], e: usize, n: usize, c: Record) -> Answer
+    requires { Beside yard.now.sheet old.now st.old × ChartAt yard.now.sheet e n c }
+    ensures { ended result st.new ≡ panicking yard.now.sheet (limit_of yard.now.sheet) old.now e st.old }
 {
-    let j = engine_finders::with_role(sheet, directory, c, 1);
+    let j = engine_finders::with_role(&yard.sheet, c, 1);
     let none = [0i32; DATA];
-    engine_bodies::event_body(
-        sheet,
-        directory,
-        cells,
-        old,
-        st,
-        e,
-        n,
-        c,
-        c.f4 as usize + j,
-        &none,
-    )
+    engine_bodies::event_body(yard, old, st, e, n, c, c.f4 as usize + j, &none)
 }
 
 // 3: "as 2 with bound r, but the panic body runs": that of element e.
-pub fn panicked(
-    sheet: &[u8],
-    directory: &Directory,
-    cells: &CellLayout,
-    old: &[i32],
-    st: &mut [i32],
-    e: usize,
-) -> Answer
-    requires { Beside sheet.now directory.now cells.now old.now st.old × (is_bound sheet.now e ≡ true) }
-    ensures { ended result st.new ≡ panicking sheet.now (limit_of sheet.now) old.now e st.old }
+pub fn panicked(yard: &Yard, old: &[i32], st: &mut [i32], e: usize) -> Answer
+    requires { Beside yard.now.sheet old.now st.old × (is_bound yard.now.sheet e ≡ true) }
+    ensures { ended result st.new ≡ panicking yard.now.sheet (limit_of yard.now.sheet) old.now e st.old }
 {
-    let n = engine_cells::chart_number(sheet, directory, cells, e);
-    let Found::Present(c) = sheet_reader::read(sheet, directory, CHARTS, n) else {
-        sheet_branches::never_taken(true);
+    let n = yard.chart_number(e);
+    let Some(c) = yard.sheet.record(CHARTS, n) else {
+        prove!(false);
         return answered(4, 0);
     };
-    run_panic_body(sheet, directory, cells, old, st, e, n, c)
+    run_panic_body(yard, old, st, e, n, c)
 }
 
 // A telegram that was removed reaches a bound element.
-fn deliver_to_element(
-    sheet: &[u8],
-    directory: &Directory,
-    cells: &CellLayout,
-    old: &[i32],
-    st: &mut [i32],
-    t: Telegram,
-) -> Answer
-    requires { Arrived sheet.now directory.now cells.now old.now st.old t false × (is_below t.receiver (externals_of sheet.now) ≡ false) }
-    ensures { ended result st.new ≡ delivered sheet.now (limit_of sheet.now) old.now t st.old }
+fn deliver_to_element(yard: &Yard, old: &[i32], st: &mut [i32], t: Telegram) -> Answer
+    requires { Arrived yard.now.sheet old.now st.old t false × (is_below t.receiver (externals_of yard.now.sheet) ≡ false) }
+    ensures { ended result st.new ≡ delivered yard.now.sheet (limit_of yard.now.sheet) old.now t st.old }
 {
     let e = engine_valid_words::number(t.receiver);
-    let n = engine_cells::chart_number(sheet, directory, cells, e);
-    let Found::Present(c) = sheet_reader::read(sheet, directory, CHARTS, n) else {
-        sheet_branches::never_taken(true);
+    let n = yard.chart_number(e);
+    let Some(c) = yard.sheet.record(CHARTS, n) else {
+        prove!(false);
         return answered(4, 0);
     };
     let j = engine_finders::reaction_on(
-        sheet,
-        directory,
+        &yard.sheet,
         c,
         engine_valid_words::number(t.port),
         engine_valid_words::number(t.name),
     );
     if j < c.f5 as usize {
         let brought = [t.d0, t.d1, t.d2, t.d3];
-        return engine_bodies::event_body(
-            sheet,
-            directory,
-            cells,
-            old,
-            st,
-            e,
-            n,
-            c,
-            c.f4 as usize + j,
-            &brought,
-        );
+        return engine_bodies::event_body(yard, old, st, e, n, c, c.f4 as usize + j, &brought);
     }
-    run_panic_body(sheet, directory, cells, old, st, e, n, c)
+    run_panic_body(yard, old, st, e, n, c)
 }
 
 // Handed outside: no body runs.
 fn handed(t: Telegram) -> Answer
-    ensures { result ≡ answer 0 0 (Outside t) }
+    ensures { result ≡ answer 0 0 (Some t) }
 {
     Answer {
         number: 0,
         steps: 0,
         dropped: 0,
-        handed: Handed::Outside(t),
+        handed: Some(t),
     }
 }
 
 // 2: "If r is external it is handed outside. If bound, the reaction for its port and name runs, or
 // without one the panic body."
-pub fn delivers(
-    sheet: &[u8],
-    directory: &Directory,
-    cells: &CellLayout,
-    old: &[i32],
-    st: &mut [i32],
-    t: Telegram,
-) -> Answer
-    requires { Arrived sheet.now directory.now cells.now old.now st.old t false }
-    ensures { ended result st.new ≡ delivered sheet.now (limit_of sheet.now) old.now t st.old }
+pub fn delivers(yard: &Yard, old: &[i32], st: &mut [i32], t: Telegram) -> Answer
+    requires { Arrived yard.now.sheet old.now st.old t false }
+    ensures { ended result st.new ≡ delivered yard.now.sheet (limit_of yard.now.sheet) old.now t st.old }
 {
-    if engine_valid_words::is_below(t.receiver, engine_valid_values::externals(sheet, directory)) {
+    if engine_valid_words::is_below(t.receiver, engine_valid_values::externals(&yard.sheet)) {
         return handed(t);
     }
-    deliver_to_element(sheet, directory, cells, old, st, t)
+    deliver_to_element(yard, old, st, t)
 }
 
 // 4: an internal telegram that was removed: "its reaction runs"
-pub fn reacts(
-    sheet: &[u8],
-    directory: &Directory,
-    cells: &CellLayout,
-    old: &[i32],
-    st: &mut [i32],
-    t: Telegram,
-) -> Answer
-    requires { Arrived sheet.now directory.now cells.now old.now st.old t true }
-    ensures { ended result st.new ≡ reacting sheet.now (limit_of sheet.now) old.now (nat_abs t.receiver) (element_body sheet.now (nat_abs t.receiver) (reacts_to (nat_abs t.name))) t st.old }
+pub fn reacts(yard: &Yard, old: &[i32], st: &mut [i32], t: Telegram) -> Answer
+    requires { Arrived yard.now.sheet old.now st.old t true }
+    ensures { ended result st.new ≡ reacting yard.now.sheet (limit_of yard.now.sheet) old.now (nat_abs t.receiver) (element_body yard.now.sheet (nat_abs t.receiver) (reacts_to (nat_abs t.name))) t st.old }
 {
     let e = engine_valid_words::number(t.receiver);
-    let n = engine_cells::chart_number(sheet, directory, cells, e);
-    let Found::Present(c) = sheet_reader::read(sheet, directory, CHARTS, n) else {
-        sheet_branches::never_taken(true);
+    let n = yard.chart_number(e);
+    let Some(c) = yard.sheet.record(CHARTS, n) else {
+        prove!(false);
         return answered(4, 0);
     };
-    let j = engine_finders::reaction_to(sheet, directory, c, engine_valid_words::number(t.name));
+    let j = engine_finders::reaction_to(&yard.sheet, c, engine_valid_words::number(t.name));
     let brought = [t.d0, t.d1, t.d2, t.d3];
-    engine_bodies::event_body(
-        sheet,
-        directory,
-        cells,
-        old,
-        st,
-        e,
-        n,
-        c,
-        c.f4 as usize + j,
-        &brought,
-    )
+    engine_bodies::event_body(yard, old, st, e, n, c, c.f4 as usize + j, &brought)
 }

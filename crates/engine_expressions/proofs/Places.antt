@@ -1,44 +1,28 @@
 -- The same laws in the code's terms: words found by the numbers of a body, steps counted down.
-use Prim.Native.Nat.{ℕ, suc, ◌+◌, ◌-◌, ◌<◌, ◌≤◌}
-use mathlib.Core.Path.{◌≡◌, refl, sym, ap, ◌∙◌}
+use Rattle.std.specs.Prelude.{Some, Ok, Err}
+use Prim.Native.Nat.{ℕ, suc, ◌+◌, ◌-◌, ◌<◌}
+use mathlib.Core.Path.{◌≡◌, sym, ap, ◌∙◌}
 use mathlib.Core.List.{List}
-use mathlib.Core.Bool.{Bool, true, false}
 use native.Mathlib.Omega.{arith}
 use lib.IntN.{ℤ}
 use Rattle.sheet.specs.declared.Record.{Record}
-use Rattle.sheet.specs.declared.Found.{Found}
-use Rattle.sheet.specs.declared.Found.TheVariants.{Present, Absent}
 use Rattle.sheet.specs.Names.{nodes, operator}
 use Rattle.sheet.specs.Sheet.{record_of}
-use Rattle.sheet.proofs.All.{true_false}
-use Rattle.sheet.proofs.Table.{beyond}
 use Rattle.sheet.specs.Table.{look_up}
 use Rattle.sheet_rules.specs.Forms.{literal, read, unary, binary, clock, read_element, form_of}
 use Rattle.machine.specs.State.{cell_at, word_of}
 use Rattle.machine.specs.Eval.{literal_value, eval_of}
-use Rattle.engine_ints.specs.declared.Work.{Work}
-use Rattle.engine_ints.specs.declared.Work.TheVariants.{Word, Refused, Stuck}
-use Rattle.engine_ints.specs.Work.{work_of, then_work, not_work, binary_work}
+use Rattle.engine_ints.specs.declared.Stop.TheVariants.{Refused}
+use Rattle.engine_ints.specs.Work.{Work, work_of, then_work, not_work, binary_work}
 use Rattle.engine_context.specs.Context.{element_in, cell_in, leads_to}
 use Rattle.engine_ready.specs.Ready.{context_at, Ready, Reaches, IsExpression}
 use Rattle.engine_ready.specs.Words.{element_word}
 use Rattle.engine_ready.proofs.Cells.{reaches}
 use Rattle.engine_ready.proofs.Expressions as laws
 
-pub not_absent : (f : Found) (r : Record) → f ≡ Present r → f ≡ Absent → ⊥
-not_absent f r e h = true_false {b = true} refl (ap there (sym e ∙ h))
-  where
-    there : Found → Bool
-    there (Present r) = true
-    there Absent = false
-
 pub form-read : (op : ℕ) → op ≡ 7 → form_of op ≡ read
 unfolding form_of look_up
 form-read op e = ap form_of e
-
--- past 6 and neither 7 nor 8
-pub from_9 : {op : ℕ} → 7 ≤ op → (op ≡ 7 → ⊥) → (op ≡ 8 → ⊥) → 9 ≤ op
-from_9 h a b = beyond (beyond h a) b
 
 pub form-element : (op : ℕ) → op ≡ 19 → form_of op ≡ read_element
 unfolding form_of look_up
@@ -53,22 +37,22 @@ pub visit : (s w : List ℕ) (st lo : List ℤ) (n l : ℕ) → (l ≡ 0 → ⊥
 visit s w st lo n l some o h = h ∙ ap (λ l. work_of (eval_of s (context_at s w) st lo n l)) (let k : suc (l - 1) ≡ l = omega arith in k)
 
 module _ (s w : List ℕ) (st lo : List ℤ) (ready : Ready s w st lo) where
-  pub refused_at_lem : (n l : ℕ) → l ≡ 0 → Refused 10 0 ≡ work_of (eval_of s (context_at s w) st lo n l)
+  pub refused_at_lem : (n l : ℕ) → l ≡ 0 → Err (Refused 10 0) ≡ work_of (eval_of s (context_at s w) st lo n l)
   refused_at_lem n l none = sym (ap (λ l. work_of (eval_of s (context_at s w) st lo n l)) none ∙ laws.none_left s w st lo ready n)
 
-  module _ (n : ℕ) (r : Record) (there : record_of s nodes n ≡ Present r) (e : IsExpression s w n) where
+  module _ (n : ℕ) (r : Record) (there : record_of s nodes n ≡ Some r) (e : IsExpression s w n) where
     abbrev given : ℕ → Work
     given l = work_of (eval_of s (context_at s w) st lo n (suc l))
 
-    pub literal-at : form_of (operator r) ≡ literal → (l : ℕ) → Word (literal_value (element_in w) r).word l ≡ given l
+    pub literal-at : form_of (operator r) ≡ literal → (l : ℕ) → Ok ((literal_value (element_in w) r).word, l) ≡ given l
     unfolding context_at
     literal-at q l = sym (laws.literal_word s w st lo ready n r there e q l)
 
     module _ (q : form_of (operator r) ≡ clock) where
-      pub running_at_lem : operator r ≡ 17 → (l : ℕ) → Word (word_of st (cell_at (cell_in w r.f1) + 0)) l ≡ given l
-      running_at_lem h l = sym (laws.running_word s w st lo ready n r there e q h l ∙ ap (λ k. Word (word_of st k) l) (let k : cell_at (cell_in w r.f1) ≡ cell_at (cell_in w r.f1) + 0 = omega arith in k))
+      pub running_at_lem : operator r ≡ 17 → (l : ℕ) → Ok (word_of st (cell_at (cell_in w r.f1) + 0), l) ≡ given l
+      running_at_lem h l = sym (laws.running_word s w st lo ready n r there e q h l ∙ ap (λ k. Ok (word_of st k, l)) (let k : cell_at (cell_in w r.f1) ≡ cell_at (cell_in w r.f1) + 0 = omega arith in k))
 
-      pub value_at_lem : operator r ≡ 18 → (l : ℕ) → Word (word_of st (cell_at (cell_in w r.f1) + 1)) l ≡ given l
+      pub value_at_lem : operator r ≡ 18 → (l : ℕ) → Ok (word_of st (cell_at (cell_in w r.f1) + 1), l) ≡ given l
       value_at_lem h l = sym (laws.value_word s w st lo ready n r there e q (λ z. omega arith) l)
 
     module _ (q : form_of (operator r) ≡ read_element) where
@@ -78,33 +62,15 @@ module _ (s w : List ℕ) (st lo : List ℤ) (ready : Ready s w st lo) where
       pub reaches_at : Reaches w st r.f1
       reaches_at = reaches s w st lo ready r.f1 (laws.element-below s w st lo ready n r there e q)
 
-      pub element_at : (l : ℕ) (y : Work) → y ≡ work_of (eval_of s (context_at s w) st lo r.f2 l) → then_work y (λ i. element_word st (leads_to w r.f1 i)) ≡ given l
-      element_at l y h = ap (λ o. then_work o (λ i. element_word st (leads_to w r.f1 i))) h ∙ sym (laws.element_word_lem s w st lo ready n r there e q l)
+      pub element_at : (l : ℕ) → then_work (work_of (eval_of s (context_at s w) st lo r.f2 l)) (λ i. element_word st (leads_to w r.f1 i)) ≡ given l
+      element_at l = sym (laws.element_word_lem s w st lo ready n r there e q l)
 
-    pub not_at : form_of (operator r) ≡ unary → (l : ℕ) (y : Work) → y ≡ work_of (eval_of s (context_at s w) st lo r.f1 l) → then_work y not_work ≡ given l
-    not_at q l y h = ap (λ o. then_work o not_work) h ∙ sym (laws.not_word_lem s w st lo ready n r there e q l)
+    pub not_at : form_of (operator r) ≡ unary → (l : ℕ) → then_work (work_of (eval_of s (context_at s w) st lo r.f1 l)) not_work ≡ given l
+    not_at q l = sym (laws.not_word_lem s w st lo ready n r there e q l)
 
     -- both operands are lower, and expressions
     pub operands_at : form_of (operator r) ≡ binary → (r.f1 < n) × (r.f2 < n) × IsExpression s w r.f1 × IsExpression s w r.f2
     operands_at q = (laws.first_low_lem s w st lo ready n r there e q, laws.second_low s w st lo ready n r there e q, laws.first_operand s w st lo ready n r there e q, laws.second_operand s w st lo ready n r there e q)
 
-    -- the first operand gave x
-    module _ (q : form_of (operator r) ≡ binary) (l : ℕ) (x : Work) (first : x ≡ work_of (eval_of s (context_at s w) st lo r.f1 l)) where
-      second : ℤ → ℕ → Work
-      second a m = then_work (work_of (eval_of s (context_at s w) st lo r.f2 m)) (λ b l. binary_work (operator r) a b l)
-
-      two : (o : Work) → x ≡ o → then_work o second ≡ given l
-      unfolding second
-      two o h = sym (laws.two_words s w st lo ready n r there e q l ∙ ap (λ o. then_work o second) (sym first ∙ h))
-
-      pub two_at : (a : ℤ) (m : ℕ) → x ≡ Word a m → (y : Work) → y ≡ work_of (eval_of s (context_at s w) st lo r.f2 m) → then_work y (λ b l. binary_work (operator r) a b l) ≡ given l
-      unfolding then_work second
-      two_at a m h y k = ap (λ y. then_work y (λ b l. binary_work (operator r) a b l)) k ∙ two (Word a m) h
-
-      pub first-refused : (k m : ℕ) → x ≡ Refused k m → Refused k m ≡ given l
-      unfolding then_work
-      first-refused k m h = two (Refused k m) h
-
-      pub first-stuck : x ≡ Stuck → Stuck ≡ given l
-      unfolding then_work
-      first-stuck h = two Stuck h
+    pub two_at : form_of (operator r) ≡ binary → (l : ℕ) → then_work (work_of (eval_of s (context_at s w) st lo r.f1 l)) (λ a m. then_work (work_of (eval_of s (context_at s w) st lo r.f2 m)) (λ b l. binary_work (operator r) a b l)) ≡ given l
+    two_at q l = sym (laws.two_words s w st lo ready n r there e q l)

@@ -1,3 +1,4 @@
 pub mod Rounding
 pub mod Range
 pub mod Words
+pub mod Stops

@@ -1,4 +1,5 @@
 -- Bounds of signed sums, products and quotients, by `mag`; the tests of range and of a zero.
+use Rattle.std.specs.Prelude.{Ok, Err}
 use Prim.Native.Nat.{ℕ, zero, suc, ◌+◌, ◌-◌, ◌*◌, ◌/◌, ◌≤◌, ◌<◌}
 use mathlib.Core.Path.{◌≡◌, refl, sym, ◌∙◌}
 use mathlib.Core.Bool.{Bool, true, false, cond}
@@ -16,7 +17,7 @@ use Rattle.machine_division.specs.Division.{quotient, remainder}
 use Rattle.machine_division.proofs.Laws.{positive_divisor, negative_divisor}
 use Rattle.machine.specs.Values.{fits32, is_zero}
 use Rattle.machine.specs.Eval.{int_out, dividing}
-use Rattle.engine_ints.specs.declared.Work.TheVariants.{Word, Refused}
+use Rattle.engine_ints.specs.declared.Stop.TheVariants.{Refused}
 use Rattle.engine_ints.specs.Work.{work_of}
 use Rattle.engine_ints.proofs.Rounding.{left_over}
 
@@ -36,11 +37,11 @@ wide h = rw (back h) (back64 (widen h))
 -- ---- the test of the range
 
 module _ (z : ℤ) (l : ℕ) where
-  outside : fits32 z ≡ false → Refused 6 l ≡ work_of (int_out z l)
+  outside : fits32 z ≡ false → Err (Refused 6 l) ≡ work_of (int_out z l)
   unfolding int_out work_of
   outside e = rw (int_out, e) refl
 
-  pub too_low : lt_z z (negsuc 2147483647) ≡ true → Refused 6 l ≡ work_of (int_out z l)
+  pub too_low : lt_z z (negsuc 2147483647) ≡ true → Err (Refused 6 l) ≡ work_of (int_out z l)
   unfolding fits32
   too_low e = outside (low z e)
     where
@@ -48,7 +49,7 @@ module _ (z : ℤ) (l : ℕ) where
       low (pos a) e = absurd (true_false e refl)
       low (negsuc a) e = le-ltb a 2147483648 (ltb-true 2147483647 a e)
 
-  pub too_high : lt_z (pos 2147483647) z ≡ true → Refused 6 l ≡ work_of (int_out z l)
+  pub too_high : lt_z (pos 2147483647) z ≡ true → Err (Refused 6 l) ≡ work_of (int_out z l)
   unfolding fits32
   too_high e = outside (high z e)
     where
@@ -56,7 +57,7 @@ module _ (z : ℤ) (l : ℕ) where
       high (pos a) e = le-ltb a 2147483648 (ltb-true 2147483647 a e)
       high (negsuc a) e = absurd (true_false e refl)
 
-  pub inside : SFits w32 z → Word z l ≡ work_of (int_out z l)
+  pub inside : SFits w32 z → Ok (z, l) ≡ work_of (int_out z l)
   unfolding int_out work_of fits32
   inside h = rw (int_out, lt-ltb (mag z) 2147483648 h.sfits) refl
 
@@ -106,12 +107,6 @@ mag_quotient x (pos n) = omega (arith, mag_shr x n)
 mag_quotient x (negsuc n) = omega (arith, mag_shr (neg_ℤ x) (suc n), mag_minus x)
 
 module _ {x y : ℤ} (hx : SFits w32 x) (hy : SFits w32 y) where
-  pub add-fits : SFits w64 (x +ℤ y)
-  add-fits = record { sfits = omega (arith, mag_add x y) }
-
-  pub sub-fits : SFits w64 (x -ℤ y)
-  sub-fits = record { sfits = omega (arith, mag_minus y, mag_add x (neg_ℤ y)) }
-
   pub mul-fits : SFits w64 (x *ℤ y)
   mul-fits =
       let m : (mag x + 1) * (mag y + 1) ≤ 2147483648 * 2147483648 = mul-le-mul {n₂ = 2147483648} {m₂ = 2147483648} (omega arith) (omega arith) in
@@ -198,7 +193,7 @@ divisor {z} h e = rw (back h) (go z h e)
     go (negsuc n) h e = omega arith
 
 module _ (b z : ℤ) (l : ℕ) where
-  pub by_zero : is_zero b ≡ true → Refused 6 l ≡ work_of (dividing b z l)
+  pub by_zero : is_zero b ≡ true → Err (Refused 6 l) ≡ work_of (dividing b z l)
   unfolding dividing work_of
   by_zero e = rw (dividing, e) refl
 

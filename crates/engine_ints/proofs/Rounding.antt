@@ -5,7 +5,7 @@ use mathlib.Core.Bool.{false}
 use native.Mathlib.Omega.{arith}
 use native.Mathlib.Decide.{dec_lt}
 use native.Mathlib.Nat.{zero-mul, suc-mul, zero-div, zero-mod, mod-lt, div-add-mod, mul-add-div, suc-mod, div-eq_of_lt, mod-eq_of_lt, div_self, mod_self}
-use lib.IntN.{ℤ, pos, negsuc, neg_ℤ, ◌+ℤ◌, ◌-ℤ◌, ◌*ℤ◌, +ℤ_idr, -ℤ_one, neg_ℤ-+ℤ, neg_ℤ-neg_ℤ}
+use lib.IntN.{ℤ, pos, negsuc, neg_ℤ, ◌-ℤ◌, ◌*ℤ◌, +ℤ_idr, -ℤ_one, neg_ℤ-+ℤ, neg_ℤ-neg_ℤ}
 use lib.Signed.{lt_z, quot_z, rem_z}
 use borrow.Author.Tests.{le-ltb, eqb-false}
 use Rattle.machine_division.specs.Division.{quotient}

@@ -1,4 +1,5 @@
 -- Words of Bools, and the case laws of `binary_work`.
+use Rattle.std.specs.Prelude.{Ok}
 use Prim.Native.Nat.{ℕ, suc, ◌-◌}
 use mathlib.Core.Path.{◌≡◌, refl, sym, ap, ◌∙◌}
 use mathlib.Core.Bool.{Bool, true, false, not}
@@ -18,7 +19,6 @@ use Rattle.sheet_rules.proofs.Forms.{binary_mod}
 use Rattle.machine_division.specs.Division.{quotient, remainder}
 use Rattle.machine.specs.Values.{is_zero, same_word}
 use Rattle.machine.specs.Eval.{bool_word, is_one, int_out, dividing}
-use Rattle.engine_ints.specs.declared.Work.TheVariants.{Word}
 use Rattle.engine_ints.specs.Work.{work_of, combined_work, binary_work}
 
 pub bool_back : (b : Bool) → to_z w32 (of_z w32 (bool_word b)) ≡ bool_word b
@@ -62,15 +62,15 @@ module _ (op : ℕ) (a b : ℤ) (l : ℕ) where
   unfolding binary_work
   by_operator n e = sym (ap (λ n. combined_work (binary_of n) a b l) e)
 
-  pub binary_9 : op ≡ 9 → Word (bool_word (is_one a and is_one b)) l ≡ binary_work op a b l
+  pub binary_9 : op ≡ 9 → Ok (bool_word (is_one a and is_one b), l) ≡ binary_work op a b l
   unfolding combined_work binary_of look_up
   binary_9 e = by_operator 9 e
 
-  pub binary_10 : op ≡ 10 → Word (bool_word (same_word a b)) l ≡ binary_work op a b l
+  pub binary_10 : op ≡ 10 → Ok (bool_word (same_word a b), l) ≡ binary_work op a b l
   unfolding combined_work binary_of look_up
   binary_10 e = by_operator 10 e
 
-  pub binary_11 : op ≡ 11 → Word (bool_word (lt_z a b)) l ≡ binary_work op a b l
+  pub binary_11 : op ≡ 11 → Ok (bool_word (lt_z a b), l) ≡ binary_work op a b l
   unfolding combined_work binary_of look_up
   binary_11 e = by_operator 11 e
 

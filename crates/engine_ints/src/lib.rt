@@ -9,13 +9,15 @@ ghost use Rattle.machine_division.specs.Division.{quotient, remainder};
 ghost use Rattle.machine.specs.Eval.{bool_word, is_one, int_out, dividing};
 ghost use Rattle.engine_ints.specs.Work.{work_of, binary_work, not_work};
 
-// What an expression gives: a word and the steps left, a refusal with its number, or stuck.
+// Why an expression or a statement gives nothing: a refusal with its number and the steps left, or stuck.
 #[derive(Clone, Copy)]
-pub enum Work {
-    Word { word: i32, left: u32 },
+pub enum Stop {
     Refused { number: u8, left: u32 },
     Stuck,
 }
+
+// What an expression gives: a word and the steps left.
+pub type Work = Result<(i32, u32), Stop>;
 
 // The word of a Bool.
 pub fn bool_word(b: bool) -> i32
@@ -50,15 +52,12 @@ fn fit(z: i64, left: u32) -> Work
     ensures { result ≡ work_of (int_out z left) }
 {
     if z < -2147483648 {
-        return Work::Refused { number: 6, left };
+        return Err(Stop::Refused { number: 6, left });
     }
     if 2147483647 < z {
-        return Work::Refused { number: 6, left };
+        return Err(Stop::Refused { number: 6, left });
     }
-    Work::Word {
-        word: z as i32,
-        left,
-    }
+    Ok((z as i32, left))
 }
 
 fn plus(a: i32, b: i32, left: u32) -> Work
@@ -97,7 +96,7 @@ fn div(a: i32, b: i32, left: u32) -> Work
     ensures { result ≡ work_of (dividing b (quotient a b) left) }
 {
     if b == 0 {
-        return Work::Refused { number: 6, left };
+        return Err(Stop::Refused { number: 6, left });
     }
     fit(floored(a, b), left)
 }
@@ -109,14 +108,11 @@ fn modulo(a: i32, b: i32, left: u32) -> Work
     let x = a as i64;
     let y = b as i64;
     if y == 0 {
-        return Work::Refused { number: 6, left };
+        return Err(Stop::Refused { number: 6, left });
     }
     let p = y * floored(a, b);
     let r = x - p;
-    Work::Word {
-        word: r as i32,
-        left,
-    }
+    Ok((r as i32, left))
 }
 
 // 9 and; 10 equal; 11 less; 12 plus; 13 minus; 14 times; 15 div; 16 mod.
@@ -124,18 +120,9 @@ pub fn binary(op: u16, a: i32, b: i32, left: u32) -> Work
     ensures { result ≡ binary_work op a b left }
 {
     match op {
-        9 => Work::Word {
-            word: both(a, b),
-            left,
-        },
-        10 => Work::Word {
-            word: same(a, b),
-            left,
-        },
-        11 => Work::Word {
-            word: less(a, b),
-            left,
-        },
+        9 => Ok((both(a, b), left)),
+        10 => Ok((same(a, b), left)),
+        11 => Ok((less(a, b), left)),
         12 => plus(a, b, left),
         13 => minus(a, b, left),
         14 => times(a, b, left),
@@ -148,8 +135,5 @@ pub fn binary(op: u16, a: i32, b: i32, left: u32) -> Work
 pub fn not(z: i32, left: u32) -> Work
     ensures { result ≡ not_work z left }
 {
-    Work::Word {
-        word: bool_word(z == 0),
-        left,
-    }
+    Ok((bool_word(z == 0), left))
 }

@@ -6,57 +6,44 @@ ghost use Rattle.machine.specs.State.{state_length};
 ghost use Rattle.machine.specs.Play.{ended, outside, slice, limit_of};
 ghost use Rattle.machine_events.specs.Event.{happens_by};
 ghost use Rattle.engine_queue.specs.Laid.{Laid};
-ghost use Rattle.engine_cells.specs.Playing.{Playing};
 ghost use Rattle.engine_kinds.specs.Happens.{Happens};
+ghost use Rattle.machine.specs.Valid.{OfSheet};
 
 use engine_answering::answered;
-use engine_cells::CellLayout;
-use engine_sought::Taken;
+use engine_cells::Yard;
 use machine::{Answer, Telegram};
 use machine_events::Event;
-use sheet::Directory;
 
 // 1: "external s sends to bound r on port p external name n; appended"
 fn sent_outside(st: &mut [i32], t: Telegram) -> Answer
     requires { Laid st.old }
     ensures { (s : List ℕ) → length st.old ≡ state_length s → ended result st.new ≡ outside s st.old t }
 {
-    let number = engine_queue::append(st, t);
-    answered(number, 0)
+    match engine_queue::append(st, t) {
+        Ok(()) => answered(0, 0),
+        Err(number) => answered(number, 0),
+    }
 }
 
 // 5: "A refused Slice undoes all of it"
-fn sliced(
-    sheet: &[u8],
-    directory: &Directory,
-    cells: &CellLayout,
-    old: &[i32],
-    st: &mut [i32],
-) -> Answer
-    requires { Playing sheet.now directory.now cells.now st.old × (old.now ≡ st.old) }
-    ensures { ended result st.new ≡ slice sheet.now old.now }
+fn sliced(yard: &Yard, old: &[i32], st: &mut [i32]) -> Answer
+    requires { OfSheet yard.now.sheet st.old × (old.now ≡ st.old) }
+    ensures { ended result st.new ≡ slice yard.now.sheet old.now }
 {
-    let number = engine_clocks::slice(sheet, directory, cells, st);
-    if number == 0 {
-        return answered(0, 0);
+    match engine_clocks::slice(yard, st) {
+        Ok(()) => answered(0, 0),
+        Err(number) => {
+            engine_copies::copy(old, st);
+            answered(number, 0)
+        }
     }
-    engine_copies::copy(old, st);
-    answered(number, 0)
 }
 
 // An event on a state of the sheet, j being the number of the telegram that it takes. `old` is a copy of
 // the state where there may be work to undo.
-pub fn happened(
-    sheet: &[u8],
-    directory: &Directory,
-    cells: &CellLayout,
-    old: &[i32],
-    st: &mut [i32],
-    e: Event,
-    j: usize,
-) -> Answer
-    requires { Happens sheet.now directory.now cells.now old.now st.old e j }
-    ensures { ended result st.new ≡ happens_by sheet.now (limit_of sheet.now) st.old e }
+pub fn happened(yard: &Yard, old: &[i32], st: &mut [i32], e: Event, j: usize) -> Answer
+    requires { Happens yard.now.sheet old.now st.old e j }
+    ensures { ended result st.new ≡ happens_by yard.now.sheet (limit_of yard.now.sheet) st.old e }
 {
     match e {
         Event::Malformed => answered(4, 0),
@@ -64,18 +51,16 @@ pub fn happened(
         Event::Deliver { sender, receiver } => {
             let taken = engine_sought::take(st, j);
             match taken {
-                Taken::Missing => answered(5, 0),
-                Taken::Took(t) => engine_delivery::delivers(sheet, directory, cells, old, st, t),
+                None => answered(5, 0),
+                Some(t) => engine_delivery::delivers(yard, old, st, t),
             }
         }
         Event::Corrupt { sender, receiver } => {
             let taken = engine_sought::take(st, j);
             match taken {
-                Taken::Missing => answered(5, 0),
-                Taken::Took(t) => engine_delivery::panicked(
-                    sheet,
-                    directory,
-                    cells,
+                None => answered(5, 0),
+                Some(t) => engine_delivery::panicked(
+                    yard,
                     old,
                     st,
                     engine_valid_words::number(t.receiver),
@@ -85,10 +70,10 @@ pub fn happened(
         Event::Inner { receiver } => {
             let taken = engine_sought::take(st, j);
             match taken {
-                Taken::Missing => answered(5, 0),
-                Taken::Took(t) => engine_delivery::reacts(sheet, directory, cells, old, st, t),
+                None => answered(5, 0),
+                Some(t) => engine_delivery::reacts(yard, old, st, t),
             }
         }
-        Event::Slice => sliced(sheet, directory, cells, old, st),
+        Event::Slice => sliced(yard, old, st),
     }
 }

@@ -1,22 +1,22 @@
-// What a node of an expression gives by itself: a literal, a variable, a clock's word; and what an operator or an array
-// makes of the words that its operands gave.
+// What a node of an expression gives by itself: a literal, a variable, a clock's word; and the element of an array
+// at an index that was given.
 #![tactic(auto)]
 
-ghost use Rattle.std.specs.Prelude.{◌≡◌, suc, ◌+◌, ◌<◌};
-ghost use Rattle.sheet.specs.declared.Found.TheVariants.{Present};
+ghost use Rattle.std.specs.Prelude.{◌≡◌, suc, ◌+◌, ◌<◌, Some};
 ghost use Rattle.sheet.specs.Names.{nodes};
-ghost use Rattle.sheet.specs.Sheet.{directory_of, record_of};
+ghost use Rattle.sheet.specs.Sheet.{record_of};
 ghost use Rattle.sheet_rules.specs.Forms.{read, form_of};
 ghost use Rattle.machine.specs.State.{cell_at, word_of};
 ghost use Rattle.machine.specs.Eval.{literal_value, eval_of};
-ghost use Rattle.engine_ints.specs.Work.{work_of, then_work, binary_work, not_work};
+ghost use Rattle.engine_ints.specs.Work.{work_of};
 ghost use Rattle.engine_context.specs.Context.{cell_in, leads_to};
 ghost use Rattle.engine_ready.specs.Ready.{context_at, Ready, Lies, Reaches, IsExpression};
 ghost use Rattle.engine_ready.specs.Words.{element_word};
 
-use engine_context::{BINDING, ELEMENT, Frame, Locals, Place};
-use engine_ints::Work;
-use sheet::{BINDINGS, Directory, Found, NODES, Record};
+use engine_context::{BINDING, ELEMENT, Frame, Locals};
+use engine_ints::{Stop, Work};
+use sheet::{BINDINGS, NODES, Record};
+use sheet_opened::Reader;
 
 // The word that a literal writes down, in element e.
 pub fn literal(e: usize, r: Record) -> i32
@@ -34,27 +34,6 @@ pub fn literal(e: usize, r: Record) -> i32
     }
 }
 
-pub fn negated(x: Work) -> Work
-    ensures { result ≡ then_work x not_work }
-{
-    match x {
-        Work::Word { word, left } => engine_ints::not(word, left),
-        Work::Refused { number, left } => Work::Refused { number, left },
-        Work::Stuck => Work::Stuck,
-    }
-}
-
-// An operator on a word and what its second operand gives.
-pub fn combined(op: u16, a: i32, y: Work) -> Work
-    ensures { result ≡ then_work y (λ b l. binary_work op a b l) }
-{
-    match y {
-        Work::Word { word, left } => engine_ints::binary(op, a, word, left),
-        Work::Refused { number, left } => Work::Refused { number, left },
-        Work::Stuck => Work::Stuck,
-    }
-}
-
 // Word k in the cell of the element's plain variable n.
 pub fn cell_word(context: &Frame, st: &[i32], n: usize, k: usize) -> i32
     requires { Lies context.now st.now n × (k < 8) }
@@ -69,29 +48,15 @@ pub fn element_at(context: &Frame, st: &[i32], n: usize, i: i32, left: u32) -> W
     requires { Reaches context.now st.now n }
     ensures { result ≡ element_word st.now (leads_to context.now n i) left }
 {
-    let p = engine_context::element_word(context, n, i);
-    match p {
-        Place::At(k) => Work::Word { word: st[k], left },
-        Place::Outside => Work::Refused { number: 11, left },
-    }
-}
-
-// The same, by what the index gives.
-pub fn element(context: &Frame, st: &[i32], n: usize, x: Work) -> Work
-    requires { Reaches context.now st.now n }
-    ensures { result ≡ then_work x (λ i. element_word st.now (leads_to context.now n i)) }
-{
-    match x {
-        Work::Word { word, left } => element_at(context, st, n, word, left),
-        Work::Refused { number, left } => Work::Refused { number, left },
-        Work::Stuck => Work::Stuck,
-    }
+    let Some(k) = engine_context::element_word(context, n, i) else {
+        return Err(Stop::Refused { number: 11, left });
+    };
+    Ok((st[k], left))
 }
 
 // A variable: place 0 the constant in the element's binding, 1 of the chart, 2 of the body.
 pub fn variable(
-    sheet: &[u8],
-    directory: &Directory,
+    sheet: &Reader,
     context: &Frame,
     st: &[i32],
     lo: &Locals,
@@ -99,7 +64,7 @@ pub fn variable(
     r: Record,
     left: u32,
 ) -> Work
-    requires { (directory.now ≡ directory_of sheet.now) × Ready sheet.now context.now st.now lo.now × IsExpression sheet.now context.now n × (record_of sheet.now nodes n ≡ Present r) × (form_of r.f0 ≡ read) }
+    requires { Ready sheet.now context.now st.now lo.now × IsExpression sheet.now context.now n × (record_of sheet.now nodes n ≡ Some r) × (form_of r.f0 ≡ read) }
     ensures { result ≡ work_of (eval_of sheet.now (context_at sheet.now context.now) st.now lo.now n (suc left)) }
 {
     let place = r.f1;
@@ -107,31 +72,17 @@ pub fn variable(
     match place {
         0 => {
             let k = sheet_bindings::constant_record(context[BINDING], number);
-            let Found::Present(b) = sheet_reader::read(sheet, directory, BINDINGS, k) else {
-                return Work::Stuck;
+            let Some(b) = sheet.record(BINDINGS, k) else {
+                return Err(Stop::Stuck);
             };
             let i = sheet_bindings::constant_field(number);
-            let Found::Present(c) = sheet_reader::read(
-                sheet,
-                directory,
-                NODES,
-                sheet_fields::field(b, i),
-            ) else {
-                return Work::Stuck;
+            let Some(c) = sheet.record(NODES, sheet_fields::field(b, i)) else {
+                return Err(Stop::Stuck);
             };
-            Work::Word {
-                word: literal(context[ELEMENT], c),
-                left,
-            }
+            Ok((literal(context[ELEMENT], c), left))
         }
-        1 => Work::Word {
-            word: cell_word(context, st, number, 0),
-            left,
-        },
-        2 => Work::Word {
-            word: lo[number],
-            left,
-        },
-        _ => Work::Stuck,
+        1 => Ok((cell_word(context, st, number, 0), left)),
+        2 => Ok((lo[number], left)),
+        _ => Err(Stop::Stuck),
     }
 }

@@ -2,17 +2,16 @@
 #![tactic(auto)]
 
 ghost use Rattle.std.specs.Prelude.{◌≡◌, ◌<◌};
-ghost use Rattle.sheet.specs.Sheet.{directory_of};
 ghost use Rattle.machine.specs.Play.{limit_of};
 
-use sheet::{Directory, HEAD};
+use sheet::HEAD;
+use sheet_opened::Reader;
 
 // "f3 step limit (0 means 2,000)", which is a 16-bit number.
-pub fn limit(sheet: &[u8], directory: &Directory) -> u32
-    requires { directory.now ≡ directory_of sheet.now }
+pub fn limit(sheet: &Reader) -> u32
     ensures { (result ≡ limit_of sheet.now) × (result < 65536) }
 {
-    let steps = sheet_fields::field_at(sheet, directory, HEAD, 0, 3);
+    let steps = sheet_fields::field_at(sheet, HEAD, 0, 3);
     if steps == 0 {
         return 2000;
     }

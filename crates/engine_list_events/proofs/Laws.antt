@@ -1,4 +1,5 @@
 -- A list in words, event by event.
+use Rattle.std.specs.Prelude.{Some, None}
 use Prim.Native.Nat.{ℕ, suc, ◌+◌, ◌*◌, ◌-◌, ◌<◌, ◌≤◌}
 use mathlib.Core.Path.{◌≡◌, refl, sym, ap, ◌∙◌}
 use mathlib.Core.List.{List, [], ◌∷◌, ◌++◌, append_assoc, append-nil}
@@ -8,7 +9,6 @@ use lib.ListN.{length, get_or, take}
 use lib.Seq.{take_all}
 use lib.Dec.{ltb, eqb}
 use lib.IntN.{ℤ}
-use Rattle.sheet.specs.declared.Found.TheVariants.{Present, Absent}
 use Rattle.sheet.specs.Names.{head, step_limit}
 use Rattle.sheet.specs.Sheet.{count_of, offset_of, record_at, record_of}
 use Rattle.machine.specs.declared.Answer.{Answer}
@@ -24,24 +24,10 @@ use Rattle.machine_claim.proofs.Kept.{goes_on_is}
 use Rattle.machine_lists.specs.Words.{event_at, events_from, words_of_answer, answer_words, answers_words, Written, written, unwritten, in_words}
 use Rattle.engine_answers.proofs.Laws.{answer_length, front_put}
 
--- ---- steps fit a word
+-- ---- an event's steps
 
-module _ (s : List ℕ) (bytes : (i : ℕ) → get_or s i 0 < 256) where
-  field_small : (b : Bool) (at : ℕ) → number_or0 (elim b [ true ↦ Present (record_at s at) | false ↦ Absent ]) step_limit < 65536
-  unfolding number_or0 record_at
-  field_small true at = omega (arith, bytes (at + 6), bytes (at + 6 + 1))
-  field_small false at = omega arith
-
-  limit_small : limit_of s < 65536
-  unfolding limit_by record_of
-  limit_small = go (eqb (number_or0 (record_of s head 0) step_limit) 0)
-    where
-      go : (b : Bool) → elim b [ true ↦ default_limit | false ↦ number_or0 (record_of s head 0) step_limit ] < 65536
-      go true = omega arith
-      go false = field_small (ltb 0 (count_of s head)) (offset_of s head + 16 * 0)
-
-  pub steps_small : (old ev : List ℤ) (a : Answer) (st : List ℤ) → EventGives s (limit_of s) old old ev a st → a.steps < 2147483648
-  steps_small old ev a st g = omega (arith, limit_small, (event-within s old old ev).steps a st (sym g))
+pub within_limit : (s : List ℕ) (n : ℕ) → n ≡ limit_of s → (old ev : List ℤ) (a : Answer) (st : List ℤ) → EventGives s (limit_of s) old old ev a st → a.steps ≤ n
+within_limit s n e old ev a st g = omega (arith, e, (event-within s old old ev).steps a st (sym g))
 
 -- ---- a run in words, after words that stand before it
 

@@ -1,7 +1,7 @@
 // The telegrams that wait, and one appended.
 #![tactic(auto)]
 
-ghost use Rattle.std.specs.Prelude.{◌≡◌, List, ℕ, ◌<◌, ◌≤◌, length};
+ghost use Rattle.std.specs.Prelude.{◌≡◌, List, ℕ, ◌<◌, ◌≤◌, length, OnErr};
 ghost use Rattle.machine.specs.State.{places, state_length, waiting, telegram_of, with_telegram, appended};
 ghost use Rattle.engine_store.specs.Layout.{shortest};
 ghost use Rattle.engine_queue.specs.Laid.{Laid};
@@ -34,24 +34,23 @@ fn put_last(st: &mut [i32], t: Telegram)
 {
     let n = waiting_count(st);
     let at = engine_store::place_at(st.len(), n);
-    engine_rows::put_words(
-        st, at, t.sender, t.receiver, t.port, t.name, t.d0, t.d1, t.d2, t.d3,
-    );
+    engine_rows::put_words(st, at, engine_rows::words_of(t));
     engine_store::set_word(st, 0, (n + 1) as i32);
 }
 
-// "128 telegrams wait and one more is appended": 8; "a seventeenth of its class": 12. The state then stays as it was. Otherwise 0.
-pub fn append(st: &mut [i32], t: Telegram) -> u8
+// "128 telegrams wait and one more is appended": 8; "a seventeenth of its class": 12. The state then stays as it was.
+pub fn append(st: &mut [i32], t: Telegram) -> Result<(), u8>
     requires { Laid st.old }
-    ensures { ((s : List ℕ) → length st.old ≡ state_length s → appended s st.old t ≡ changed_to result st.new) × ((result ≡ 0 → ⊥) → st.new ≡ st.old) }
+    ensures change { (s : List ℕ) → length st.old ≡ state_length s → appended s st.old t ≡ changed_to result st.new }
+    ensures kept { OnErr result (st.new ≡ st.old) }
 {
     let n = waiting_count(st);
     if PLACES <= n {
-        return 8;
+        return Err(8);
     }
     if engine_classes::class_full(st, n, t) {
-        return 12;
+        return Err(12);
     }
     put_last(st, t);
-    0
+    Ok(())
 }

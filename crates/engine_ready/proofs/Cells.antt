@@ -1,4 +1,5 @@
 -- Where the cells of a running body's variables lie, by its numbers.
+use Rattle.std.specs.Prelude.{Some, Option, None}
 use Prim.Native.Nat.{ℕ, ◌+◌, ◌-◌, ◌<◌, ◌≤◌}
 use mathlib.Core.Path.{◌≡◌, refl, sym, ap, ◌∙◌}
 use mathlib.Core.List.{List}
@@ -7,8 +8,6 @@ use native.Mathlib.Omega.{arith}
 use lib.ListN.{length}
 use lib.IntN.{ℤ, nat_abs}
 use borrow.Author.Tests.{leb-true}
-use Rattle.sheet.specs.declared.Found.TheVariants.{Present}
-use Rattle.sheet.specs.All.{◌and◌}
 use Rattle.sheet.specs.Names.{chart_variables}
 use Rattle.sheet.proofs.All.{and_first, and_second}
 use Rattle.sheet_rules.specs.Indices.{index_at, is_plain, cells_taken, cells_before}
@@ -27,8 +26,6 @@ use Rattle.machine_states.proofs.Parts.{below_abs}
 use Rattle.machine_states.proofs.Kept.{cell_in_state}
 use Rattle.engine_store.specs.Layout.{longest}
 use Rattle.engine_store.proofs.Lies.{at_most}
-use Rattle.engine_context.specs.declared.Place.{Place}
-use Rattle.engine_context.specs.declared.Place.TheVariants.{At, Outside}
 use Rattle.engine_context.specs.Context.{element_in, cell_in, leads_to}
 use Rattle.engine_ready.specs.Ready.{context_at, Running, Ready, Lies, Reaches}
 
@@ -37,19 +34,19 @@ state-short : (s : List ℕ) (st : List ℤ) → check_of s ≡ Passed → OfShe
 state-short s st ok o = at_most s (length st) (cells_limit s ok) o.whole
 
 -- where an index leads, the state has a word
-pub leads_inside : (w : List ℕ) (st : List ℤ) (n : ℕ) → Reaches w st n → (i : ℤ) (k : ℕ) → leads_to w n i ≡ At k → k < length st
+pub leads_inside : (w : List ℕ) (st : List ℤ) (n : ℕ) → Reaches w st n → (i : ℤ) (k : ℕ) → leads_to w n i ≡ Some k → k < length st
 unfolding leads_to
 leads_inside w st n h i k = go (is_below i (cell_in w (n + 1) - cell_in w n)) (λ b. h.inside (nat_abs i) (below_abs i _ b))
   where
-    word : Place → ℕ
-    word (At k) = k
-    word Outside = 0
+    word : Option ℕ → ℕ
+    word (Some k) = k
+    word None = 0
 
-    leads : Place → Bool
-    leads (At k) = true
-    leads Outside = false
+    leads : Option ℕ → Bool
+    leads (Some k) = true
+    leads None = false
 
-    go : (b : Bool) → (b ≡ true → cell_at (cell_in w n + nat_abs i) + 8 ≤ length st) → elim b [ true ↦ At (cell_at (cell_in w n + nat_abs i)) | false ↦ Outside ] ≡ At k → k < length st
+    go : (b : Bool) → (b ≡ true → cell_at (cell_in w n + nat_abs i) + 8 ≤ length st) → elim b [ true ↦ Some (cell_at (cell_in w n + nat_abs i)) | false ↦ None ] ≡ Some k → k < length st
     go true l e = let q : cell_at (cell_in w n + nat_abs i) ≡ k = ap word e in omega (arith, l refl)
     go false l e = absurd (true≢false (sym (ap leads e)))
 
@@ -76,7 +73,7 @@ module _ (s w : List ℕ) (running : Running s w) where
     taken_is = omega (arith, next_is_lem)
 
 module _ (s w : List ℕ) (st lo : List ℤ) (ready : Ready s w st lo) (n : ℕ) (h : n < (chart_variables (context_at s w).chart).count) where
-  own : chart_of s (context_at s w).element ≡ Present (context_at s w).chart
+  own : chart_of s (context_at s w).element ≡ Some (context_at s w).chart
   own = element-chart s _ _ _ ready.running.placed.element
 
   -- every cell of a variable lies in the state

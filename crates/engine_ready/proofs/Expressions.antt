@@ -1,5 +1,6 @@
 -- What an expression of a passed sheet gives in words, form by form.
-use Prim.Native.Nat.{ℕ, zero, suc, ◌+◌, ◌-◌, ◌<◌}
+use Rattle.std.specs.Prelude.{Some, None, Ok, Err}
+use Prim.Native.Nat.{ℕ, zero, suc, ◌+◌, ◌<◌}
 use mathlib.Core.Path.{◌≡◌, refl, sym, ap, subst, ◌∙◌}
 use mathlib.Core.List.{List}
 use mathlib.Core.Bool.{Bool, true, false}
@@ -8,7 +9,6 @@ use lib.Dec.{ltb, eqb}
 use lib.IntN.{ℤ, nat_abs}
 use borrow.Author.Tests.{ltb-true, lt-ltb, eq-eqb, ne_eqb}
 use Rattle.sheet.specs.declared.Record.{Record}
-use Rattle.sheet.specs.declared.Found.TheVariants.{Present, Absent}
 use Rattle.sheet.specs.All.{◌and◌}
 use Rattle.sheet.specs.Names.{nodes, chart_parameters, chart_variables, body_parameters, body_locals, operator, is_literal, is_clock, bool_type, int_type}
 use Rattle.sheet.specs.Sheet.{record_of}
@@ -42,23 +42,21 @@ use Rattle.machine_sound.specs.Gives.{Gives}
 use Rattle.machine_sound.proofs.Leaves.{Both, asked, not_gives, binary-gives}
 use Rattle.machine_sound.proofs.Eval.{on-present, few-parameters, clock_word_lem, element-gives, type_at_lem, eval_gives}
 use Rattle.machine_sound.proofs.Indices.{ranged, Indexed, array_index, array_leads, array_data}
-use Rattle.engine_ints.specs.declared.Work.{Work}
-use Rattle.engine_ints.specs.declared.Work.TheVariants.{Word, Refused, Stuck}
-use Rattle.engine_ints.specs.Work.{work_of, then_work, not_work, combined_work, binary_work}
+use Rattle.engine_ints.specs.declared.Stop.TheVariants.{Refused, Stuck}
+use Rattle.engine_ints.specs.Work.{Work, work_of, then_work, not_work, combined_work, binary_work}
 use Rattle.engine_context.specs.Context.{cell_in, leads_to}
 use Rattle.engine_ready.specs.Ready.{context_at, Ready, Lies, IsExpression}
-use Rattle.engine_context.specs.declared.Place.TheVariants.{At, Outside}
 use Rattle.engine_ready.specs.Words.{element_word}
 use Rattle.engine_ready.proofs.Cells.{cell_is, plain_is_lem, taken_is, lies}
 
 -- a test that holds is passed
-needs_word : (b : Bool) (o : Out) (w : Work) → (b ≡ true → work_of o ≡ w) → (work_of (needs b o) ≡ Stuck → ⊥) → work_of (needs b o) ≡ w
+needs_word : (b : Bool) (o : Out) (w : Work) → (b ≡ true → work_of o ≡ w) → (work_of (needs b o) ≡ Err Stuck → ⊥) → work_of (needs b o) ≡ w
 unfolding needs work_of
 needs_word true o w h n = h refl
 needs_word false o w h n = absurd (n refl)
 
 -- three tests, one after another
-needs_three : (a b c : Bool) (o : Out) → (work_of (needs a (needs b (needs c o))) ≡ Stuck → ⊥) → work_of (needs a (needs b (needs c o))) ≡ work_of o
+needs_three : (a b c : Bool) (o : Out) → (work_of (needs a (needs b (needs c o))) ≡ Err Stuck → ⊥) → work_of (needs a (needs b (needs c o))) ≡ work_of o
 unfolding needs work_of
 needs_three true true true o n = refl
 needs_three true true false o n = absurd (n refl)
@@ -74,20 +72,10 @@ unfolding needs
 needs_through b o e = rw e refl
 
 -- what has a type is not stuck
-not_stuck : (s : List ℕ) (t : ℕ) (o : Out) → Gives s t o → work_of o ≡ Stuck → ⊥
+not_stuck : (s : List ℕ) (t : ℕ) (o : Out) → Gives s t o → work_of o ≡ Err Stuck → ⊥
 unfolding work_of
-not_stuck s t (out.Val v m) g e = absurd (true_false {b = true} refl (ap stops e))
-  where
-    stops : Work → Bool
-    stops (Word z l) = true
-    stops (Refused k l) = true
-    stops Stuck = false
-not_stuck s t (out.Refused k m) g e = absurd (true_false {b = true} refl (ap stops e))
-  where
-    stops : Work → Bool
-    stops (Word z l) = true
-    stops (Refused k l) = true
-    stops Stuck = false
+not_stuck s t (out.Val v m) g e = cc
+not_stuck s t (out.Refused k m) g e = cc
 not_stuck s t out.Stuck g e = absurd g
 
 -- a value of a type goes on as its word
@@ -98,11 +86,11 @@ then_word_lem s u (out.Refused k m) K L g h = refl
 then_word_lem s u out.Stuck K L g h = refl
 
 -- an operator whose operands have its types
-binary_word : (op : ℕ) (a b : Value) (l : ℕ) → (work_of (binary_val op a b l) ≡ Stuck → ⊥) → work_of (binary_val op a b l) ≡ binary_work op a.word b.word l
+binary_word : (op : ℕ) (a b : Value) (l : ℕ) → (work_of (binary_val op a b l) ≡ Err Stuck → ⊥) → work_of (binary_val op a b l) ≡ binary_work op a.word b.word l
 unfolding binary_val binary_work combined on_ints combined_work work_of
 binary_word op a b l = go (binary_of op)
   where
-    go : (o : Binary) → (work_of (combined o a b l) ≡ Stuck → ⊥) → work_of (combined o a b l) ≡ combined_work o a.word b.word l
+    go : (o : Binary) → (work_of (combined o a b l) ≡ Err Stuck → ⊥) → work_of (combined o a b l) ≡ combined_work o a.word b.word l
     go both n = needs_word _ _ _ (λ h. refl) n
     go equal n = needs_word _ _ _ (λ h. refl) n
     go less n = needs_word _ _ _ (λ h. refl) n
@@ -124,7 +112,7 @@ module _ (s w : List ℕ) (st lo : List ℤ) (ready : Ready s w st lo) where
 
   -- ---- a node that is there
 
-  module _ (n : ℕ) (r : Record) (there : record_of s nodes n ≡ Present r) (e : IsExpression s w n) where
+  module _ (n : ℕ) (r : Record) (there : record_of s nodes n ≡ Some r) (e : IsExpression s w n) where
     abbrev f : ℕ → Typed
     f = lower_type n (type_of s x.chart x.body)
 
@@ -155,7 +143,7 @@ module _ (s w : List ℕ) (st lo : List ℤ) (ready : Ready s w st lo) where
       unfolding on_record
       visited l = eval_visit s x st lo n l ∙ ap (λ f. on_record f (λ r. eval_in s x st lo (eval_of s x st lo) r l (form_of (operator r)))) there ∙ ap (eval_in s x st lo (eval_of s x st lo) r l) q
 
-      goes : (l : ℕ) → work_of (eval_in s x st lo (eval_of s x st lo) r l F) ≡ Stuck → ⊥
+      goes : (l : ℕ) → work_of (eval_in s x st lo (eval_of s x st lo) r l F) ≡ Err Stuck → ⊥
       goes l z = not_stuck s e.kind (eval_of s x st lo n (suc l)) (eval_gives s ready.running.passed x placed st lo cells ready.locals e.levels n e.kind (suc l) e.tree e.typed) (ap work_of (visited l) ∙ z)
 
     -- an operand that is an expression
@@ -171,11 +159,11 @@ module _ (s w : List ℕ) (st lo : List ℤ) (ready : Ready s w st lo) where
 
     -- ---- leaves
 
-    within_word : (F : Form) (q : form_of (operator r) ≡ F) (l : ℕ) (v : Value) → eval_in s x st lo (eval_of s x st lo) r l F ≡ within s v l → work_of (eval_of s x st lo n (suc l)) ≡ Word v.word l
+    within_word : (F : Form) (q : form_of (operator r) ≡ F) (l : ℕ) (v : Value) → eval_in s x st lo (eval_of s x st lo) r l F ≡ within s v l → work_of (eval_of s x st lo n (suc l)) ≡ Ok (v.word, l)
     unfolding within work_of
     within_word F q l v h = ap work_of (visited F q l) ∙ ap work_of h ∙ needs_word _ _ _ (λ b. refl) (λ z. goes F q l (ap work_of h ∙ z))
 
-    pub literal_word : form_of (operator r) ≡ literal → (l : ℕ) → work_of (eval_of s x st lo n (suc l)) ≡ Word (literal_value x.element r).word l
+    pub literal_word : form_of (operator r) ≡ literal → (l : ℕ) → work_of (eval_of s x st lo n (suc l)) ≡ Ok ((literal_value x.element r).word, l)
     unfolding eval_in
     literal_word q l = within_word literal q l (literal_value x.element r) refl
 
@@ -214,11 +202,11 @@ module _ (s w : List ℕ) (st lo : List ℤ) (ready : Ready s w st lo) where
           let d = declared_record s _ (variable-declared s ready.running.passed _ _ placed.element.chart x.body placed.body r.f1 r.f2 read-inside) in
           needs_met _ _ (and-true _ _ (lt-ltb _ _ read-inside) read_plain) ∙ on-present _ d.0 _ d.1 ∙ ap (λ t. read_as s x st lo r.f1 r.f2 t l) d.2
 
-      pub variable_word : r.f1 ≡ 1 → (l : ℕ) → work_of (eval_of s x st lo n (suc l)) ≡ Word (word_of st (cell_at (cell_in w r.f2))) l
+      pub variable_word : r.f1 ≡ 1 → (l : ℕ) → work_of (eval_of s x st lo n (suc l)) ≡ Ok (word_of st (cell_at (cell_in w r.f2)), l)
       unfolding read_as variable_at_cell word_of
-      variable_word one l = within_word read q l (val declared (word_of st (cell_of s x.element x.chart r.f2 0))) (read_as_lem l ∙ ap (λ p. read_as s x st lo p r.f2 declared l) one) ∙ ap (λ i. Word (word_of st i) l) (plain_is_lem s w ready.running r.f2 (variable-below one))
+      variable_word one l = within_word read q l (val declared (word_of st (cell_of s x.element x.chart r.f2 0))) (read_as_lem l ∙ ap (λ p. read_as s x st lo p r.f2 declared l) one) ∙ ap (λ i. Ok (word_of st i, l)) (plain_is_lem s w ready.running r.f2 (variable-below one))
 
-      pub local_word : r.f1 ≡ 2 → (l : ℕ) → work_of (eval_of s x st lo n (suc l)) ≡ Word (word_of lo r.f2) l
+      pub local_word : r.f1 ≡ 2 → (l : ℕ) → work_of (eval_of s x st lo n (suc l)) ≡ Ok (word_of lo r.f2, l)
       unfolding read_as
       local_word two l = within_word read q l (val declared (word_of lo r.f2)) (read_as_lem l ∙ ap (λ p. read_as s x st lo p r.f2 declared l) two ∙ needs_met _ _ (lt-ltb _ _ (local_inside two)))
 
@@ -235,23 +223,23 @@ module _ (s w : List ℕ) (st lo : List ℤ) (ready : Ready s w st lo) where
             read_as_lem l ∙ ap (λ p. read_as s x st lo p r.f2 declared l) none ∙ needs_met _ _ (constant_inside r.f2 (omega (arith, few-parameters s ready.running.passed x placed st lo cells ready.locals)))
 
         -- no such binding record
-        pub parameter_unbound : constant_binding s x.binding r.f2 ≡ Absent → (l : ℕ) → work_of (eval_of s x st lo n (suc l)) ≡ Stuck
+        pub parameter_unbound : constant_binding s x.binding r.f2 ≡ None → (l : ℕ) → work_of (eval_of s x st lo n (suc l)) ≡ Err Stuck
         unfolding on_record work_of
         parameter_unbound b l = ap work_of (visited read q l ∙ parameter_as l ∙ ap (λ f. on_record f (λ b. on_record (record_of s nodes (constant_of b r.f2)) (constant_val l))) b)
 
-        module _ (b : Record) (bound : constant_binding s x.binding r.f2 ≡ Present b) where
+        module _ (b : Record) (bound : constant_binding s x.binding r.f2 ≡ Some b) where
           parameter_from : (l : ℕ) → eval_in s x st lo (eval_of s x st lo) r l read ≡ on_record (record_of s nodes (constant_of b r.f2)) (constant_val l)
           unfolding on_record
           parameter_from l = parameter_as l ∙ ap (λ f. on_record f (λ b. on_record (record_of s nodes (constant_of b r.f2)) (constant_val l))) bound
 
-          pub parameter_word : (c : Record) → record_of s nodes (constant_of b r.f2) ≡ Present c → (l : ℕ) → work_of (eval_of s x st lo n (suc l)) ≡ Word (literal_value x.element c).word l
+          pub parameter_word : (c : Record) → record_of s nodes (constant_of b r.f2) ≡ Some c → (l : ℕ) → work_of (eval_of s x st lo n (suc l)) ≡ Ok ((literal_value x.element c).word, l)
           unfolding on_record of_type within work_of
           parameter_word c h l =
               let p = parameter_from l ∙ ap (λ f. on_record f (constant_val l)) h in
               ap work_of (visited read q l ∙ p) ∙ needs_three _ _ _ _ (λ z. goes read q l (ap work_of p ∙ z))
 
           -- no such constant
-          pub parameter_stuck : record_of s nodes (constant_of b r.f2) ≡ Absent → (l : ℕ) → work_of (eval_of s x st lo n (suc l)) ≡ Stuck
+          pub parameter_stuck : record_of s nodes (constant_of b r.f2) ≡ None → (l : ℕ) → work_of (eval_of s x st lo n (suc l)) ≡ Err Stuck
           unfolding on_record work_of
           parameter_stuck h l = ap work_of (visited read q l ∙ parameter_from l ∙ ap (λ f. on_record f (constant_val l)) h)
 
@@ -273,16 +261,16 @@ module _ (s w : List ℕ) (st lo : List ℤ) (ready : Ready s w st lo) where
       here = plain_is_lem s w ready.running r.f1 clock-inside
 
       -- 17 its running word, 18 its value
-      clock_as : (l : ℕ) (v : Value) → elim (eqb (operator r) 17) [ true ↦ within s (val bool_type (word_of st (variable_at_cell s x r.f1 0))) l | false ↦ within s (val int_type (clock_word s x st r.f1)) l ] ≡ within s v l → work_of (eval_of s x st lo n (suc l)) ≡ Word v.word l
+      clock_as : (l : ℕ) (v : Value) → elim (eqb (operator r) 17) [ true ↦ within s (val bool_type (word_of st (variable_at_cell s x r.f1 0))) l | false ↦ within s (val int_type (clock_word s x st r.f1)) l ] ≡ within s v l → work_of (eval_of s x st lo n (suc l)) ≡ Ok (v.word, l)
       unfolding eval_in clock_val within work_of
       clock_as l v h = ap work_of (visited clock q l) ∙ needs_word _ _ _ (λ b. ap work_of h ∙ needs_word _ _ _ (λ c. refl) (λ z. goes clock q l (needs_through _ _ b ∙ ap work_of h ∙ z))) (goes clock q l)
 
-      pub running_word : operator r ≡ 17 → (l : ℕ) → work_of (eval_of s x st lo n (suc l)) ≡ Word (word_of st (cell_at (cell_in w r.f1))) l
+      pub running_word : operator r ≡ 17 → (l : ℕ) → work_of (eval_of s x st lo n (suc l)) ≡ Ok (word_of st (cell_at (cell_in w r.f1)), l)
       unfolding variable_at_cell
-      running_word h l = clock_as l (val bool_type (word_of st (cell_of s x.element x.chart r.f1 0))) (rw (eq-eqb (operator r) 17 h) refl) ∙ ap (λ i. Word (word_of st i) l) here
+      running_word h l = clock_as l (val bool_type (word_of st (cell_of s x.element x.chart r.f1 0))) (rw (eq-eqb (operator r) 17 h) refl) ∙ ap (λ i. Ok (word_of st i, l)) here
 
-      pub value_word : (operator r ≡ 17 → ⊥) → (l : ℕ) → work_of (eval_of s x st lo n (suc l)) ≡ Word (word_of st (cell_at (cell_in w r.f1) + 1)) l
-      value_word h l = clock_as l (val int_type (clock_word s x st r.f1)) (rw (ne_eqb (operator r) 17 h) refl) ∙ ap (λ z. Word z l) (clock_word_lem s ready.running.passed x placed st lo cells ready.locals r.f1 clock-inside is_clock_lem) ∙ ap (λ i. Word (word_of st (i + 1)) l) here
+      pub value_word : (operator r ≡ 17 → ⊥) → (l : ℕ) → work_of (eval_of s x st lo n (suc l)) ≡ Ok (word_of st (cell_at (cell_in w r.f1) + 1), l)
+      value_word h l = clock_as l (val int_type (clock_word s x st r.f1)) (rw (ne_eqb (operator r) 17 h) refl) ∙ ap (λ z. Ok (z, l)) (clock_word_lem s ready.running.passed x placed st lo cells ready.locals r.f1 clock-inside is_clock_lem) ∙ ap (λ i. Ok (word_of st (i + 1), l)) here
 
     -- ---- an element of an array
 
@@ -325,10 +313,10 @@ module _ (s w : List ℕ) (st lo : List ℤ) (ready : Ready s w st lo) where
           let gives = element-gives s ready.running.passed x placed st lo cells ready.locals r.f1 m element-below (array_data s ready.running.passed d (f r.f2) indexed) v (array_leads s d (f r.f2) indexed v k i) in
           let same = ap work_of (element-value v m k i) in
           same ∙ go v m (is_below v.word (cells_taken s d)) (λ z. not_stuck s (type_at s d) (element_val s x st r.f1 v m) gives (same ∙ z))
-          ∙ ap {B = Work} (λ c. element_word st (elim (is_below v.word c) [ true ↦ At (cell_at (cell_in w r.f1 + nat_abs v.word)) | false ↦ Outside ]) m) (sym (taken_is s w ready.running r.f1 element-below)))
+          ∙ ap {B = Work} (λ c. element_word st (elim (is_below v.word c) [ true ↦ Some (cell_at (cell_in w r.f1 + nat_abs v.word)) | false ↦ None ]) m) (sym (taken_is s w ready.running r.f1 element-below)))
         where
-          go : (v : Value) (m : ℕ) (b : Bool) → (work_of (element_as s x st r.f1 (type_at s d) (elim b [ true ↦ inside (nat_abs v.word) | false ↦ out_of_range ]) m) ≡ Stuck → ⊥) → work_of (element_as s x st r.f1 (type_at s d) (elim b [ true ↦ inside (nat_abs v.word) | false ↦ out_of_range ]) m) ≡ element_word st (elim b [ true ↦ At (cell_at (cell_in w r.f1 + nat_abs v.word)) | false ↦ Outside ]) m
-          go v m true g = needs_word _ (out.Val (val (type_at s d) (word_of st (variable_at_cell s x r.f1 (nat_abs v.word)))) m) _ (λ b. ap (λ i. Word (word_of st i) m) (cell_is s w ready.running r.f1 element-below (nat_abs v.word))) g
+          go : (v : Value) (m : ℕ) (b : Bool) → (work_of (element_as s x st r.f1 (type_at s d) (elim b [ true ↦ inside (nat_abs v.word) | false ↦ out_of_range ]) m) ≡ Err Stuck → ⊥) → work_of (element_as s x st r.f1 (type_at s d) (elim b [ true ↦ inside (nat_abs v.word) | false ↦ out_of_range ]) m) ≡ element_word st (elim b [ true ↦ Some (cell_at (cell_in w r.f1 + nat_abs v.word)) | false ↦ None ]) m
+          go v m true g = needs_word _ (out.Val (val (type_at s d) (word_of st (variable_at_cell s x r.f1 (nat_abs v.word)))) m) _ (λ b. ap (λ i. Ok (word_of st i, m)) (cell_is s w ready.running r.f1 element-below (nat_abs v.word))) g
           go v m false g = refl
 
     -- ---- operators
@@ -413,11 +401,11 @@ module _ (s w : List ℕ) (st lo : List ℤ) (ready : Ready s w st lo) where
         go unknown h q = goes unknown q 0 refl
 
   -- a visit that would pass the limit
-  pub none_left : (n : ℕ) → work_of (eval_of s x st lo n 0) ≡ Refused 10 0
+  pub none_left : (n : ℕ) → work_of (eval_of s x st lo n 0) ≡ Err (Refused 10 0)
   unfolding work_of
   none_left n = ap work_of (eval_none s x st lo n)
 
   -- a node that is not there
-  pub absent_stuck : (n l : ℕ) → record_of s nodes n ≡ Absent → work_of (eval_of s x st lo n (suc l)) ≡ Stuck
+  pub absent_stuck : (n l : ℕ) → record_of s nodes n ≡ None → work_of (eval_of s x st lo n (suc l)) ≡ Err Stuck
   unfolding on_record work_of
   absent_stuck n l h = ap work_of (eval_visit s x st lo n l ∙ ap (λ f. on_record f (λ r. eval_in s x st lo (eval_of s x st lo) r l (form_of (operator r)))) h)

@@ -1,4 +1,5 @@
 -- What a statement of a passed sheet does in words, form by form.
+use Rattle.std.specs.Prelude.{Option, Some, None, Ok, Err}
 use Prim.Native.Nat.{ℕ, zero, suc, ◌+◌, ◌-◌, ◌<◌, ◌≤◌}
 use mathlib.Core.Path.{◌≡◌, refl, sym, ap, subst, ◌∙◌}
 use mathlib.Core.List.{List}
@@ -10,8 +11,6 @@ use lib.IntN.{ℤ, pos, negsuc, nat_abs}
 use borrow.Author.Tests.{ltb-true, lt-ltb, le-ltb, eq-eqb, ne_eqb, eqb-true}
 use Rattle.sheet.specs.declared.Record.{Record}
 use Rattle.sheet.specs.declared.Range.{Range}
-use Rattle.sheet.specs.declared.Found.{Found}
-use Rattle.sheet.specs.declared.Found.TheVariants.{Present, Absent}
 use Rattle.sheet.specs.All.{◌and◌}
 use Rattle.sheet.specs.Names.{declarations, names, nodes, data_of, external, role, procedure, chart_variables, body_parameters, operator, bool_type, int_type, component_type, port_type, timer_type, is_clock}
 use Rattle.sheet.specs.Sheet.{count_of, record_of}
@@ -46,13 +45,13 @@ use Rattle.machine_sound.proofs.Data.{data_gives, range_of, few_data}
 use Rattle.machine_sound.proofs.Run.{is_statement_lem, stated, called_in, few-parameters, parameters_of_lem, timer_clock, variable-there, chart-variable-there, clock-there, statement_ends}
 use Rattle.machine_sound.proofs.Armed.{armed-clock}
 use Rattle.machine_sound.proofs.Indices.{ranged, Indexed, array_index}
-use Rattle.engine_ints.specs.Work.{work_of}
+use Rattle.engine_ints.specs.declared.Stop.TheVariants as stop
+use Rattle.engine_ints.specs.Work.{work_of, ran_of}
 use Rattle.engine_context.specs.Context.{cell_in, leads_to}
 use Rattle.engine_ready.specs.Ready.{context_at, Ready, IsExpression, IsStatement, HasData}
 use Rattle.engine_ready.proofs.Expressions.{cells}
 use Rattle.engine_ready.proofs.Cells.{cell_is, plain_is_lem, taken_is}
-use Rattle.engine_context.specs.declared.Place.TheVariants.{At, Outside}
-use Rattle.engine_ready.specs.Words.{then_word, put_at, Data, given, refused, stuck, before, then_datum, data_from, then_data, DataTold}
+use Rattle.engine_ready.specs.Words.{then_word, put_at, Data, before, then_datum, data_from, then_data, DataTold}
 
 -- a value of its type goes on as its word
 operand_word : (s : List ℕ) (o : Out) (t : ℕ) (st lo : List ℤ) (K : Value → ℕ → World) (L : ℤ → ℕ → World) → Gives s t o → ((v : Value) (m : ℕ) → v.kind ≡ t → in_type s t v.word ≡ true → K v m ≡ L v.word m) → then_operand o st lo K ≡ then_word (work_of o) st lo L
@@ -63,9 +62,9 @@ operand_word s out.Stuck t st lo K L g h = refl
 
 -- data in words
 in_words : Values → Data
-in_words (run.given vs l) = given (words_in vs) l
-in_words (run.refused n l) = refused n l
-in_words run.stuck = stuck
+in_words (run.given vs l) = Ok (words_in vs, l)
+in_words (run.refused n l) = Err (stop.Refused n l)
+in_words run.stuck = Err stop.Stuck
 
 before-words : (v : Value) (d : Values) → in_words (run.before v d) ≡ before v.word (in_words d)
 unfolding in_words run.before before words_in
@@ -100,7 +99,7 @@ words-told s g l (run.given vs m) h w = (h.1, w)
 words-told s g l (run.refused k m) h w = tt
 words-told s g l run.stuck h w = tt
 
-record_is : (f : Found) (r : Record) (st lo : List ℤ) (K : Record → World) → f ≡ Present r → with_record f st lo K ≡ K r
+record_is : (f : Option Record) (r : Record) (st lo : List ℤ) (K : Record → World) → f ≡ Some r → with_record f st lo K ≡ K r
 unfolding with_record
 record_is f r st lo K e = rw e refl
 
@@ -118,7 +117,7 @@ module _ (s w : List ℕ) (st lo : List ℤ) (ready : Ready s w st lo) where
   pub no_steps : (depth n : ℕ) → run_of s depth x n 0 st lo ≡ world (Refused 10 0) st lo
   no_steps depth n = run_none s depth x n st lo
 
-  pub absent : (depth n l : ℕ) → record_of s nodes n ≡ Absent → run_of s depth x n (suc l) st lo ≡ world Stuck st lo
+  pub absent : (depth n l : ℕ) → record_of s nodes n ≡ None → run_of s depth x n (suc l) st lo ≡ world Stuck st lo
   unfolding with_record
   absent depth n l h = run-visit s depth x n l st lo ∙ ap (λ f. with_record f st lo (λ r. run_in s x (run_of s) depth n r l st lo (form_of (operator r)))) h
 
@@ -128,7 +127,7 @@ module _ (s w : List ℕ) (st lo : List ℤ) (ready : Ready s w st lo) where
       let h = subst (λ v. Ends s x v.ran v.st v.lo) e (statement_ends s ready.running.passed depth x n l i.levels st lo placed ready.state ready.locals i.tree i.typed) in
       record { running = ready.running; state = h.0; locals = h.1 }
 
-  module _ (n : ℕ) (r : Record) (there : record_of s nodes n ≡ Present r) (i : IsStatement s w n) where
+  module _ (n : ℕ) (r : Record) (there : record_of s nodes n ≡ Some r) (i : IsStatement s w n) where
     abbrev f : ℕ → Typed
     f = lower_type n (type_of s x.chart x.body)
 
@@ -237,9 +236,9 @@ module _ (s w : List ℕ) (st lo : List ℤ) (ready : Ready s w st lo) where
 
       put_here_lem : (i z : ℤ) (l : ℕ) → element_assigned s x r.f1 (ranged (cells_taken s d) i) z l st lo ≡ put_at (leads_to w r.f1 i) z l st lo
       unfolding element_assigned leads_to put_at variable_at_cell
-      put_here_lem i z l = go (is_below i (cells_taken s d)) ∙ ap {B = World} (λ c. put_at (elim (is_below i c) [ true ↦ At (cell_at (cell_in w r.f1 + nat_abs i)) | false ↦ Outside ]) z l st lo) (sym (taken_is s w ready.running r.f1 element-below))
+      put_here_lem i z l = go (is_below i (cells_taken s d)) ∙ ap {B = World} (λ c. put_at (elim (is_below i c) [ true ↦ Some (cell_at (cell_in w r.f1 + nat_abs i)) | false ↦ None ]) z l st lo) (sym (taken_is s w ready.running r.f1 element-below))
         where
-          go : (b : Bool) → element_assigned s x r.f1 (elim b [ true ↦ inside (nat_abs i) | false ↦ out_of_range ]) z l st lo ≡ put_at (elim b [ true ↦ At (cell_at (cell_in w r.f1 + nat_abs i)) | false ↦ Outside ]) z l st lo
+          go : (b : Bool) → element_assigned s x r.f1 (elim b [ true ↦ inside (nat_abs i) | false ↦ out_of_range ]) z l st lo ≡ put_at (elim b [ true ↦ Some (cell_at (cell_in w r.f1 + nat_abs i)) | false ↦ None ]) z l st lo
           go true = ap (λ c. world (Done l) (set st c z) lo) (cell_is s w ready.running r.f1 element-below (nat_abs i))
           go false = refl
 
@@ -366,11 +365,11 @@ module _ (s w : List ℕ) (st lo : List ℤ) (ready : Ready s w st lo) where
 
     -- the name of a send or an arming
     module _ (shape : send_shape s r ≡ true) (d : data_match s f (name_range s r.f3) r ≡ true) (first c : ℕ) (h : (j : ℕ) → j < c + name_data s r → Lower level (operand_at r (operands first c (name_data s r)) j)) where
-      name-there : (a : Record) × (record_of s names r.f3 ≡ Present a)
+      name-there : (a : Record) × (record_of s names r.f3 ≡ Some a)
       unfolding send_shape
       name-there = let k = held _ _ shape in (k.0, k.1)
 
-      module _ (a : Record) (e : record_of s names r.f3 ≡ Present a) where
+      module _ (a : Record) (e : record_of s names r.f3 ≡ Some a) where
         name_lows : (j : ℕ) → j < (data_of a).count → Lower level (field_of r (4 + j))
         unfolding name_data
         name_lows j l = data_low first c (name_data s r) j h (subst (λ t. j < t) (sym (number-present _ a (λ n. (data_of n).count) e)) l)
@@ -407,10 +406,10 @@ module _ (s w : List ℕ) (st lo : List ℤ) (ready : Ready s w st lo) where
       pub port_operand : IsExpression s w r.f2
       port_operand = expression r.f2 port_low port_type (and_first _ _ (and_second _ _ external_types))
 
-      pub external-name : (a : Record) × (record_of s names r.f3 ≡ Present a)
+      pub external-name : (a : Record) × (record_of s names r.f3 ≡ Some a)
       external-name = name-there external-shape (and_second _ _ (and_second _ _ (and_second _ _ external_types))) 1 2 external_low
 
-      module _ (a : Record) (e : record_of s names r.f3 ≡ Present a) where
+      module _ (a : Record) (e : record_of s names r.f3 ≡ Some a) where
         pub external_data : HasData s w st lo r (data_of a)
         external_data = name_data_lem external-shape (and_second _ _ (and_second _ _ (and_second _ _ external_types))) 1 2 external_low a e
 
@@ -444,10 +443,10 @@ module _ (s w : List ℕ) (st lo : List ℤ) (ready : Ready s w st lo) where
       unfolding fields_shape
       internal-shape = and_second _ _ (and_second _ _ (fields internal_send q))
 
-      pub internal-there : (a : Record) × (record_of s names r.f3 ≡ Present a)
+      pub internal-there : (a : Record) × (record_of s names r.f3 ≡ Some a)
       internal-there = name-there internal-shape (and_second _ _ internal_types) 1 0 internal_low
 
-      module _ (a : Record) (e : record_of s names r.f3 ≡ Present a) where
+      module _ (a : Record) (e : record_of s names r.f3 ≡ Some a) where
         pub internal_data : HasData s w st lo r (data_of a)
         internal_data = name_data_lem internal-shape (and_second _ _ internal_types) 1 0 internal_low a e
 
@@ -495,10 +494,10 @@ module _ (s w : List ℕ) (st lo : List ℤ) (ready : Ready s w st lo) where
       pub arm-clock : is_clock (type_at s ((chart_variables x.chart).first + r.f1)) ≡ true
       arm-clock = ap is_clock arm_type_lem ∙ (armed-clock (operator r) q).0
 
-      pub arm-name : (a : Record) × (record_of s names r.f3 ≡ Present a)
+      pub arm-name : (a : Record) × (record_of s names r.f3 ≡ Some a)
       arm-name = name-there (and_second _ _ arm-shape) (and_second _ _ (and_second _ _ (and_second _ _ arm_types))) 2 1 arm_low
 
-      module _ (a : Record) (e : record_of s names r.f3 ≡ Present a) where
+      module _ (a : Record) (e : record_of s names r.f3 ≡ Some a) where
         pub arm_data : HasData s w st lo r (data_of a)
         arm_data = name_data_lem (and_second _ _ arm-shape) (and_second _ _ (and_second _ _ (and_second _ _ arm_types))) 2 1 arm_low a e
 
@@ -569,10 +568,10 @@ module _ (s w : List ℕ) (st lo : List ℤ) (ready : Ready s w st lo) where
       unfolding operands_in
       call_low = lower call q
 
-      pub called-there : (b : Record) × (called_body s x.chart r ≡ Present b)
+      pub called-there : (b : Record) × (called_body s x.chart r ≡ Some b)
       called-there = let h = held _ _ (and_first _ _ call_types) in (h.0, h.1)
 
-      module _ (b : Record) (e : called_body s x.chart r ≡ Present b) where
+      module _ (b : Record) (e : called_body s x.chart r ≡ Some b) where
         call_lows : (j : ℕ) → j < (body_parameters b).count → Lower level (field_of r (4 + j))
         unfolding call_data
         call_lows j l = data_low 1 0 (call_data s x.chart r) j call_low (subst (λ t. j < t) (sym (number-present _ b (λ b. (body_parameters b).count) e)) l)

@@ -1,9 +1,7 @@
 -- What an engine knows while a body runs.
-use Rattle.std.specs.Prelude.{ℕ, ◌+◌, ◌-◌, ◌<◌, ◌≤◌, ◌≡◌, List, true, length, ℤ}
+use Rattle.std.specs.Prelude.{ℕ, ◌+◌, ◌-◌, ◌<◌, ◌≤◌, ◌≡◌, List, true, length, ℤ, Option, Some, None}
 use Rattle.sheet.specs.declared.Record.{Record}
 use Rattle.sheet.specs.declared.Range.{Range}
-use Rattle.sheet.specs.declared.Found.{Found}
-use Rattle.sheet.specs.declared.Found.TheVariants.{Present, Absent}
 use Rattle.sheet.specs.Names.{charts, bodies, chart_variables, chart_bodies}
 use Rattle.sheet.specs.Sheet.{record_of}
 use Rattle.sheet_rules.specs.declared.Typed.TheVariants.{Expression, Statement}
@@ -23,9 +21,9 @@ use Rattle.engine_context.specs.Context.{element_in, binding_in, chart_in, first
 use Rattle.machine_sound.specs.Gives.{Gives}
 
 -- a record, all zero where there is none
-unfoldable pub record_or0 : Found → Record
-record_or0 (Present r) = r
-record_or0 Absent = record { f0 = 0; f1 = 0; f2 = 0; f3 = 0; f4 = 0; f5 = 0; f6 = 0; f7 = 0 }
+unfoldable pub record_or0 : Option Record → Record
+record_or0 (Some r) = r
+record_or0 None = record { f0 = 0; f1 = 0; f2 = 0; f3 = 0; f4 = 0; f5 = 0; f6 = 0; f7 = 0 }
 
 -- where a body runs, by its numbers
 unfoldable pub context_at : List ℕ → List ℕ → Context

@@ -6,6 +6,7 @@ use mathlib.Core.Bool.{true}
 use native.Mathlib.Nat.{div-add-mod', mod-lt}
 use native.Mathlib.Omega.{arith}
 use native.Mathlib.Decide.{dec_lt, ℕ_discrete}
+use Rattle.std.specs.List.{CopiedTo, SameBelow, SameFrom}
 use lib.ListN.{length, set, replicate, length-set}
 use lib.Seq.{ext_get_or}
 use lib.IntN.{ℤ, pos, negsuc}
@@ -24,17 +25,12 @@ pub record Moved (old : List ℤ) (at i : ℕ) (st : List ℤ) : Type 0 where
   pub moved : (k : ℕ) → at ≤ k → k < i → word_of st k ≡ word_of old (k + 8)
   pub behind : (k : ℕ) → i ≤ k → word_of st k ≡ word_of old k
 
-pub moved_none : (st : List ℤ) (at : ℕ) → Moved st at at st
-moved_none st at = record { before = λ k l. refl; moved = λ k l m. absurd (omega arith); behind = λ k l. refl }
-
-pub moved_more : (old st : List ℤ) (at i : ℕ) (z : ℤ) → at ≤ i → i < length st → z ≡ word_of st (i + 8) → Moved old at i st → Moved old at (i + 1) (set st i z)
-moved_more old st at i z l m e h = record {
-  before = λ k n. word_set_other st i k z (λ q. omega arith) ∙ h.before k n;
-  moved = λ k n p. elim (ℕ_discrete k i) [
-    | yes q ↦ rw q (word_set st i z m ∙ e ∙ h.behind (i + 8) (omega arith))
-    | no q ↦ word_set_other st i k z q ∙ h.moved k n (omega arith)
-  ];
-  behind = λ k n. word_set_other st i k z (λ q. omega arith) ∙ h.behind k (omega arith);
+pub moved_copied : (old st : List ℤ) (at i n : ℕ) → i ≡ at + n → CopiedTo old st (at + 8) at n → SameBelow old st at → SameFrom old st (at + n) → Moved old at i st
+unfolding word_of
+moved_copied old st at i n q copied below from = record {
+  before = λ k l. below k (pos 0) l;
+  moved = λ k l m. (let e : at + 8 + (k - at) ≡ k + 8 = omega arith in rw e at (copied k (pos 0) l (omega arith)));
+  behind = λ k l. from k (pos 0) (omega arith);
 }
 
 zero_word : (z : ℤ) → is_zero z ≡ true → z ≡ pos 0
@@ -52,7 +48,7 @@ unused_word s st o k l m =
     let e : place_at s (x / 8) + 0 + x % 8 ≡ k = omega arith in
     rw e at (zero_word _ (all-at 8 _ (unused_of s st o (x / 8) (omega arith) (omega arith)) (x % 8) r))
 
-module _ (s : List ℕ) (old : List ℤ) (o : OfSheet s old) (j n at end i : ℕ) (st : List ℤ) (here : j < waiting old) (count : n ≡ waiting old - 1) (from : at ≡ place_at s j) (to : end ≡ place_at s n) (low : i ≤ end) (high : end ≤ i) (whole : length st ≡ length old) (h : Moved old at i st) where
+module _ (s : List ℕ) (old : List ℤ) (o : OfSheet s old) (j n at end : ℕ) (st : List ℤ) (here : j < waiting old) (count : n ≡ waiting old - 1) (from : at ≡ place_at s j) (to : end ≡ place_at s n) (whole : length st ≡ length old) (h : Moved old at end st) where
   limit : waiting old ≤ places
   limit = waiting_limit s old o
 

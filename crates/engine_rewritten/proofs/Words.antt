@@ -1,4 +1,6 @@
 -- A sheet of bytes is rewritten in bytes, and on any sheet an accepted call leaves words.
+use Rattle.std.specs.Prelude.{Option, Some, None}
+use Rattle.sheet.specs.declared.Record.{Record}
 use Prim.Native.Nat.{ℕ, ◌+◌, ◌/◌, ◌%◌, ◌<◌}
 use mathlib.Core.Path.{◌≡◌, refl, sym, subst}
 use mathlib.Core.List.{List}
@@ -10,8 +12,6 @@ use lib.Seq.{get_or-set_same, get_or-set_other}
 use lib.Dec.{eqb}
 use lib.IntN.{ℤ}
 use borrow.Author.Tests.{eqb-true}
-use Rattle.sheet.specs.declared.Found.{Found}
-use Rattle.sheet.specs.declared.Found.TheVariants.{Present, Absent}
 use Rattle.sheet.specs.Names.{head}
 use Rattle.sheet.specs.Sheet.{record_of}
 use Rattle.sheet_rules.specs.declared.Checked.TheVariants.{Passed}
@@ -46,9 +46,9 @@ limit_bytes : (n : ℕ) (s : List ℕ) → Bytes s → n < 65536 → Bytes (with
 unfolding with_limit
 limit_bytes n s y l = go (record_of s head 0)
   where
-    go : (f : Found) → Bytes (elim f [ Present r ↦ put_number s (limit_place s) n | Absent ↦ s ])
-    go (Present r) = put_bytes s (limit_place s) n l y
-    go Absent = y
+    go : (f : Option Record) → Bytes (elim f [ Some r ↦ put_number s (limit_place s) n | None ↦ s ])
+    go (Some r) = put_bytes s (limit_place s) n l y
+    go None = y
 
 pub rewritten_bytes : (s : List ℕ) → Bytes s → Bytes (rewritten s)
 rewritten_bytes s y = limit_bytes _ s y (omega arith)

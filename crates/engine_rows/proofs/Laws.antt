@@ -1,11 +1,9 @@
 -- What code on a state's words comes to.
-use Prim.Native.Nat.{ℕ, suc, ◌+◌, ◌<◌, ◌≤◌}
+use Prim.Native.Nat.{ℕ, ◌<◌}
 use mathlib.Core.Path.{◌≡◌, sym, ◌∙◌}
-use mathlib.Core.List.{List, [], ◌∷◌}
 use mathlib.Core.Bool.{true, false}
 use native.Mathlib.Omega.{arith}
-use lib.ListN.{length, set, replicate, get_or-replicate}
-use lib.Seq.{sets-eq}
+use lib.ListN.{replicate, get_or-replicate}
 use lib.IntN.{ℤ, pos, negsuc}
 use lib.Signed.{mag}
 use mir.Syntax.{w32}
@@ -13,23 +11,10 @@ use mir.Val.{SFits, of_z, to_z}
 use mir.ValLaws.{to_z-of_z}
 use borrow.Author.Tests.{eq-eqb, ne_eqb}
 use Rattle.machine.specs.Values.{same_word}
-use Rattle.machine.specs.State.{word_of, put_words}
+use Rattle.machine.specs.State.{word_of}
 use Rattle.engine_ints.proofs.Words.{same_bits}
 
 -- ---- words
-
-module _ (st : List ℤ) (at : ℕ) (fit : at + 8 ≤ length st) (w0 w1 w2 w3 w4 w5 w6 w7 : ℤ) where
-  pub put_eight : set (set (set (set (set (set (set (set st at w0) (at + 1) w1) (at + 2) w2) (at + 3) w3) (at + 4) w4) (at + 5) w5) (at + 6) w6) (at + 7) w7 ≡ put_words st at (w0 ∷ w1 ∷ w2 ∷ w3 ∷ w4 ∷ w5 ∷ w6 ∷ w7 ∷ [])
-  unfolding put_words
-  put_eight =
-      let e1 : at + 1 ≡ suc at = omega arith in
-      let e2 : at + 2 ≡ suc (suc at) = omega arith in
-      let e3 : at + 3 ≡ suc (suc (suc at)) = omega arith in
-      let e4 : at + 4 ≡ suc (suc (suc (suc at))) = omega arith in
-      let e5 : at + 5 ≡ suc (suc (suc (suc (suc at)))) = omega arith in
-      let e6 : at + 6 ≡ suc (suc (suc (suc (suc (suc at))))) = omega arith in
-      let e7 : at + 7 ≡ suc (suc (suc (suc (suc (suc (suc at)))))) = omega arith in
-      rw (e1, e2, e3, e4, e5, e6, e7) (sets-eq (w0 ∷ w1 ∷ w2 ∷ w3 ∷ w4 ∷ w5 ∷ w6 ∷ w7 ∷ []) st at fit)
 
 -- a word that lies in a slice or a struct, as code reads it
 pub given : (z : ℤ) → mag z < 2147483648 → to_z w32 (of_z w32 z) ≡ z

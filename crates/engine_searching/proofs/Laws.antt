@@ -1,25 +1,13 @@
 -- What looking for the oldest telegram comes to.
-use Prim.Native.Nat.{ℕ, suc, ◌+◌, ◌-◌, ◌/◌, ◌<◌, ◌≤◌}
-use mathlib.Core.Path.{◌≡◌, refl}
+use Prim.Native.Nat.{ℕ, suc, ◌+◌, ◌-◌, ◌<◌, ◌≤◌}
+use mathlib.Core.Path.{◌≡◌, refl, ◌∙◌}
 use mathlib.Core.List.{List}
 use mathlib.Core.Bool.{Bool, true, false}
 use native.Mathlib.Omega.{arith}
-use lib.ListN.{length}
 use lib.IntN.{ℤ}
 use Rattle.machine.specs.declared.Telegram.{Telegram}
 use Rattle.machine.specs.State.{waiting, telegram_of}
 use Rattle.machine.specs.Play.{oldest_from, oldest}
-use Rattle.engine_store.specs.Layout.{place_in}
-use Rattle.engine_queue.specs.Laid.{Laid}
-use Rattle.engine_queue.proofs.Laws.{waiting_limit}
-
--- the place of a telegram that waits lies in the state
-pub place_fits : (st : List ℤ) → Laid st → (n j at : ℕ) → n ≡ waiting st → j < n → at ≡ place_in (length st) j → at + 8 ≤ length st
-place_fits st l n j at e b q = omega (arith, waiting_limit st l, l.long)
-
--- the number of a place, by where it begins
-pub number_of : (n first at j : ℕ) → first ≡ place_in n 0 → at ≡ place_in n j → (at - first) / 8 ≡ j
-number_of n first at j e q = omega arith
 
 module _ (s : List ℕ) (st : List ℤ) (p : Telegram → Bool) where
   pub oldest-start : (n : ℕ) → n ≡ waiting st → oldest s st p ≡ oldest_from s st p (n - 0) 0
@@ -40,6 +28,9 @@ module _ (s : List ℕ) (st : List ℤ) (p : Telegram → Bool) where
   pub oldest_here : (n j : ℕ) → j < n → p (telegram_of s st j) ≡ true → j ≡ oldest_from s st p (n - j) j
   oldest_here n j l f = let e : n - j ≡ suc (n - (j + 1)) = omega arith in hit (n - (j + 1)) (n - j) j e f
 
-  pub oldest-none : (n j : ℕ) → n ≤ j → j ≡ oldest_from s st p (n - j) j
+  oldest-none : (n j : ℕ) → n ≤ j → j ≡ oldest_from s st p (n - j) j
   unfolding oldest_from
   oldest-none n j m = let e : n - j ≡ 0 = omega arith in rw e refl
+
+  pub oldest-end : (n j : ℕ) → n ≤ j → j ≤ n → n ≡ oldest_from s st p (n - j) j
+  oldest-end n j m w = let e : n ≡ j = omega arith in e ∙ oldest-none n j m

@@ -1,4 +1,5 @@
 -- What sending a telegram comes to.
+use Rattle.std.specs.Prelude.{Result, Ok, Err}
 use Prim.Native.Nat.{ℕ, zero, suc, ◌<◌}
 use mathlib.Core.Path.{◌≡◌, refl, sym, ap, ◌∙◌}
 use mathlib.Core.List.{List}
@@ -33,14 +34,13 @@ module _ (s w : List ℕ) (run : Running s w) where
 -- ---- a telegram appended
 
 module _ (s : List ℕ) (t : Telegram) (l : ℕ) (st lo : List ℤ) where
-  pub append_done : (n : ℕ) (st' : List ℤ) → appended s st t ≡ changed_to n st' → n ≡ 0 → world (Done l) st' lo ≡ append s t l st lo
+  pub append_done : (r : Result (Unit {0}) ℕ) (v : Unit {0}) (st' : List ℤ) → appended s st t ≡ changed_to r st' → r ≡ Ok v → world (Done l) st' lo ≡ append s t l st lo
   unfolding append changed_to
-  append_done n st' e h = sym (ap (λ r. elim r as (λ r. World) [ on st' ↦ world (Done l) st' lo | off n ↦ world (Refused n l) st lo | lost ↦ world Stuck st lo ]) (e ∙ ap (λ n. changed_to n st') h))
+  append_done r v st' e h = sym (ap (λ r. elim r as (λ r. World) [ on st' ↦ world (Done l) st' lo | off n ↦ world (Refused n l) st lo | lost ↦ world Stuck st lo ]) (e ∙ ap (λ r. changed_to r st') h))
 
-  pub append-refused : (n : ℕ) (st' : List ℤ) → appended s st t ≡ changed_to n st' → (n ≡ 0 → ⊥) → st' ≡ st → world (Refused n l) st' lo ≡ append s t l st lo
+  pub append-refused : (r : Result (Unit {0}) ℕ) (n : ℕ) (st' : List ℤ) → appended s st t ≡ changed_to r st' → r ≡ Err n → st' ≡ st → world (Refused n l) st' lo ≡ append s t l st lo
   unfolding append changed_to
-  append-refused zero st' e h q = absurd (h refl)
-  append-refused (suc n) st' e h q = ap (λ st. world (Refused (suc n) l) st lo) q ∙ sym (ap (λ r. elim r as (λ r. World) [ on st' ↦ world (Done l) st' lo | off n ↦ world (Refused n l) st lo | lost ↦ world Stuck st lo ]) e)
+  append-refused r n st' e h q = ap (λ st. world (Refused n l) st lo) q ∙ sym (ap (λ r. elim r as (λ r. World) [ on st' ↦ world (Done l) st' lo | off n ↦ world (Refused n l) st lo | lost ↦ world Stuck st lo ]) (e ∙ ap (λ r. changed_to r st') h))
 
 -- ---- a telegram as code makes it
 

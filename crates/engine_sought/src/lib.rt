@@ -5,21 +5,12 @@ ghost use Rattle.std.specs.Prelude.{List, ◌≡◌, ℕ, length};
 ghost use Rattle.machine.specs.State.{state_length};
 ghost use Rattle.machine.specs.Valid.{OfSheet};
 ghost use Rattle.machine_events.specs.Sought.{sought_at, may_undo};
-ghost use Rattle.engine_cells.specs.Playing.{Playing};
 ghost use Rattle.engine_queue.specs.Laid.{Laid};
 ghost use Rattle.engine_sought.specs.Taken.{TakenFrom};
 
-use engine_cells::CellLayout;
+use engine_cells::Yard;
 use machine::Telegram;
 use machine_events::Event;
-use sheet::Directory;
-
-// A telegram that was taken from those that wait, or none: there was no such telegram.
-#[derive(Clone, Copy)]
-pub enum Taken {
-    Missing,
-    Took(Telegram),
-}
 
 // The number of the telegram that an event takes; the number behind the last if there is none.
 pub fn sought(st: &[i32], e: Event) -> usize
@@ -41,25 +32,15 @@ pub fn sought(st: &[i32], e: Event) -> usize
 }
 
 // Whether a refusal may have work to undo.
-pub fn may_undo(
-    sheet: &[u8],
-    directory: &Directory,
-    cells: &CellLayout,
-    st: &[i32],
-    e: Event,
-    j: usize,
-) -> bool
-    requires { Playing sheet.now directory.now cells.now st.now × (j ≡ sought_at sheet.now st.now e) }
-    ensures { result ≡ may_undo sheet.now st.now e }
+pub fn may_undo(yard: &Yard, st: &[i32], e: Event, j: usize) -> bool
+    requires { OfSheet yard.now.sheet st.now × (j ≡ sought_at yard.now.sheet st.now e) }
+    ensures { result ≡ may_undo yard.now.sheet st.now e }
 {
     match e {
         Event::Malformed => false,
         Event::Outside(t) => false,
         Event::Deliver { sender, receiver } => {
-            if engine_valid_words::is_below(
-                receiver,
-                engine_valid_values::externals(sheet, directory),
-            ) {
+            if engine_valid_words::is_below(receiver, engine_valid_values::externals(&yard.sheet)) {
                 return false;
             }
             j < engine_queue::waiting_count(st)
@@ -71,14 +52,14 @@ pub fn may_undo(
 }
 
 // Takes the telegram numbered j: "is removed, later ones close up".
-pub fn take(st: &mut [i32], j: usize) -> Taken
+pub fn take(st: &mut [i32], j: usize) -> Option<Telegram>
     requires { Laid st.old }
     ensures { (s : List ℕ) → OfSheet s st.old → TakenFrom s st.old j result st.new }
 {
     if engine_queue::waiting_count(st) <= j {
-        return Taken::Missing;
+        return None;
     }
     let t = engine_queue::telegram_at(st, j);
     engine_removing::remove(st, j);
-    Taken::Took(t)
+    Some(t)
 }

@@ -1,5 +1,7 @@
 -- A call: the body that it names, its parameters, and the body's own variables.
-use Prim.Native.Nat.{ℕ, zero, suc, ◌+◌, ◌-◌, ◌<◌, ◌≤◌}
+use Rattle.std.specs.Prelude.{Option, Some, None, Result, Ok, Err}
+use Rattle.std.specs.Result.{IsErrAnd}
+use Prim.Native.Nat.{ℕ, zero, suc, ◌+◌, ◌<◌, ◌≤◌}
 use mathlib.Core.Path.{◌≡◌, refl, sym, ap, subst, ◌∙◌, fun_ext}
 use mathlib.Core.List.{List}
 use mathlib.Core.Bool.{Bool, true, false}
@@ -10,14 +12,12 @@ use lib.Dec.{ltb}
 use lib.IntN.{ℤ}
 use borrow.Author.Tests.{lt-ltb, le-ltb, leb-true}
 use Rattle.sheet.specs.declared.Record.{Record}
-use Rattle.sheet.specs.declared.Found.{Found}
-use Rattle.sheet.specs.declared.Found.TheVariants.{Present, Absent}
 use Rattle.sheet.specs.Names.{bodies, chart_variables, chart_bodies, body_parameters, body_locals, root}
 use Rattle.sheet.specs.Sheet.{record_of}
-use Rattle.sheet.proofs.All.{true_false, and_first, and_second}
+use Rattle.sheet.proofs.All.{and_first, and_second}
 use Rattle.sheet.proofs.Sheet.{count_limit}
 use Rattle.machine.specs.declared.Ran.{Ran}
-use Rattle.machine.specs.declared.Ran.TheVariants.{Refused, Stuck}
+use Rattle.machine.specs.declared.Ran.TheVariants.{Refused}
 use Rattle.sheet_rules.specs.Fields.{type_at}
 use Rattle.sheet_rules.specs.Forms.{call, called_body}
 use Rattle.sheet_rules.specs.Indices.{cells_before}
@@ -34,13 +34,15 @@ use Rattle.machine_passed.proofs.Charts.{body-tree, body-static}
 use Rattle.machine_passed.proofs.Declared.{locals-there}
 use Rattle.machine_sound.proofs.Locals.{fresh_locals}
 use Rattle.machine_sound.proofs.Run.{called_in, is_statement_lem}
+use Rattle.engine_ints.specs.declared.Stop.{Stop}
+use Rattle.engine_ints.specs.Work.{ran_of}
 use Rattle.engine_context.specs.Context.{element_in, first_body_in}
 use Rattle.engine_ready.specs.Ready.{record_or0, context_at, Running, Ready, IsStatement, HasData}
-use Rattle.engine_ready.specs.Words.{given, DataTold, ran_data, four_words}
+use Rattle.engine_ready.specs.Words.{DataTold, in_four, four_words}
 use Rattle.engine_ready.proofs.Statements.{called-there, call_data_lem, call-told, call_word}
 use Rattle.engine_data.specs.Visit.{Visit}
 use Rattle.engine_data.specs.Data.{data_at}
-use Rattle.engine_data.proofs.Data.{on-given, data_ends_refused, data_ends_stuck}
+use Rattle.engine_data.proofs.Data.{on_data, data_stop}
 use Rattle.engine_statements.specs.Callable.{Callable}
 
 -- ---- parameters in four words
@@ -58,7 +60,7 @@ module _ (s w : List ℕ) (st lo : List ℤ) (n : ℕ) (r : Record) (v : Visit s
   abbrev x : Context
   x = context_at s w
 
-  called : (b : Record) × (called_body s x.chart r ≡ Present b)
+  called : (b : Record) × (called_body s x.chart r ≡ Some b)
   called = called-there s w st lo v.ready n r v.there v.statement v.form
 
   -- "body counted from the chart's first"
@@ -66,22 +68,18 @@ module _ (s w : List ℕ) (st lo : List ℤ) (n : ℕ) (r : Record) (v : Visit s
   unfolding called_body
   called_at = go (ltb r.f1 (chart_bodies x.chart).count) called.1 ∙ ap (λ f. record_of s bodies (f + r.f1)) (sym v.ready.running.first)
     where
-      present : Found → Bool
-      present (Present a) = true
-      present Absent = false
-
-      go : (t : Bool) → ◌≡◌ {A = Found} (elim t [ true ↦ record_of s bodies ((chart_bodies x.chart).first + r.f1) | false ↦ Absent ]) (Present called.0) → ◌≡◌ {A = Found} (elim t [ true ↦ record_of s bodies ((chart_bodies x.chart).first + r.f1) | false ↦ Absent ]) (record_of s bodies ((chart_bodies x.chart).first + r.f1))
+      go : (t : Bool) → ◌≡◌ {A = Option Record} (elim t [ true ↦ record_of s bodies ((chart_bodies x.chart).first + r.f1) | false ↦ None ]) (Some called.0) → ◌≡◌ {A = Option Record} (elim t [ true ↦ record_of s bodies ((chart_bodies x.chart).first + r.f1) | false ↦ None ]) (record_of s bodies ((chart_bodies x.chart).first + r.f1))
       go true h = refl
-      go false h = absurd (true_false {b = false} (ap present h) refl)
+      go false h = cc
 
-  pub body-called : (b : Record) × (record_of s bodies (first_body_in w + r.f1) ≡ Present b)
+  pub body-called : (b : Record) × (record_of s bodies (first_body_in w + r.f1) ≡ Some b)
   body-called = (called.0, sym called_at ∙ called.1)
 
   pub number_small : first_body_in w + r.f1 < 65536
   number_small = omega (arith, present-below s bodies (first_body_in w + r.f1) body-called.0 body-called.1, count_limit s bodies)
 
-  module _ (b : Record) (there : record_of s bodies (first_body_in w + r.f1) ≡ Present b) where
-    is_called : called_body s x.chart r ≡ Present b
+  module _ (b : Record) (there : record_of s bodies (first_body_in w + r.f1) ≡ Some b) where
+    is_called : called_body s x.chart r ≡ Some b
     is_called = called_at ∙ there
 
     pub has_data : HasData s w st lo r (body_parameters b)
@@ -91,23 +89,20 @@ module _ (s w : List ℕ) (st lo : List ℤ) (n : ℕ) (r : Record) (v : Visit s
     unfolding body_shape
     four_parameters = leb-true _ _ (and_first _ _ (and_second _ _ (and_second _ _ (and_second _ _ (body-shape s v.ready.running.passed _ b there)))))
 
-    pub called_word : (depth l : ℕ) (zs : List ℤ) (m : ℕ) → data_at s w st lo r (body_parameters b) l ≡ given zs m → entered s x (run_of s) depth b zs m st lo ≡ run_of s depth x n (suc l) st lo
-    called_word depth l zs m e = on-given (data_at s w st lo r (body_parameters b) l) st lo (λ zs l. entered s x (run_of s) depth b zs l st lo) zs m e ∙ sym (call_word s w st lo v.ready n r v.there v.statement v.form b is_called depth l)
+    pub called_word : (depth l : ℕ) (zs : List ℤ) (m : ℕ) → data_at s w st lo r (body_parameters b) l ≡ Ok (zs, m) → entered s x (run_of s) depth b zs m st lo ≡ run_of s depth x n (suc l) st lo
+    called_word depth l zs m e = on_data (data_at s w st lo r (body_parameters b) l) st lo (λ zs l. entered s x (run_of s) depth b zs l st lo) zs m e ∙ sym (call_word s w st lo v.ready n r v.there v.statement v.form b is_called depth l)
 
-    pub called-refused : (depth l k m : ℕ) → Refused k m ≡ ran_data (data_at s w st lo r (body_parameters b) l) → world (Refused k m) st lo ≡ run_of s depth x n (suc l) st lo
-    called-refused depth l k m e = data_ends_refused _ st lo (λ zs l. entered s x (run_of s) depth b zs l st lo) k m e ∙ sym (call_word s w st lo v.ready n r v.there v.statement v.form b is_called depth l)
+    pub called_stop : (depth l : ℕ) (o : Result ℕ Stop) (d : Stop) → IsErrAnd o (λ e. e ≡ d) → Err d ≡ in_four (data_at s w st lo r (body_parameters b) l) → world (ran_of o) st lo ≡ run_of s depth x n (suc l) st lo
+    called_stop depth l o d h e = data_stop _ st lo (λ zs l. entered s x (run_of s) depth b zs l st lo) o d h e ∙ sym (call_word s w st lo v.ready n r v.there v.statement v.form b is_called depth l)
 
-    pub called-stuck : (depth l : ℕ) → Stuck ≡ ran_data (data_at s w st lo r (body_parameters b) l) → world Stuck st lo ≡ run_of s depth x n (suc l) st lo
-    called-stuck depth l e = data_ends_stuck _ st lo (λ zs l. entered s x (run_of s) depth b zs l st lo) e ∙ sym (call_word s w st lo v.ready n r v.there v.statement v.form b is_called depth l)
-
-    pub told : (l : ℕ) (zs : List ℤ) (m : ℕ) → data_at s w st lo r (body_parameters b) l ≡ given zs m → DataTold s (body_parameters b) l (given zs m)
+    pub told : (l : ℕ) (zs : List ℤ) (m : ℕ) → data_at s w st lo r (body_parameters b) l ≡ Ok (zs, m) → DataTold s (body_parameters b) l (Ok (zs, m))
     told l zs m e = subst (DataTold s (body_parameters b) l) e (call-told s w st lo v.ready n r v.there v.statement v.form b is_called l)
 
     -- its parameters are of their types
-    parameter_in : (l : ℕ) (zs : List ℤ) (m : ℕ) → data_at s w st lo r (body_parameters b) l ≡ given zs m → (i : ℕ) → i < b.f4 → in_type s (type_at s (b.f3 + i)) (datum zs i) ≡ true
+    parameter_in : (l : ℕ) (zs : List ℤ) (m : ℕ) → data_at s w st lo r (body_parameters b) l ≡ Ok (zs, m) → (i : ℕ) → i < b.f4 → in_type s (type_at s (b.f3 + i)) (datum zs i) ≡ true
     parameter_in l zs m e i h = let z : 0 + i ≡ i = omega arith in rw z at ((told l zs m e).0.1 i h)
 
-    pub callable : (l : ℕ) (zs d : List ℤ) (m : ℕ) → data_at s w st lo r (body_parameters b) l ≡ given zs m → d ≡ four_words zs → Callable s w st (first_body_in w + r.f1) b d
+    pub callable : (l : ℕ) (zs d : List ℤ) (m : ℕ) → data_at s w st lo r (body_parameters b) l ≡ Ok (zs, m) → d ≡ four_words zs → Callable s w st (first_body_in w + r.f1) b d
     callable l zs d m e q = record {
       running = v.ready.running;
       state = v.ready.state;
@@ -193,9 +188,9 @@ module _ (s w : List ℕ) (st : List ℤ) (k : ℕ) (b : Record) (zs : List ℤ)
       typed = subst (λ y. type_of s y.chart y.body (root b) ≡ Statement) (sym inner_context) (is_statement_lem _ (and_second _ _ (and_second _ _ (and_second _ _ (body-static s c.running.passed _ _ c.running.placed.element.chart b c.inside)))));
     }
 
-module _ (s w : List ℕ) (st lo : List ℤ) (n : ℕ) (r : Record) (v : Visit s w st lo n r call) (b : Record) (there : record_of s bodies (first_body_in w + r.f1) ≡ Present b) where
-  pub given-left : (l : ℕ) (zs : List ℤ) (m : ℕ) → data_at s w st lo r (body_parameters b) l ≡ given zs m → m ≤ l
+module _ (s w : List ℕ) (st lo : List ℤ) (n : ℕ) (r : Record) (v : Visit s w st lo n r call) (b : Record) (there : record_of s bodies (first_body_in w + r.f1) ≡ Some b) where
+  pub given-left : (l : ℕ) (zs : List ℤ) (m : ℕ) → data_at s w st lo r (body_parameters b) l ≡ Ok (zs, m) → m ≤ l
   given-left l zs m e = (told s w st lo n r v b there l zs m e).1
 
-  pub call_done : (depth l : ℕ) (zs d : List ℤ) (m : ℕ) → data_at s w st lo r (body_parameters b) l ≡ given zs m → d ≡ four_words zs → entered s (context_at s w) (run_of s) depth b d m st lo ≡ run_of s depth (context_at s w) n (suc l) st lo
+  pub call_done : (depth l : ℕ) (zs d : List ℤ) (m : ℕ) → data_at s w st lo r (body_parameters b) l ≡ Ok (zs, m) → d ≡ four_words zs → entered s (context_at s w) (run_of s) depth b d m st lo ≡ run_of s depth (context_at s w) n (suc l) st lo
   call_done depth l zs d m e q = ap (λ d. entered s (context_at s w) (run_of s) depth b d m st lo) q ∙ entered_four s b (four_parameters s w st lo n r v b there) zs (context_at s w) depth m st lo ∙ called_word s w st lo n r v b there depth l zs m e

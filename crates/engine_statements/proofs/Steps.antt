@@ -1,22 +1,20 @@
 -- Statements that run others: which of them, with how many steps left.
+use Rattle.std.specs.Prelude.{Some, None, Result, Ok, Err}
+use Rattle.std.specs.Result.{IsErrAnd}
 use Prim.Native.Nat.{ℕ, suc, ◌-◌, ◌<◌, ◌≤◌}
 use mathlib.Core.Path.{◌≡◌, refl, sym, ap, subst, ◌∙◌}
 use mathlib.Core.List.{List}
-use mathlib.Core.Bool.{Bool, true, false}
+use mathlib.Core.Bool.{true, false}
 use native.Mathlib.Omega.{arith}
 use native.Mathlib.Decide.{dec_lt, ℕ_discrete}
 use lib.IntN.{ℤ}
 use Rattle.sheet.specs.declared.Record.{Record}
-use Rattle.sheet.specs.declared.Found.TheVariants.{Present, Absent}
 use Rattle.sheet.specs.Names.{nodes, operator}
 use Rattle.sheet.specs.Sheet.{record_of}
-use Rattle.sheet.proofs.All.{true_false}
 use Rattle.machine.specs.declared.Out.{Out}
 use Rattle.machine.specs.declared.Out.TheVariants as out
-use Rattle.machine.specs.declared.Ran.{Ran}
 use Rattle.machine.specs.declared.Ran.TheVariants.{Done, Refused, Stuck}
 use Rattle.sheet.specs.Table.{look_up}
-use Rattle.sheet.proofs.Table.{beyond}
 use Rattle.sheet_rules.specs.Forms.{Form, literal, read, unary, binary, clock, read_element, assign, external_send, internal_send, call, choice, loop, sequence, assign_element, unknown, form_of}
 use Rattle.machine.specs.Values.{is_zero}
 use Rattle.machine.specs.Eval.{Context, eval_of}
@@ -24,36 +22,27 @@ use Rattle.machine.specs.Run.{World, world, go_on, then_run, with_record, run_in
 use Rattle.sheet_rules.proofs.Forms.{form-literal, form-binary, form-clock, form-unknown}
 use Rattle.machine_equations.proofs.Left.{Within, RanWithin, eval_left, run-left}
 use Rattle.machine_equations.proofs.Run.{run-visit}
-use Rattle.engine_ints.specs.declared.Work.{Work}
-use Rattle.engine_ints.specs.declared.Work.TheVariants as work
-use Rattle.engine_ints.specs.Work.{work_of}
+use Rattle.engine_ints.specs.declared.Stop.{Stop}
+use Rattle.engine_ints.specs.declared.Stop.TheVariants as stop
+use Rattle.engine_ints.specs.Work.{work_of, ran_of}
+use Rattle.engine_ints.proofs.Stops.{handed_on}
 use Rattle.engine_ready.specs.Ready.{context_at, Ready, IsStatement}
 use Rattle.engine_ready.specs.Words.{then_word}
 use Rattle.engine_ready.proofs.Statements.{no_steps, absent, ready_after_lem, skipped, choice_word, loop_word, loop-body, sequence-runs}
 use Rattle.engine_data.specs.Visit.{Visit}
 use Rattle.engine_data.specs.Data.{work_at}
-use Rattle.engine_data.proofs.Data.{on_word, on-refused, on-stuck}
+use Rattle.engine_data.proofs.Data.{on_word, on_stop}
 
 -- ---- fewer steps are left
 
-pub word_left : (s : List ℕ) (x : Context) (st lo : List ℤ) (n l : ℕ) (z : ℤ) (m : ℕ) → work.Word z m ≡ work_of (eval_of s x st lo n l) → m < l
+pub word_left : (s : List ℕ) (x : Context) (st lo : List ℤ) (n l : ℕ) (z : ℤ) (m : ℕ) → Ok (z, m) ≡ work_of (eval_of s x st lo n l) → m < l
 unfolding work_of
 word_left s x st lo n l z m e = go (eval_of s x st lo n l) (eval_left s x st lo n l) e
   where
-    is_word : Work → Bool
-    is_word (work.Word z l) = true
-    is_word (work.Refused k l) = false
-    is_word work.Stuck = false
-
-    left_of : Work → ℕ
-    left_of (work.Word z l) = l
-    left_of (work.Refused k l) = l
-    left_of work.Stuck = 0
-
-    go : (o : Out) → Within l o → work.Word z m ≡ work_of o → m < l
-    go (out.Val v k) h e = let q = ap left_of e in omega arith
-    go (out.Refused k j) h e = absurd (true_false {b = true} refl (ap is_word e))
-    go out.Stuck h e = absurd (true_false {b = true} refl (ap is_word e))
+    go : (o : Out) → Within l o → Ok (z, m) ≡ work_of o → m < l
+    go (out.Val v k) h e = let p : ◌≡◌ {A = ℤ × ℕ} (z, m) (v.word, k) = cc in let q = ap (λ p. p.1) p in omega arith
+    go (out.Refused k j) h e = cc
+    go out.Stuck h e = cc
 
 pub done_left : (s : List ℕ) (depth : ℕ) (x : Context) (n l : ℕ) (st lo : List ℤ) (m : ℕ) (st' lo' : List ℤ) → world (Done m) st' lo' ≡ run_of s depth x n l st lo → m < l
 done_left s depth x n l st lo m st' lo' e = subst (λ v. RanWithin l v.ran) (sym e) (run-left s depth x n l st lo)
@@ -65,13 +54,14 @@ module _ (v : World) (K : ℕ → List ℤ → List ℤ → World) (st lo : List
   unfolding go_on
   then_done m e = ap (λ v. then_run v K) e
 
-  pub then_refused : (k m : ℕ) → world (Refused k m) st lo ≡ v → world (Refused k m) st lo ≡ then_run v K
+  pub then_stopped : (d : Stop) → world (ran_of (Err d)) st lo ≡ v → world (ran_of (Err d)) st lo ≡ then_run v K
   unfolding go_on
-  then_refused k m e = ap (λ v. then_run v K) e
+  then_stopped (stop.Refused k m) e = ap (λ v. then_run v K) e
+  then_stopped stop.Stuck e = ap (λ v. then_run v K) e
 
-  pub then_stuck : world Stuck st lo ≡ v → world Stuck st lo ≡ then_run v K
-  unfolding go_on
-  then_stuck e = ap (λ v. then_run v K) e
+  -- what a `?` returns
+  pub then_stop : (o : Result ℕ Stop) (d : Stop) → IsErrAnd o (λ e. e ≡ d) → world (ran_of (Err d)) st lo ≡ v → world (ran_of o) st lo ≡ then_run v K
+  then_stop o d h e = ap (λ o. world (ran_of o) st lo) (handed_on o h) ∙ then_stopped d e
 
 -- ---- nodes
 
@@ -86,10 +76,10 @@ module _ (s w : List ℕ) (st lo : List ℤ) (ready : Ready s w st lo) (n : ℕ)
   pub none_left : (depth l : ℕ) → l ≡ 0 → world (Refused 10 0) st lo ≡ run_of s depth x n l st lo
   none_left depth l e = rw e (sym (no_steps s w st lo ready depth n))
 
-  pub no_node : (depth l : ℕ) → (l ≡ 0 → ⊥) → record_of s nodes n ≡ Absent → world Stuck st lo ≡ run_of s depth x n l st lo
+  pub no_node : (depth l : ℕ) → (l ≡ 0 → ⊥) → record_of s nodes n ≡ None → world Stuck st lo ≡ run_of s depth x n l st lo
   no_node depth l h e = sym (ap (λ l. run_of s depth x n l st lo) (step_there l h) ∙ absent s w st lo ready depth n (l - 1) e)
 
-  module _ (r : Record) (there : record_of s nodes n ≡ Present r) where
+  module _ (r : Record) (there : record_of s nodes n ≡ Some r) where
     -- "everything unknown", and expressions
     pub other_stuck : (depth l : ℕ) → (32 ≤ r.f0 → r.f0 ≤ 44 → ⊥) → world Stuck st lo ≡ run_of s depth x n (suc l) st lo
     unfolding with_record run_in form_of look_up
@@ -137,17 +127,14 @@ module _ (s w : List ℕ) (st lo : List ℤ) (n : ℕ) (r : Record) where
     chooses : run_of s depth (context_at s w) n (suc l) st lo ≡ then_word (work_at s w st lo r.f1 l) st lo choosing
     chooses = choice_word s w st lo v.ready n r v.there v.statement v.form depth l
 
-    pub choice_no : (z : ℤ) (m : ℕ) → work.Word z m ≡ work_at s w st lo r.f1 l → is_zero z ≡ true → run_of s depth (context_at s w) r.f3 m st lo ≡ run_of s depth (context_at s w) n (suc l) st lo
+    pub choice_no : (z : ℤ) (m : ℕ) → Ok (z, m) ≡ work_at s w st lo r.f1 l → is_zero z ≡ true → run_of s depth (context_at s w) r.f3 m st lo ≡ run_of s depth (context_at s w) n (suc l) st lo
     choice_no z m e q = ap (λ b. elim b as (λ b. World) [ true ↦ run_of s depth (context_at s w) r.f3 m st lo | false ↦ run_of s depth (context_at s w) r.f2 m st lo ]) (sym q) ∙ on_word _ st lo choosing z m e ∙ sym chooses
 
-    pub choice_yes : (z : ℤ) (m : ℕ) → work.Word z m ≡ work_at s w st lo r.f1 l → is_zero z ≡ false → run_of s depth (context_at s w) r.f2 m st lo ≡ run_of s depth (context_at s w) n (suc l) st lo
+    pub choice_yes : (z : ℤ) (m : ℕ) → Ok (z, m) ≡ work_at s w st lo r.f1 l → is_zero z ≡ false → run_of s depth (context_at s w) r.f2 m st lo ≡ run_of s depth (context_at s w) n (suc l) st lo
     choice_yes z m e q = ap (λ b. elim b as (λ b. World) [ true ↦ run_of s depth (context_at s w) r.f3 m st lo | false ↦ run_of s depth (context_at s w) r.f2 m st lo ]) (sym q) ∙ on_word _ st lo choosing z m e ∙ sym chooses
 
-    pub choice-refused : (k m : ℕ) → work.Refused k m ≡ work_at s w st lo r.f1 l → world (Refused k m) st lo ≡ run_of s depth (context_at s w) n (suc l) st lo
-    choice-refused k m e = on-refused _ st lo choosing k m e ∙ sym chooses
-
-    pub choice-stuck : work.Stuck ≡ work_at s w st lo r.f1 l → world Stuck st lo ≡ run_of s depth (context_at s w) n (suc l) st lo
-    choice-stuck e = on-stuck _ st lo choosing e ∙ sym chooses
+    pub choice_stop : (o : Result ℕ Stop) (d : Stop) → IsErrAnd o (λ e. e ≡ d) → Err d ≡ work_at s w st lo r.f1 l → world (ran_of o) st lo ≡ run_of s depth (context_at s w) n (suc l) st lo
+    choice_stop o d h e = on_stop _ st lo choosing o d h e ∙ sym chooses
 
   -- ---- a loop
 
@@ -158,26 +145,20 @@ module _ (s w : List ℕ) (st lo : List ℤ) (n : ℕ) (r : Record) where
     turns : run_of s depth (context_at s w) n (suc l) st lo ≡ then_word (work_at s w st lo r.f1 l) st lo turning
     turns = loop_word s w st lo v.ready n r v.there v.statement v.form depth l
 
-    pub loop_ends : (z : ℤ) (m : ℕ) → work.Word z m ≡ work_at s w st lo r.f1 l → is_zero z ≡ true → world (Done m) st lo ≡ run_of s depth (context_at s w) n (suc l) st lo
+    pub loop_ends : (z : ℤ) (m : ℕ) → Ok (z, m) ≡ work_at s w st lo r.f1 l → is_zero z ≡ true → world (Done m) st lo ≡ run_of s depth (context_at s w) n (suc l) st lo
     loop_ends z m e q = ap (λ b. elim b as (λ b. World) [ true ↦ world (Done m) st lo | false ↦ then_run (run_of s depth (context_at s w) r.f2 m st lo) (λ m st lo. run_of s depth (context_at s w) n m st lo) ]) (sym q) ∙ on_word _ st lo turning z m e ∙ sym turns
 
-    pub loop-refused : (k m : ℕ) → work.Refused k m ≡ work_at s w st lo r.f1 l → world (Refused k m) st lo ≡ run_of s depth (context_at s w) n (suc l) st lo
-    loop-refused k m e = on-refused _ st lo turning k m e ∙ sym turns
-
-    pub loop-stuck : work.Stuck ≡ work_at s w st lo r.f1 l → world Stuck st lo ≡ run_of s depth (context_at s w) n (suc l) st lo
-    loop-stuck e = on-stuck _ st lo turning e ∙ sym turns
+    pub loop_stop : (o : Result ℕ Stop) (d : Stop) → IsErrAnd o (λ e. e ≡ d) → Err d ≡ work_at s w st lo r.f1 l → world (ran_of o) st lo ≡ run_of s depth (context_at s w) n (suc l) st lo
+    loop_stop o d h e = on_stop _ st lo turning o d h e ∙ sym turns
 
     -- a turn
-    module _ (z : ℤ) (m : ℕ) (e : work.Word z m ≡ work_at s w st lo r.f1 l) (q : is_zero z ≡ false) where
+    module _ (z : ℤ) (m : ℕ) (e : Ok (z, m) ≡ work_at s w st lo r.f1 l) (q : is_zero z ≡ false) where
       turn : then_run (run_of s depth (context_at s w) r.f2 m st lo) (λ m st lo. run_of s depth (context_at s w) n m st lo) ≡ run_of s depth (context_at s w) n (suc l) st lo
       turn = ap (λ b. elim b as (λ b. World) [ true ↦ world (Done m) st lo | false ↦ then_run (run_of s depth (context_at s w) r.f2 m st lo) (λ m st lo. run_of s depth (context_at s w) n m st lo) ]) (sym q) ∙ on_word _ st lo turning z m e ∙ sym turns
 
       module _ (st' lo' : List ℤ) where
-        pub turn_refused : (k j : ℕ) → world (Refused k j) st' lo' ≡ run_of s depth (context_at s w) r.f2 m st lo → world (Refused k j) st' lo' ≡ run_of s depth (context_at s w) n (suc l) st lo
-        turn_refused k j h = then_refused _ (λ m st lo. run_of s depth (context_at s w) n m st lo) st' lo' k j h ∙ turn
-
-        pub turn_stuck : world Stuck st' lo' ≡ run_of s depth (context_at s w) r.f2 m st lo → world Stuck st' lo' ≡ run_of s depth (context_at s w) n (suc l) st lo
-        turn_stuck h = then_stuck _ (λ m st lo. run_of s depth (context_at s w) n m st lo) st' lo' h ∙ turn
+        pub turn_stop : (o : Result ℕ Stop) (d : Stop) → IsErrAnd o (λ e. e ≡ d) → world (ran_of (Err d)) st' lo' ≡ run_of s depth (context_at s w) r.f2 m st lo → world (ran_of o) st' lo' ≡ run_of s depth (context_at s w) n (suc l) st lo
+        turn_stop o d i h = then_stop _ (λ m st lo. run_of s depth (context_at s w) n m st lo) st' lo' o d i h ∙ turn
 
         module _ (j : ℕ) (h : world (Done j) st' lo' ≡ run_of s depth (context_at s w) r.f2 m st lo) where
           pub turn_visit : Visit s w st' lo' n r loop
@@ -202,25 +183,13 @@ module _ (s w : List ℕ) (st lo : List ℤ) (n : ℕ) (r : Record) where
     pub first_done : (m : ℕ) → world (Done m) st' lo' ≡ run_of s depth (context_at s w) r.f1 l st lo → run_of s depth (context_at s w) r.f2 m st' lo' ≡ run_of s depth (context_at s w) n (suc l) st lo
     first_done m h = then_done _ onward st' lo' m h ∙ sym runs
 
-    pub first-refused : (k m : ℕ) → world (Refused k m) st' lo' ≡ run_of s depth (context_at s w) r.f1 l st lo → world (Refused k m) st' lo' ≡ run_of s depth (context_at s w) n (suc l) st lo
-    first-refused k m h = then_refused _ onward st' lo' k m h ∙ sym runs
-
-    pub first-stuck : world Stuck st' lo' ≡ run_of s depth (context_at s w) r.f1 l st lo → world Stuck st' lo' ≡ run_of s depth (context_at s w) n (suc l) st lo
-    first-stuck h = then_stuck _ onward st' lo' h ∙ sym runs
+    pub first_stop : (o : Result ℕ Stop) (d : Stop) → IsErrAnd o (λ e. e ≡ d) → world (ran_of (Err d)) st' lo' ≡ run_of s depth (context_at s w) r.f1 l st lo → world (ran_of o) st' lo' ≡ run_of s depth (context_at s w) n (suc l) st lo
+    first_stop o d i h = then_stop _ onward st' lo' o d i h ∙ sym runs
 
 -- ---- as code meets them
 
-pub with_ran : {o o' : Ran} {st lo : List ℤ} {v : World} → o ≡ o' → world o st lo ≡ v → world o' st lo ≡ v
-with_ran {st = st} {lo = lo} e h = ap (λ o. world o st lo) (sym e) ∙ h
-
 pub step_back : {v : World} (s : List ℕ) (depth : ℕ) (x : Context) (n l : ℕ) (st lo : List ℤ) → (l ≡ 0 → ⊥) → v ≡ run_of s depth x n (suc (l - 1)) st lo → v ≡ run_of s depth x n l st lo
 step_back s depth x n l st lo h e = e ∙ ap (λ l. run_of s depth x n l st lo) (sym (step_there l h))
-
-pub past_four : {m op : ℕ} → m ≤ op → (op ≡ m → ⊥) → (op ≡ suc m → ⊥) → (op ≡ suc (suc m) → ⊥) → (op ≡ suc (suc (suc m)) → ⊥) → suc (suc (suc (suc m))) ≤ op
-past_four h a b c d = beyond (beyond (beyond (beyond h a) b) c) d
-
-pub below_next : {a b : ℕ} → a < suc b → a ≤ b
-below_next h = omega arith
 
 module _ (op : ℕ) where
   pub form-assign-element : op ≡ 44 → form_of op ≡ assign_element

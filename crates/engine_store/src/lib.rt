@@ -60,7 +60,11 @@ pub fn put_clock(
     requires { at + 8 ≤ length st.old }
     ensures { st.new ≡ put_words st.old at (running ∷ value ∷ period ∷ name ∷ get_or d.now 0 (pos 0) ∷ get_or d.now 1 (pos 0) ∷ get_or d.now 2 (pos 0) ∷ get_or d.now 3 (pos 0) ∷ []) }
 {
-    engine_rows::put_words(st, at, running, value, period, name, d[0], d[1], d[2], d[3]);
+    engine_rows::put_words(
+        st,
+        at,
+        [running, value, period, name, d[0], d[1], d[2], d[3]],
+    );
 }
 
 // A cell's first word, the others 0, whatever stood there: a default, or a clock that starts or stops.
@@ -68,5 +72,5 @@ pub fn set_cell(st: &mut [i32], at: usize, z: i32)
     requires { at + 8 ≤ length st.old }
     ensures { st.new ≡ put_words st.old at (z ∷ replicate 7 (pos 0)) }
 {
-    engine_rows::put_words(st, at, z, 0, 0, 0, 0, 0, 0, 0);
+    engine_rows::put_words(st, at, [z, 0, 0, 0, 0, 0, 0, 0]);
 }

@@ -1,4 +1,5 @@
 -- What the code of a clock's tick comes to.
+use Rattle.std.specs.Prelude.{Ok, Err}
 use Prim.Native.Nat.{ℕ, zero, suc, ◌+◌, ◌-◌, ◌<◌, ◌≤◌}
 use mathlib.Core.Path.{◌≡◌, refl, sym, ap, ◌∙◌}
 use mathlib.Core.List.{List, [], ◌∷◌}
@@ -56,20 +57,19 @@ pub number_back_lem : (z : ℤ) → le_z (pos 0) z ≡ true → z ≡ pos (nat_a
 number_back_lem (pos k) h = refl
 number_back_lem (negsuc k) h = absurd (true≢false (sym h))
 
--- ---- what a number says
+-- ---- what an answer says
 
-pub then_refused : (r : Changed) (n : ℕ) (st st' : List ℤ) (K : List ℤ → Changed) → r ≡ changed_to n st → (n ≡ 0 → ⊥) → then_slice r K ≡ changed_to n st'
+pub then_refused : (r : Changed) (n : ℕ) (st st' : List ℤ) (K : List ℤ → Changed) → r ≡ changed_to (Err n) st → then_slice r K ≡ changed_to (Err n) st'
 unfolding changed_to then_slice
-then_refused r zero st st' K e h = absurd (h refl)
-then_refused r (suc n) st st' K e h = rw e refl
+then_refused r n st st' K e = rw e refl
 
-pub then_done : (r : Changed) (n : ℕ) (st : List ℤ) (K : List ℤ → Changed) → r ≡ changed_to n st → n ≡ 0 → then_slice r K ≡ K st
+pub then_done : (r : Changed) (u : Unit {0}) (st : List ℤ) (K : List ℤ → Changed) → r ≡ changed_to (Ok u) st → then_slice r K ≡ K st
 unfolding changed_to then_slice
-then_done r n st K e h = rw (e, h) refl
+then_done r u st K e = rw e refl
 
-pub goes_on_lem : (r : Changed) (n : ℕ) (st : List ℤ) → r ≡ changed_to n st → n ≡ 0 → r ≡ on st
+pub goes_on_lem : (r : Changed) (u : Unit {0}) (st : List ℤ) → r ≡ changed_to (Ok u) st → r ≡ on st
 unfolding changed_to
-goes_on_lem r n st e h = rw (e, h) refl
+goes_on_lem r u st e = e
 
 pub on-words : (a b : List ℤ) → on a ≡ on b → a ≡ b
 on-words a b e = ap words e

@@ -13,20 +13,20 @@ ghost use Rattle.engine_ticks.specs.Running.{Running};
 use machine::Telegram;
 
 // "plus 1, or 6 at 2,147,483,647"
-pub fn tick_timer(st: &mut [i32], at: usize) -> u8
+pub fn tick_timer(st: &mut [i32], at: usize) -> Result<(), u8>
     requires { Running st.old at }
     ensures { (s : List ℕ) (e : ℕ) → ticks s e 4 at st.old ≡ changed_to result st.new }
 {
     let value = st[at + 1];
     if value == 2147483647 {
-        return 6;
+        return Err(6);
     }
     st[at + 1] = value + 1;
-    0
+    Ok(())
 }
 
 // A clock's telegram is appended.
-fn fire(st: &mut [i32], e: usize, at: usize) -> u8
+fn fire(st: &mut [i32], e: usize, at: usize) -> Result<(), u8>
     requires { Running st.old at × (e < 64) }
     ensures { (s : List ℕ) → length st.old ≡ state_length s → appended s st.old (clock_telegram e st.old at) ≡ changed_to result st.new }
 {
@@ -44,39 +44,33 @@ fn fire(st: &mut [i32], e: usize, at: usize) -> u8
 }
 
 // "at 1 its telegram is appended and it stops, otherwise minus 1"
-pub fn tick_timeout(st: &mut [i32], e: usize, at: usize) -> u8
+pub fn tick_timeout(st: &mut [i32], e: usize, at: usize) -> Result<(), u8>
     requires { Running st.old at × (e < 64) }
     ensures { (s : List ℕ) → length st.old ≡ state_length s → is_below (word_of st.old (at + 3)) (count_of s names) ≡ true → ticks s e 5 at st.old ≡ changed_to result st.new }
 {
     let value = st[at + 1];
     if value != 1 {
         st[at + 1] = value - 1;
-        return 0;
+        return Ok(());
     }
-    let n = fire(st, e, at);
-    if n != 0 {
-        return n;
-    }
+    fire(st, e, at)?;
     engine_store::set_cell(st, at, 0);
-    0
+    Ok(())
 }
 
 // "at 0 its telegram is appended and value becomes period − 1, otherwise minus 1"
-pub fn tick_cycler(st: &mut [i32], e: usize, at: usize) -> u8
+pub fn tick_cycler(st: &mut [i32], e: usize, at: usize) -> Result<(), u8>
     requires { Running st.old at × (e < 64) }
     ensures { (s : List ℕ) → length st.old ≡ state_length s → is_below (word_of st.old (at + 3)) (count_of s names) ≡ true → ticks s e 6 at st.old ≡ changed_to result st.new }
 {
     let value = st[at + 1];
     if value != 0 {
         st[at + 1] = value - 1;
-        return 0;
+        return Ok(());
     }
     let period = st[at + 2];
     let next = period - 1;
-    let n = fire(st, e, at);
-    if n != 0 {
-        return n;
-    }
+    fire(st, e, at)?;
     engine_store::set_word(st, at + 1, next);
-    0
+    Ok(())
 }

@@ -1,14 +1,13 @@
 // The cell of a variable: a value and zeros, or a clock, stopped or running.
 #![tactic(auto)]
 
-ghost use Rattle.std.specs.Prelude.{◌≡◌, ℕ, ◌+◌, ◌≤◌, length};
-ghost use Rattle.sheet.specs.declared.Found.TheVariants.{Present};
-ghost use Rattle.sheet.specs.Sheet.{directory_of};
+ghost use Rattle.std.specs.Prelude.{◌≡◌, ℕ, ◌+◌, ◌≤◌, length, Some};
 ghost use Rattle.machine.specs.Values.{chart_of};
 ghost use Rattle.machine.specs.Valid.{zero_words, running_clock, clock_cell, cell_fits};
 ghost use Rattle.engine_valid_cells.specs.Parts.{value_fits};
 
-use sheet::{Directory, Record};
+use sheet::Record;
+use sheet_opened::Reader;
 
 // Whether the words from `at + from` on, up to `at + 8`, are zero.
 pub fn zero_words(st: &[i32], at: usize, from: usize) -> bool
@@ -20,12 +19,10 @@ pub fn zero_words(st: &[i32], at: usize, from: usize) -> bool
     }
     let count = 8 - from;
     let first = at + from;
-    let mut k: usize = 0;
-    while k < count {
+    for k in 0..count {
         if !engine_valid_words::zero_at(st, first + k) {
             return false;
         }
-        k += 1;
     }
     true
 }
@@ -46,16 +43,9 @@ fn value_fits(t: usize, value: i32, period: i32) -> bool
     engine_valid_words::less(value, period)
 }
 
-fn running_clock(
-    sheet: &[u8],
-    directory: &Directory,
-    c: Record,
-    t: usize,
-    st: &[i32],
-    at: usize,
-) -> bool
-    requires { (directory.now ≡ directory_of sheet.now) × (at + 8 ≤ length st.now) }
-    ensures { (e : ℕ) → chart_of sheet.now e ≡ Present c → result ≡ running_clock sheet.now e t st.now at }
+fn running_clock(sheet: &Reader, c: Record, t: usize, st: &[i32], at: usize) -> bool
+    requires { at + 8 ≤ length st.now }
+    ensures { (e : ℕ) → chart_of sheet.now e ≡ Some c → result ≡ running_clock sheet.now e t st.now at }
 {
     let value = engine_valid_words::word(st, at + 1);
     let period = engine_valid_words::word(st, at + 2);
@@ -68,27 +58,15 @@ fn running_clock(
     if !value_fits(t, value, period) {
         return false;
     }
-    if !engine_valid_names::name_fits(sheet, directory, 1, st, at + 3) {
+    if !engine_valid_names::name_fits(sheet, 1, st, at + 3) {
         return false;
     }
-    engine_valid_names::has_reaction(
-        sheet,
-        directory,
-        c,
-        engine_valid_words::number_at(st, at + 3),
-    )
+    engine_valid_names::has_reaction(sheet, c, engine_valid_words::number_at(st, at + 3))
 }
 
-fn clock_cell(
-    sheet: &[u8],
-    directory: &Directory,
-    c: Record,
-    t: usize,
-    st: &[i32],
-    at: usize,
-) -> bool
-    requires { (directory.now ≡ directory_of sheet.now) × (at + 8 ≤ length st.now) }
-    ensures { (e : ℕ) → chart_of sheet.now e ≡ Present c → result ≡ clock_cell sheet.now e t st.now at }
+fn clock_cell(sheet: &Reader, c: Record, t: usize, st: &[i32], at: usize) -> bool
+    requires { at + 8 ≤ length st.now }
+    ensures { (e : ℕ) → chart_of sheet.now e ≡ Some c → result ≡ clock_cell sheet.now e t st.now at }
 {
     if engine_valid_words::zero_at(st, at) {
         return zero_words(st, at, 1);
@@ -96,25 +74,18 @@ fn clock_cell(
     if !engine_valid_words::below_at(st, at, 2) {
         return false;
     }
-    running_clock(sheet, directory, c, t, st, at)
+    running_clock(sheet, c, t, st, at)
 }
 
 // The cell at `at` of a variable of type t of an element that is bound to chart c.
-pub fn cell_fits(
-    sheet: &[u8],
-    directory: &Directory,
-    c: Record,
-    t: usize,
-    st: &[i32],
-    at: usize,
-) -> bool
-    requires { (directory.now ≡ directory_of sheet.now) × (at + 8 ≤ length st.now) }
-    ensures { (e : ℕ) → chart_of sheet.now e ≡ Present c → result ≡ cell_fits sheet.now e t st.now at }
+pub fn cell_fits(sheet: &Reader, c: Record, t: usize, st: &[i32], at: usize) -> bool
+    requires { at + 8 ≤ length st.now }
+    ensures { (e : ℕ) → chart_of sheet.now e ≡ Some c → result ≡ cell_fits sheet.now e t st.now at }
 {
     if sheet_types::is_clock(t) {
-        return clock_cell(sheet, directory, c, t, st, at);
+        return clock_cell(sheet, c, t, st, at);
     }
-    if !engine_valid_values::value_at(sheet, directory, t, st, at) {
+    if !engine_valid_values::value_at(sheet, t, st, at) {
         return false;
     }
     zero_words(st, at, 1)

@@ -30,15 +30,13 @@ pub fn classes_fit(st: &[i32], n: usize) -> bool
         return true;
     }
     let mut counts = [0u8; 4160];
-    let mut j: usize = 0;
-    while j < n {
+    for j in 0..n {
         let k = class_number(st, engine_store::place_at(st.len(), j));
         let count = counts[k];
         if count == 16 {
             return false;
         }
         counts[k] = count + 1;
-        j += 1;
     }
     true
 }

@@ -2,7 +2,6 @@
 #![tactic(auto)]
 
 ghost use Rattle.std.specs.Prelude.{◌≡◌, List, ℕ, length};
-ghost use Rattle.sheet.specs.Sheet.{directory_of};
 ghost use Rattle.machine.specs.Kinds as kind;
 ghost use Rattle.machine.specs.Play.{words_of_event};
 ghost use Rattle.machine_events.specs.Event.{event_of, is_malformed};
@@ -10,24 +9,25 @@ ghost use Rattle.engine_valid_events.specs.Read.{read_as};
 
 use machine::EVENT_WORDS;
 use machine_events::Event;
-use sheet::Directory;
+use sheet_opened::Reader;
 
 // Each kind's words, or Malformed.
-fn outside(sheet: &[u8], directory: &Directory, ev: &[i32]) -> Event
-    requires { (directory.now ≡ directory_of sheet.now) × (length ev.now ≡ words_of_event) }
+fn outside(sheet: &Reader, ev: &[i32]) -> Event
+    requires { length ev.now ≡ words_of_event }
     ensures { result ≡ read_as sheet.now ev.now kind.outside }
 {
-    if engine_valid_kinds::outside_formed(sheet, directory, ev) {
+    if engine_valid_kinds::outside_formed(sheet, ev) {
         return Event::Outside(engine_rows::telegram_in(ev, 1));
     }
     Event::Malformed
 }
 
-fn deliver(sheet: &[u8], directory: &Directory, ev: &[i32]) -> Event
-    requires { (directory.now ≡ directory_of sheet.now) × (length ev.now ≡ words_of_event) }
+// Like Corrupt but for the case that it makes, which is what an event's word tells.
+fn deliver(sheet: &Reader, ev: &[i32]) -> Event
+    requires { length ev.now ≡ words_of_event }
     ensures { result ≡ read_as sheet.now ev.now kind.deliver }
 {
-    if engine_valid_kinds::deliver_formed(sheet, directory, ev) {
+    if engine_valid_kinds::deliver_formed(sheet, ev) {
         return Event::Deliver {
             sender: engine_valid_words::word(ev, 1),
             receiver: engine_valid_words::word(ev, 2),
@@ -36,11 +36,11 @@ fn deliver(sheet: &[u8], directory: &Directory, ev: &[i32]) -> Event
     Event::Malformed
 }
 
-fn corrupt(sheet: &[u8], directory: &Directory, ev: &[i32]) -> Event
-    requires { (directory.now ≡ directory_of sheet.now) × (length ev.now ≡ words_of_event) }
+fn corrupt(sheet: &Reader, ev: &[i32]) -> Event
+    requires { length ev.now ≡ words_of_event }
     ensures { result ≡ read_as sheet.now ev.now kind.corrupt }
 {
-    if engine_valid_kinds::corrupt_formed(sheet, directory, ev) {
+    if engine_valid_kinds::corrupt_formed(sheet, ev) {
         return Event::Corrupt {
             sender: engine_valid_words::word(ev, 1),
             receiver: engine_valid_words::word(ev, 2),
@@ -49,11 +49,11 @@ fn corrupt(sheet: &[u8], directory: &Directory, ev: &[i32]) -> Event
     Event::Malformed
 }
 
-fn inner(sheet: &[u8], directory: &Directory, ev: &[i32]) -> Event
-    requires { (directory.now ≡ directory_of sheet.now) × (length ev.now ≡ words_of_event) }
+fn inner(sheet: &Reader, ev: &[i32]) -> Event
+    requires { length ev.now ≡ words_of_event }
     ensures { result ≡ read_as sheet.now ev.now kind.inner }
 {
-    if engine_valid_kinds::inner_formed(sheet, directory, ev) {
+    if engine_valid_kinds::inner_formed(sheet, ev) {
         return Event::Inner {
             receiver: engine_valid_words::word(ev, 2),
         };
@@ -72,8 +72,7 @@ fn slice(ev: &[i32]) -> Event
 }
 
 // An event's words taken apart. A Slice, kind 5, uses no other word.
-pub fn event_of(sheet: &[u8], directory: &Directory, ev: &[i32]) -> Event
-    requires { directory.now ≡ directory_of sheet.now }
+pub fn event_of(sheet: &Reader, ev: &[i32]) -> Event
     ensures { result ≡ event_of sheet.now ev.now }
 {
     if ev.len() != EVENT_WORDS {
@@ -81,10 +80,10 @@ pub fn event_of(sheet: &[u8], directory: &Directory, ev: &[i32]) -> Event
     }
     let kind = engine_valid_words::word(ev, 0);
     match kind {
-        1 => outside(sheet, directory, ev),
-        2 => deliver(sheet, directory, ev),
-        3 => corrupt(sheet, directory, ev),
-        4 => inner(sheet, directory, ev),
+        1 => outside(sheet, ev),
+        2 => deliver(sheet, ev),
+        3 => corrupt(sheet, ev),
+        4 => inner(sheet, ev),
         5 => slice(ev),
         _ => Event::Malformed,
     }

@@ -1,4 +1,5 @@
 -- Laws of the tests of a state, and what is known of the waiting telegrams once the tests before are passed.
+use Rattle.std.specs.Prelude.{None}
 use Prim.Native.Nat.{ℕ, ◌+◌, ◌≤◌, ◌<◌}
 use mathlib.Core.Path.{◌≡◌, refl, ◌∙◌}
 use mathlib.Core.List.{List}
@@ -7,7 +8,6 @@ use native.Mathlib.Omega.{arith}
 use lib.ListN.{length}
 use lib.IntN.{ℤ, pos, nat_abs}
 use lib.Signed.{le_z}
-use Rattle.sheet.specs.declared.Found.TheVariants.{Absent}
 use Rattle.sheet.specs.All.{all_below}
 use Rattle.sheet.proofs.All.{and_first, and_second, all-at}
 use Rattle.sheet_rules.specs.Fields.{components_of, externals_of, elements_of}
@@ -34,7 +34,7 @@ pub cells_are : (s : List ℕ) (st : List ℤ) (from : ℕ) → from ≡ externa
 unfolding cells_fit
 cells_are s st from p = rw p refl
 
-pub no_element : (s : List ℕ) (st : List ℤ) (e : ℕ) → chart_of s e ≡ Absent → element_fits s st e ≡ false
+pub no_element : (s : List ℕ) (st : List ℤ) (e : ℕ) → chart_of s e ≡ None → element_fits s st e ≡ false
 unfolding element_fits
 no_element s st e p = holds_absent (chart_of s e) _ p
 

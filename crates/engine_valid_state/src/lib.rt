@@ -3,10 +3,9 @@
 
 ghost use Rattle.std.specs.Prelude.{◌≡◌, ◌≤◌, length};
 ghost use Rattle.machine.specs.Valid.{head_fits, cells_fit, content_fits};
-ghost use Rattle.engine_cells.specs.Lent.{Lent};
+ghost use Rattle.machine.specs.State.{state_length};
 
-use engine_cells::CellLayout;
-use sheet::{Directory, Found};
+use engine_cells::Yard;
 
 fn head_fits(st: &[i32]) -> bool
     requires { 8 ≤ length st.now }
@@ -18,39 +17,37 @@ fn head_fits(st: &[i32]) -> bool
     engine_valid_cells::zero_words(st, 0, 1)
 }
 
-fn cells_fit(sheet: &[u8], directory: &Directory, cells: &CellLayout, st: &[i32]) -> bool
-    requires { Lent sheet.now directory.now cells.now st.now }
-    ensures { result ≡ cells_fit sheet.now st.now }
+fn cells_fit(yard: &Yard, st: &[i32]) -> bool
+    requires { length st.now ≡ state_length yard.now.sheet }
+    ensures { result ≡ cells_fit yard.now.sheet st.now }
 {
-    let from = engine_valid_values::externals(sheet, directory);
-    let count = engine_cells::elements(sheet, directory);
-    let mut i: usize = 0;
-    while i < count {
+    let from = engine_valid_values::externals(&yard.sheet);
+    let count = yard.elements();
+    for i in 0..count {
         let e = from + i;
-        let Found::Present(c) = engine_cells::chart_of(sheet, directory, cells, e) else {
+        let Some(c) = yard.chart(e) else {
             return false;
         };
-        if !engine_valid_elements::element_fits(sheet, directory, cells, c, e, st) {
+        if !engine_valid_elements::element_fits(yard, c, e, st) {
             return false;
         }
-        i += 1;
     }
     true
 }
 
 // Whether all that the paper says of a state's content holds.
-pub fn content_fits(sheet: &[u8], directory: &Directory, cells: &CellLayout, st: &[i32]) -> bool
-    requires { Lent sheet.now directory.now cells.now st.now }
-    ensures { result ≡ content_fits sheet.now st.now }
+pub fn content_fits(yard: &Yard, st: &[i32]) -> bool
+    requires { length st.now ≡ state_length yard.now.sheet }
+    ensures { result ≡ content_fits yard.now.sheet st.now }
 {
     if !head_fits(st) {
         return false;
     }
-    if !cells_fit(sheet, directory, cells, st) {
+    if !cells_fit(yard, st) {
         return false;
     }
     let n = engine_valid_words::number_at(st, 0);
-    if !engine_valid_waiting::waiting_fit(sheet, directory, cells, st, n) {
+    if !engine_valid_waiting::waiting_fit(yard, st, n) {
         return false;
     }
     if !engine_valid_waiting::unused_zero(st, n) {

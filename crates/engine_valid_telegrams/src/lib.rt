@@ -3,15 +3,11 @@
 
 ghost use Rattle.std.specs.Prelude.{◌≡◌, true, ◌+◌, ◌≤◌, length, pos};
 ghost use Rattle.std.specs.Int.Signed.{le_z};
-ghost use Rattle.sheet.specs.Sheet.{directory_of};
-ghost use Rattle.sheet_rules.specs.declared.Checked.TheVariants.{Passed};
-ghost use Rattle.sheet_rules.specs.Check.{check_of};
 ghost use Rattle.machine.specs.State.{word_of, telegram_in, is_internal};
 ghost use Rattle.machine.specs.Valid.{internal_fits, external_fits, telegram_fits};
-ghost use Rattle.engine_cells.specs.Cells.{CellTable};
 
-use engine_cells::CellLayout;
-use sheet::{Directory, Found};
+use engine_cells::Yard;
+use sheet_opened::Reader;
 
 pub fn is_internal(st: &[i32], at: usize) -> bool
     requires { at + 8 ≤ length st.now }
@@ -20,15 +16,9 @@ pub fn is_internal(st: &[i32], at: usize) -> bool
     engine_valid_words::same(engine_valid_words::word(st, at + 2), -1)
 }
 
-fn internal_fits(
-    sheet: &[u8],
-    directory: &Directory,
-    cells: &CellLayout,
-    st: &[i32],
-    at: usize,
-) -> bool
-    requires { (directory.now ≡ directory_of sheet.now) × (check_of sheet.now ≡ Passed) × CellTable sheet.now cells.now × (at + 8 ≤ length st.now) × (le_z (pos 0) (word_of st.now (at + 1)) ≡ true) }
-    ensures { result ≡ internal_fits sheet.now (telegram_in st.now at) }
+fn internal_fits(yard: &Yard, st: &[i32], at: usize) -> bool
+    requires { (at + 8 ≤ length st.now) × (le_z (pos 0) (word_of st.now (at + 1)) ≡ true) }
+    ensures { result ≡ internal_fits yard.now.sheet (telegram_in st.now at) }
 {
     let sender = engine_valid_words::word(st, at);
     let receiver = engine_valid_words::word(st, at + 1);
@@ -36,51 +26,40 @@ fn internal_fits(
         return false;
     }
     let e = engine_valid_words::number_at(st, at + 1);
-    if !engine_valid_values::is_bound(sheet, directory, e) {
+    if !engine_valid_values::is_bound(&yard.sheet, e) {
         return false;
     }
-    if !engine_valid_names::name_fits(sheet, directory, 1, st, at + 3) {
+    if !engine_valid_names::name_fits(&yard.sheet, 1, st, at + 3) {
         return false;
     }
-    let Found::Present(c) = engine_cells::chart_of(sheet, directory, cells, e) else {
+    let Some(c) = yard.chart(e) else {
         return false;
     };
-    engine_valid_names::has_reaction(
-        sheet,
-        directory,
-        c,
-        engine_valid_words::number_at(st, at + 3),
-    )
+    engine_valid_names::has_reaction(&yard.sheet, c, engine_valid_words::number_at(st, at + 3))
 }
 
-fn external_fits(sheet: &[u8], directory: &Directory, st: &[i32], at: usize) -> bool
-    requires { (directory.now ≡ directory_of sheet.now) × (at + 8 ≤ length st.now) }
+fn external_fits(sheet: &Reader, st: &[i32], at: usize) -> bool
+    requires { at + 8 ≤ length st.now }
     ensures { result ≡ external_fits sheet.now (telegram_in st.now at) }
 {
-    if engine_valid_values::both_external(sheet, directory, st, at) {
+    if engine_valid_values::both_external(sheet, st, at) {
         return false;
     }
-    if !engine_valid_words::below_at(st, at + 2, engine_valid_values::ports(sheet, directory)) {
+    if !engine_valid_words::below_at(st, at + 2, engine_valid_values::ports(sheet)) {
         return false;
     }
-    engine_valid_names::name_fits(sheet, directory, 0, st, at + 3)
+    engine_valid_names::name_fits(sheet, 0, st, at + 3)
 }
 
-pub fn telegram_fits(
-    sheet: &[u8],
-    directory: &Directory,
-    cells: &CellLayout,
-    st: &[i32],
-    at: usize,
-) -> bool
-    requires { (directory.now ≡ directory_of sheet.now) × (check_of sheet.now ≡ Passed) × CellTable sheet.now cells.now × (at + 8 ≤ length st.now) }
-    ensures { result ≡ telegram_fits sheet.now (telegram_in st.now at) }
+pub fn telegram_fits(yard: &Yard, st: &[i32], at: usize) -> bool
+    requires { at + 8 ≤ length st.now }
+    ensures { result ≡ telegram_fits yard.now.sheet (telegram_in st.now at) }
 {
-    if !engine_valid_values::both_components(sheet, directory, st, at) {
+    if !engine_valid_values::both_components(&yard.sheet, st, at) {
         return false;
     }
     if is_internal(st, at) {
-        return internal_fits(sheet, directory, cells, st, at);
+        return internal_fits(yard, st, at);
     }
-    external_fits(sheet, directory, st, at)
+    external_fits(&yard.sheet, st, at)
 }

@@ -3,7 +3,6 @@ use Prim.Native.Nat.{ℕ, ◌-◌, ◌≤◌, ◌<◌}
 use mathlib.Core.Path.{◌≡◌, sym, ap, ◌∙◌}
 use mathlib.Core.List.{List}
 use mathlib.Core.Bool.{Bool, false}
-use native.Mathlib.Omega.{arith}
 use lib.IntN.{ℤ}
 use Rattle.sheet.specs.Table.{look_up}
 use Rattle.sheet_rules.specs.Fields.{components_of, ports_of, members_of}
@@ -37,9 +36,6 @@ module _ (s : List ℕ) (t : ℕ) (z : ℤ) where
   pub of_member : 8 ≤ t → is_below z (members_of s (t - 8)) ≡ in_type s t z
   unfolding in_type in_data_type
   of_member h = sym (ap (λ d. in_data_type s d z) (type_enumerated t h))
-
-pub from_four : (t : ℕ) → (t ≡ 0 → ⊥) → (t ≡ 1 → ⊥) → (t ≡ 2 → ⊥) → (t ≡ 3 → ⊥) → 4 ≤ t
-from_four t a b c d = omega arith
 
 -- ---- words
 

@@ -4,30 +4,20 @@
 ghost use Rattle.std.specs.Prelude.{◌≡◌, List, ℕ, length};
 ghost use Rattle.machine.specs.State.{state_length};
 ghost use Rattle.machine.specs.Valid.{waiting_fit, unused_zero};
-ghost use Rattle.engine_cells.specs.Lent.{Lent};
 ghost use Rattle.engine_valid_telegrams.specs.Waits.{Waits};
 
-use engine_cells::CellLayout;
-use sheet::Directory;
+use engine_cells::Yard;
 
 // The n waiting telegrams.
-pub fn waiting_fit(
-    sheet: &[u8],
-    directory: &Directory,
-    cells: &CellLayout,
-    st: &[i32],
-    n: usize,
-) -> bool
-    requires { Lent sheet.now directory.now cells.now st.now × Waits st.now n }
-    ensures { result ≡ waiting_fit sheet.now st.now }
+pub fn waiting_fit(yard: &Yard, st: &[i32], n: usize) -> bool
+    requires { (length st.now ≡ state_length yard.now.sheet) × Waits st.now n }
+    ensures { result ≡ waiting_fit yard.now.sheet st.now }
 {
-    let mut j: usize = 0;
-    while j < n {
+    for j in 0..n {
         let at = engine_store::place_at(st.len(), j);
-        if !engine_valid_telegrams::telegram_fits(sheet, directory, cells, st, at) {
+        if !engine_valid_telegrams::telegram_fits(yard, st, at) {
             return false;
         }
-        j += 1;
     }
     true
 }
@@ -38,13 +28,11 @@ pub fn unused_zero(st: &[i32], n: usize) -> bool
     ensures { (s : List ℕ) → length st.now ≡ state_length s → result ≡ unused_zero s st.now }
 {
     let count = engine_store::PLACES - n;
-    let mut k: usize = 0;
-    while k < count {
+    for k in 0..count {
         let at = engine_store::place_at(st.len(), n + k);
         if !engine_valid_cells::zero_words(st, at, 0) {
             return false;
         }
-        k += 1;
     }
     true
 }

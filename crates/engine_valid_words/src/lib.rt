@@ -14,6 +14,9 @@ pub fn word(st: &[i32], i: usize) -> i32
     st[i]
 }
 
+// Each of the tests below ties a machine number's comparison to the definitions' test of whole numbers: written out,
+// the tie would stand at every place that compares.
+
 pub fn at_least(a: i32, b: i32) -> bool
     ensures { result ≡ le_z b a }
 {

@@ -6,28 +6,19 @@ ghost use Rattle.std.specs.Int.{w32};
 ghost use Rattle.std.proofs.Common.{to_z};
 ghost use Rattle.engine_words.specs.Words.{number_at, signed_at, words_at};
 
-fn join(a: u8, b: u8, c: u8, d: u8) -> u32
-    ensures { (result ≡ a + 256 * b + 65536 * c + 16777216 * d) × (result < 4294967296) }
-{
-    a as u32 + 256 * (b as u32) + 65536 * (c as u32) + 16777216 * (d as u32)
-}
-
+#[tactic(auto, unfolding(crate::specs::Words::number_at))]
 pub fn number(bytes: &[u8], at: usize) -> u32
     requires { at + 4 ≤ length bytes.now }
     ensures { (result ≡ number_at bytes.now at) × (result < 4294967296) }
 {
-    join(bytes[at], bytes[at + 1], bytes[at + 2], bytes[at + 3])
+    u32::from_le_bytes([bytes[at], bytes[at + 1], bytes[at + 2], bytes[at + 3]])
 }
 
 // Two's complement.
 pub fn signed(n: u32) -> i32
     ensures { result ≡ to_z w32 n }
 {
-    if n < 2147483648 {
-        n as i32
-    } else {
-        (n as i64 - 4294967296) as i32
-    }
+    n.cast_signed()
 }
 
 fn word(bytes: &[u8], at: usize) -> i32
@@ -42,10 +33,7 @@ pub fn words(bytes: &[u8], at: usize, out: &mut [i32])
     requires { at + 4 * length out.old ≤ length bytes.now }
     ensures { out.new ≡ words_at bytes.now at (length out.old) }
 {
-    let mut i = 0;
-    while i < out.len() {
-        let z = word(bytes, at + 4 * i);
-        out[i] = z;
-        i += 1;
+    for (i, z) in out.iter_mut().enumerate() {
+        *z = word(bytes, at + 4 * i);
     }
 }

@@ -1,11 +1,9 @@
 -- What an expression gives. "Visiting a node adds one step, then its operands go in field order, then its own act."
-use Rattle.std.specs.Prelude.{ℕ, zero, suc, ◌+◌, ◌*◌, List, Bool, true, false, not, ltb, eqb, ℤ, pos, nat_abs, ◌+ℤ◌, ◌-ℤ◌, ◌*ℤ◌}
+use Rattle.std.specs.Prelude.{ℕ, zero, suc, ◌+◌, ◌*◌, List, Bool, true, false, not, ltb, eqb, ℤ, pos, nat_abs, ◌+ℤ◌, ◌-ℤ◌, ◌*ℤ◌, Option, Some, None}
 use Rattle.std.specs.Int.Signed.{lt_z}
 use Rattle.std.specs.Int.{w32}
 use Rattle.std.proofs.Common.{to_z}
 use Rattle.sheet.specs.declared.Record.{Record}
-use Rattle.sheet.specs.declared.Found.{Found}
-use Rattle.sheet.specs.declared.Found.TheVariants.{Present, Absent}
 use Rattle.sheet.specs.All.{◌and◌}
 use Rattle.sheet.specs.Names
 use Rattle.sheet.specs.Names.{declarations, nodes, declared_type, chart_variables, operator, bool_type, int_type, component_type, port_type, enumerated, is_clock, is_literal}
@@ -36,9 +34,9 @@ unfoldable pub needs : Bool → Out → Out
 needs true o = o
 needs false o = Stuck
 
-unfoldable pub on_record : Found → (Record → Out) → Out
-on_record (Present r) K = K r
-on_record Absent K = Stuck
+unfoldable pub on_record : Option Record → (Record → Out) → Out
+on_record (Some r) K = K r
+on_record None K = Stuck
 
 abbrev pub val : ℕ → ℤ → Value
 val k z = record { kind = k; word = z }

@@ -1,16 +1,12 @@
 -- Start and the five kinds of event.
-use Rattle.std.specs.Prelude.{ℕ, zero, suc, ◌+◌, ◌*◌, ◌-◌, List, [], ◌∷◌, ◌++◌, Bool, true, false, not, length, set, replicate, ltb, leb, eqb, ℤ, pos, negsuc, nat_abs, ◌+ℤ◌, ◌-ℤ◌}
+use Rattle.std.specs.Prelude.{ℕ, zero, suc, ◌+◌, ◌*◌, ◌-◌, List, [], ◌∷◌, ◌++◌, Bool, true, false, not, length, set, replicate, ltb, leb, eqb, ℤ, pos, negsuc, nat_abs, ◌+ℤ◌, ◌-ℤ◌, Option, Some, None}
 use Rattle.sheet.specs.declared.Record.{Record}
-use Rattle.sheet.specs.declared.Found.{Found}
-use Rattle.sheet.specs.declared.Found.TheVariants.{Present, Absent}
 use Rattle.sheet.specs.All.{◌and◌, all_below}
 use Rattle.sheet.specs.Names.{head, declarations, names, bodies, declared_type, data_of, step_limit, external, chart_variables, chart_bodies, role, initial, panic, external_reaction, reaction_port, reaction_name, body_parameters, root, timer_type, timeout_type, is_clock}
 use Rattle.sheet.specs.Sheet.{count_of, record_of}
 use Rattle.sheet_rules.specs.declared.Checked.{Checked}
 use Rattle.sheet_rules.specs.declared.Checked.TheVariants.{Passed, Shape, Static}
 use Rattle.machine.specs.declared.Telegram.{Telegram}
-use Rattle.machine.specs.declared.Handed.{Handed}
-use Rattle.machine.specs.declared.Handed.TheVariants.{Nothing, Outside}
 use Rattle.machine.specs.declared.Answer.{Answer}
 use Rattle.machine.specs.declared.Ran.{Ran}
 use Rattle.machine.specs.declared.Ran.TheVariants.{Done, Refused, Stuck}
@@ -31,7 +27,7 @@ pub data Outcome : Type 0 where
   stuck : Outcome
 
 -- an answer by which no telegram was dropped
-abbrev pub answer : ℕ → ℕ → Handed → Answer
+abbrev pub answer : ℕ → ℕ → Option Telegram → Answer
 answer n k h = record { number = n; steps = k; dropped = 0; handed = h }
 
 -- ---- the step limit: how many steps each body of start and each event may take
@@ -54,11 +50,11 @@ limit_of s = limit_by default_limit s
 -- ---- bodies, within a limit
 
 -- the first of n records of section 5 from number i on that meets a test
-unfoldable pub body_from : List ℕ → (Record → Bool) → ℕ → ℕ → Found
-body_from s p zero i = Absent
+unfoldable pub body_from : List ℕ → (Record → Bool) → ℕ → ℕ → Option Record
+body_from s p zero i = None
 body_from s p (suc n) i = elim (holds (record_of s bodies i) p) [ true ↦ record_of s bodies i | false ↦ body_from s p n (suc i) ]
 
-unfoldable pub body_where : List ℕ → Record → (Record → Bool) → Found
+unfoldable pub body_where : List ℕ → Record → (Record → Bool) → Option Record
 body_where s c p = body_from s p (chart_bodies c).count (chart_bodies c).first
 
 abbrev pub has_panic : Record → Bool
@@ -71,7 +67,7 @@ abbrev pub reacts_on : ℕ → ℕ → Record → Bool
 reacts_on p n b = eqb (role b) external_reaction and eqb (reaction_port b) p and eqb (reaction_name b) n
 
 -- a body of element e runs, with data for its parameters: what is left of the limit, and the state
-unfoldable pub ran_body : List ℕ → ℕ → ℕ → Found → List ℤ → List ℤ → World
+unfoldable pub ran_body : List ℕ → ℕ → ℕ → Option Record → List ℤ → List ℤ → World
 ran_body s limit e f zs st =
     with_record (chart_of s e) st [] (λ c.
     with_record f st [] (λ d.
@@ -79,21 +75,21 @@ ran_body s limit e f zs st =
     (run_of s 0 (record { element = e; chart = c; binding = binding_at s e; body = d }) (root d) limit st (locals_of s d zs))))
 
 -- the body of element e's chart that meets a test
-unfoldable pub element_body : List ℕ → ℕ → (Record → Bool) → Found
-element_body s e p = elim (chart_of s e) [ Present c ↦ body_where s c p | Absent ↦ Absent ]
+unfoldable pub element_body : List ℕ → ℕ → (Record → Bool) → Option Record
+element_body s e p = elim (chart_of s e) [ Some c ↦ body_where s c p | None ↦ None ]
 
 -- a body that runs without data has no parameters
-unfoldable pub alone : Found → Found
-alone (Present b) = elim (eqb (body_parameters b).count 0) [ true ↦ Present b | false ↦ Absent ]
-alone Absent = Absent
+unfoldable pub alone : Option Record → Option Record
+alone (Some b) = elim (eqb (body_parameters b).count 0) [ true ↦ Some b | false ↦ None ]
+alone None = None
 
 -- an event's body: 6 to 12 leave a copy of the old state
 unfoldable pub event_end : ℕ → List ℤ → Ran → List ℤ → Outcome
-event_end limit old (Done l) st = ended (answer 0 (limit - l) Nothing) st
-event_end limit old (Refused n l) st = ended (answer n (limit - l) Nothing) old
+event_end limit old (Done l) st = ended (answer 0 (limit - l) None) st
+event_end limit old (Refused n l) st = ended (answer n (limit - l) None) old
 event_end limit old Stuck st = stuck
 
-abbrev pub body_event : List ℕ → ℕ → List ℤ → ℕ → Found → List ℤ → List ℤ → Outcome
+abbrev pub body_event : List ℕ → ℕ → List ℤ → ℕ → Option Record → List ℤ → List ℤ → Outcome
 body_event s limit old e f zs st = let w = ran_body s limit e f zs st in event_end limit old w.ran w.st
 
 -- ---- start: "all defaults, nothing waiting, then the initial bodies in element order"
@@ -114,7 +110,7 @@ default_cells s (suc n) d = alike (cells_taken s d) (default_cell s (type_at s d
 
 -- of element e
 unfoldable pub element_cells : List ℕ → ℕ → List ℤ
-element_cells s e = elim (chart_of s e) [ Present c ↦ default_cells s (chart_variables c).count (chart_variables c).first | Absent ↦ [] ]
+element_cells s e = elim (chart_of s e) [ Some c ↦ default_cells s (chart_variables c).count (chart_variables c).first | None ↦ [] ]
 
 unfoldable pub cells_from : List ℕ → ℕ → ℕ → List ℤ
 cells_from s zero e = []
@@ -137,12 +133,12 @@ elements_there s = has_head s and all_below (elements_of s) (λ i. element_there
 -- a body of start ended after earlier ones took k steps; after 6 to 12 "its state is all zeros"
 unfoldable pub start_next : List ℕ → ℕ → ℕ → Ran → List ℤ → (ℕ → List ℤ → Outcome) → Outcome
 start_next s limit k (Done l) st K = K (k + (limit - l)) st
-start_next s limit k (Refused n l) st K = ended (answer n (k + (limit - l)) Nothing) (replicate (state_length s) (pos 0))
+start_next s limit k (Refused n l) st K = ended (answer n (k + (limit - l)) None) (replicate (state_length s) (pos 0))
 start_next s limit k Stuck st K = stuck
 
 -- n elements from e on
 unfoldable pub start_from : List ℕ → ℕ → ℕ → ℕ → ℕ → List ℤ → Outcome
-start_from s limit zero e k st = ended (answer 0 k Nothing) st
+start_from s limit zero e k st = ended (answer 0 k None) st
 start_from s limit (suc n) e k st = let w = ran_body s limit e (alone (element_body s e is_initial)) [] st in start_next s limit k w.ran w.st (λ k st. start_from s limit n (suc e) k st)
 
 unfoldable pub started : List ℕ → ℕ → Outcome
@@ -166,7 +162,7 @@ inner_of r t = is_internal t and same_word t.receiver r
 
 -- the telegram found is removed and taken on; "no such telegram waits": 5
 unfoldable pub taking : List ℕ → List ℤ → (Telegram → Bool) → (Telegram → List ℤ → Outcome) → Outcome
-taking s st p K = elim (counted st) [ true ↦ elim (ltb (oldest s st p) (waiting st)) [ true ↦ K (telegram_of s st (oldest s st p)) (without_telegram s st (oldest s st p)) | false ↦ ended (answer 5 0 Nothing) st ] | false ↦ stuck ]
+taking s st p K = elim (counted st) [ true ↦ elim (ltb (oldest s st p) (waiting st)) [ true ↦ K (telegram_of s st (oldest s st p)) (without_telegram s st (oldest s st p)) | false ↦ ended (answer 5 0 None) st ] | false ↦ stuck ]
 
 -- two declarations are there and are of one type
 unfoldable pub same_declared : List ℕ → ℕ → ℕ → Bool
@@ -181,7 +177,7 @@ brought s t b =
     and all_below (data_of n).count (λ j. same_declared s ((data_of n).first + j) ((body_parameters b).first + j))
     and data_fit s (data_of n) (datum_of t))
 
-unfoldable pub reacting : List ℕ → ℕ → List ℤ → ℕ → Found → Telegram → List ℤ → Outcome
+unfoldable pub reacting : List ℕ → ℕ → List ℤ → ℕ → Option Record → Telegram → List ℤ → Outcome
 reacting s limit old e f t st = elim (holds f (brought s t)) [ true ↦ body_event s limit old e f (t.d0 ∷ t.d1 ∷ t.d2 ∷ t.d3 ∷ []) st | false ↦ stuck ]
 
 unfoldable pub panicking : List ℕ → ℕ → List ℤ → ℕ → List ℤ → Outcome
@@ -196,8 +192,8 @@ with_number (negsuc n) K = stuck
 
 -- an event that runs no body has no steps; refused, it leaves a copy of the old state
 unfoldable pub change_end : List ℤ → Changed → Outcome
-change_end old (on st) = ended (answer 0 0 Nothing) st
-change_end old (off n) = ended (answer n 0 Nothing) old
+change_end old (on st) = ended (answer 0 0 None) st
+change_end old (off n) = ended (answer n 0 None) old
 change_end old lost = stuck
 
 -- 1: "external s sends to bound r on port p external name n; appended"
@@ -212,15 +208,15 @@ bodies_there s e = holds (chart_of s e) (λ c. in_section s bodies (chart_bodies
 unfoldable pub received : List ℕ → ℕ → List ℤ → Telegram → List ℤ → ℕ → ℕ → ℕ → Outcome
 received s limit old t st e p n =
     elim (element_body s e (reacts_on p n)) [
-      | Present b ↦ reacting s limit old e (Present b) t st
-      | Absent ↦ elim (bodies_there s e) [ true ↦ panicking s limit old e st | false ↦ stuck ]
+      | Some b ↦ reacting s limit old e (Some b) t st
+      | None ↦ elim (bodies_there s e) [ true ↦ panicking s limit old e st | false ↦ stuck ]
     ]
 
 -- 2: "If r is external it is handed outside. If bound, .."
 unfoldable pub delivered : List ℕ → ℕ → List ℤ → Telegram → List ℤ → Outcome
 delivered s limit old t st =
     elim (is_below t.receiver (externals_of s)) [
-      | true ↦ ended (answer 0 0 (Outside t)) st
+      | true ↦ ended (answer 0 0 (Some t)) st
       | false ↦ with_number t.receiver (λ e. with_number t.port (λ p. with_number t.name (λ n. received s limit old t st e p n)))
     ]
 
@@ -271,7 +267,7 @@ sliced_each s e t (suc n) i st = then_slice (sliced_cell s e t (cell_at i) st) (
 
 -- the variable of declaration d, whose first cell is i
 unfoldable pub sliced_variable : List ℕ → ℕ → ℕ → ℕ → List ℤ → Changed
-sliced_variable s e d i st = elim (record_of s declarations d) [ Present r ↦ sliced_each s e (declared_type r) (cells_taken s d) i st | Absent ↦ lost ]
+sliced_variable s e d i st = elim (record_of s declarations d) [ Some r ↦ sliced_each s e (declared_type r) (cells_taken s d) i st | None ↦ lost ]
 
 -- n variables of element e, from declaration d and cell i on
 unfoldable pub sliced_cells : List ℕ → ℕ → ℕ → ℕ → ℕ → List ℤ → Changed
@@ -279,7 +275,7 @@ sliced_cells s e zero d i st = on st
 sliced_cells s e (suc n) d i st = then_slice (sliced_variable s e d i st) (sliced_cells s e n (suc d) (i + cells_taken s d))
 
 unfoldable pub sliced_element : List ℕ → ℕ → List ℤ → Changed
-sliced_element s e st = elim (chart_of s e) [ Present c ↦ sliced_cells s e (chart_variables c).count (chart_variables c).first (first_cell s e) st | Absent ↦ lost ]
+sliced_element s e st = elim (chart_of s e) [ Some c ↦ sliced_cells s e (chart_variables c).count (chart_variables c).first (first_cell s e) st | None ↦ lost ]
 
 unfoldable pub sliced_from : List ℕ → ℕ → ℕ → List ℤ → Changed
 sliced_from s zero e st = on st
@@ -329,7 +325,7 @@ happens s limit st ev = happens_as s limit st ev (kind_of (word_of ev 0))
 -- ---- the answers of start and event, with what the result state then holds: "1 to 5 in that order"; 6 to 12, "the first met"
 
 abbrev pub turned_down : ℕ → List ℤ → Outcome
-turned_down n result = ended (answer n 0 Nothing) result
+turned_down n result = ended (answer n 0 None) result
 
 unfoldable pub if_passed : Checked → List ℤ → (List ℤ → Outcome) → Outcome
 if_passed Passed result K = K result

@@ -1,9 +1,7 @@
 -- What a statement does.
-use Rattle.std.specs.Prelude.{ℕ, zero, suc, ◌+◌, ◌-◌, List, [], ◌∷◌, Bool, true, false, get_or, set, replicate, ltb, eqb, ℤ, pos, negsuc}
+use Rattle.std.specs.Prelude.{ℕ, zero, suc, ◌+◌, ◌-◌, List, [], ◌∷◌, Bool, true, false, get_or, set, replicate, ltb, eqb, ℤ, pos, negsuc, Option, Some, None}
 use Rattle.std.specs.Int.Signed.{le_z}
 use Rattle.sheet.specs.declared.Record.{Record}
-use Rattle.sheet.specs.declared.Found.{Found}
-use Rattle.sheet.specs.declared.Found.TheVariants.{Present, Absent}
 use Rattle.sheet.specs.All.{◌and◌, all_below}
 use Rattle.sheet.specs.Names
 use Rattle.sheet.specs.Names.{names, nodes, data_of, body_parameters, body_locals, root, operator, bool_type, int_type, component_type, port_type, timer_type, timeout_type, is_clock}
@@ -48,9 +46,9 @@ then_operand (out.Val v l) st lo K = K v l
 then_operand (out.Refused n l) st lo K = world (Refused n l) st lo
 then_operand out.Stuck st lo K = world Stuck st lo
 
-unfoldable pub with_record : Found → List ℤ → List ℤ → (Record → World) → World
-with_record (Present r) st lo K = K r
-with_record Absent st lo K = world Stuck st lo
+unfoldable pub with_record : Option Record → List ℤ → List ℤ → (Record → World) → World
+with_record (Some r) st lo K = K r
+with_record None st lo K = world Stuck st lo
 
 unfoldable pub provided : Bool → List ℤ → List ℤ → World → World
 provided true st lo w = w

@@ -1,8 +1,7 @@
 -- Values and their types, and who is bound to which chart.
-use Rattle.std.specs.Prelude.{ℕ, ◌-◌, List, Bool, true, false, ltb, leb, eqb, ℤ, pos, negsuc}
+use Rattle.sheet.specs.declared.Record.{Record}
+use Rattle.std.specs.Prelude.{ℕ, ◌-◌, List, Bool, true, false, ltb, leb, eqb, ℤ, pos, negsuc, Option, Some, None}
 use Rattle.std.specs.Int.Signed.{mag, le_z}
-use Rattle.sheet.specs.declared.Found.{Found}
-use Rattle.sheet.specs.declared.Found.TheVariants.{Present, Absent}
 use Rattle.sheet.specs.Names.{enumerated_types, charts, bindings, default_member, bound_chart, is_clock}
 use Rattle.sheet.specs.All.{◌and◌}
 use Rattle.sheet.specs.Sheet.{record_of}
@@ -23,9 +22,9 @@ is_below (pos k) n = ltb k n
 is_below (negsuc k) n = false
 
 -- a word that is a number, and which record of a section it names: none where it is negative
-unfoldable pub record_by : List ℕ → ℕ → ℤ → Found
+unfoldable pub record_by : List ℕ → ℕ → ℤ → Option Record
 record_by s k (pos n) = record_of s k n
-record_by s k (negsuc n) = Absent
+record_by s k (negsuc n) = None
 
 unfoldable pub is_zero : ℤ → Bool
 is_zero (pos k) = eqb k 0
@@ -74,11 +73,11 @@ is_bound s e = leb (externals_of s) e and ltb e (components_of s)
 unfoldable pub binding_at : List ℕ → ℕ → ℕ
 binding_at s e = first_binding s (e - externals_of s)
 
-unfoldable pub binding_of : List ℕ → ℕ → Found
-binding_of s e = elim (is_bound s e) [ true ↦ record_of s bindings (binding_at s e) | false ↦ Absent ]
+unfoldable pub binding_of : List ℕ → ℕ → Option Record
+binding_of s e = elim (is_bound s e) [ true ↦ record_of s bindings (binding_at s e) | false ↦ None ]
 
-unfoldable pub chart_of : List ℕ → ℕ → Found
-chart_of s e = elim (binding_of s e) [ Present b ↦ record_of s charts (bound_chart b) | Absent ↦ Absent ]
+unfoldable pub chart_of : List ℕ → ℕ → Option Record
+chart_of s e = elim (binding_of s e) [ Some b ↦ record_of s charts (bound_chart b) | None ↦ None ]
 
 -- an element's first cell: "elements in order, variables in order"
 unfoldable pub first_cell : List ℕ → ℕ → ℕ

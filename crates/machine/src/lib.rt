@@ -33,7 +33,8 @@ pub struct Value {
     pub word: i32,
 }
 
-// What an expression gives: a value and the steps left, a refusal with its number, or stuck.
+// What an expression gives: a value and the steps left, a refusal with its number, or stuck. The definitions speak of
+// it; code gives a Result.
 #[derive(Clone, Copy)]
 pub enum Out {
     Val { value: Value, left: u32 },
@@ -41,7 +42,7 @@ pub enum Out {
     Stuck,
 }
 
-// How a statement ends: done, refused with its number, or stuck.
+// How a statement ends: done, refused with its number, or stuck. The definitions speak of it; code gives a Result.
 #[derive(Clone, Copy)]
 pub enum Ran {
     Done { left: u32 },
@@ -49,19 +50,13 @@ pub enum Ran {
     Stuck,
 }
 
-// What is handed outside: a telegram, or nothing.
-#[derive(Clone, Copy)]
-pub enum Handed {
-    Nothing,
-    Outside(Telegram),
-}
-
 // What start and event answer: the paper's number, the steps used, how many waiting telegrams were
-// dropped, and what is handed outside.
+// dropped, and what is handed outside. A refusal's number stays the paper's, here and where it comes from: runs and
+// lists store it, and an enum beside it would be a second name for each.
 #[derive(Clone, Copy)]
 pub struct Answer {
     pub number: u8,
     pub steps: u32,
     pub dropped: u8,
-    pub handed: Handed,
+    pub handed: Option<Telegram>,
 }

@@ -1,4 +1,5 @@
 -- No call takes more steps than its limits: whatever the sheet, an event at most one limit, start one for each bound element.
+use Rattle.std.specs.Prelude.{Option, Some, None}
 use Prim.Native.Nat.{ℕ, zero, suc, ◌+◌, ◌*◌, ◌-◌, ◌≤◌}
 use mathlib.Core.Path.{◌≡◌, ap, subst}
 use mathlib.Core.List.{List, [], ◌∷◌}
@@ -9,14 +10,10 @@ use lib.ListN.{length, replicate}
 use lib.Dec.{ltb, eqb}
 use lib.IntN.{ℤ, pos, negsuc}
 use Rattle.sheet.specs.declared.Record.{Record}
-use Rattle.sheet.specs.declared.Found.{Found}
-use Rattle.sheet.specs.declared.Found.TheVariants.{Present, Absent}
 use Rattle.sheet.specs.All.{◌and◌}
 use Rattle.machine.specs.declared.Answer.{Answer}
 use Rattle.sheet_rules.specs.declared.Checked.{Checked}
 use Rattle.sheet_rules.specs.declared.Checked.TheVariants.{Passed, Shape, Static}
-use Rattle.machine.specs.declared.Handed.{Handed}
-use Rattle.machine.specs.declared.Handed.TheVariants.{Nothing, Outside}
 use Rattle.machine.specs.declared.Ran.{Ran}
 use Rattle.machine.specs.declared.Ran.TheVariants.{Done, Refused, Stuck}
 use Rattle.machine.specs.declared.Telegram.{Telegram}
@@ -50,7 +47,7 @@ module _ {m : ℕ} where
   ends a st h = record { steps = λ b st' e. subst (λ k. k ≤ m) (ap (steps_of m) e) h }
 
   -- an answer without steps
-  at_once : (n : ℕ) (h : Handed) (st : List ℤ) → Within m (ended (answer n 0 h) st)
+  at_once : (n : ℕ) (h : Option Telegram) (st : List ℤ) → Within m (ended (answer n 0 h) st)
   at_once n h st = ends (answer n 0 h) st (omega arith)
 
   stops : Within m stuck
@@ -61,14 +58,14 @@ module _ {m : ℕ} where
   branch true h k = h
   branch false h k = k
 
-  found : (f : Found) {v : Record → Outcome} {w : Outcome} → ((r : Record) → Within m (v r)) → Within m w → Within m (elim f [ Present r ↦ v r | Absent ↦ w ])
-  found (Present r) h k = h r
-  found Absent h k = k
+  found : (f : Option Record) {v : Record → Outcome} {w : Outcome} → ((r : Record) → Within m (v r)) → Within m w → Within m (elim f [ Some r ↦ v r | None ↦ w ])
+  found (Some r) h k = h r
+  found None h k = k
 
   change_within : (old : List ℤ) (x : Changed) → Within m (change_end old x)
   unfolding change_end
-  change_within old (on st) = at_once 0 Nothing st
-  change_within old (off n) = at_once n Nothing old
+  change_within old (on st) = at_once 0 None st
+  change_within old (off n) = at_once n None old
   change_within old lost = stops
 
   number-within : (z : ℤ) (K : ℕ → Outcome) → ((n : ℕ) → Within m (K n)) → Within m (with_number z K)
@@ -79,22 +76,22 @@ module _ {m : ℕ} where
   passed-within : (k : Checked) (result : List ℤ) (K : List ℤ → Outcome) → Within m (K result) → Within m (if_passed k result K)
   unfolding if_passed
   passed-within Passed result K h = h
-  passed-within Shape result K h = at_once 1 Nothing result
-  passed-within Static result K h = at_once 2 Nothing result
+  passed-within Shape result K h = at_once 1 None result
+  passed-within Static result K h = at_once 2 None result
 
 module _ (s : List ℕ) where
   -- ---- an event
 
   end-within : (old : List ℤ) (r : Ran) (st : List ℤ) → Within (limit_of s) (event_end (limit_of s) old r st)
   unfolding event_end
-  end-within old (Done l) st = ends (answer 0 (limit_of s - l) Nothing) st (omega arith)
-  end-within old (Refused n l) st = ends (answer n (limit_of s - l) Nothing) old (omega arith)
+  end-within old (Done l) st = ends (answer 0 (limit_of s - l) None) st (omega arith)
+  end-within old (Refused n l) st = ends (answer n (limit_of s - l) None) old (omega arith)
   end-within old Stuck st = stops
 
-  body-within : (old : List ℤ) (e : ℕ) (f : Found) (zs st : List ℤ) → Within (limit_of s) (body_event s (limit_of s) old e f zs st)
+  body-within : (old : List ℤ) (e : ℕ) (f : Option Record) (zs st : List ℤ) → Within (limit_of s) (body_event s (limit_of s) old e f zs st)
   body-within old e f zs st = let w = ran_body s (limit_of s) e f zs st in end-within old w.ran w.st
 
-  reacting-within : (old : List ℤ) (e : ℕ) (f : Found) (t : Telegram) (st : List ℤ) → Within (limit_of s) (reacting s (limit_of s) old e f t st)
+  reacting-within : (old : List ℤ) (e : ℕ) (f : Option Record) (t : Telegram) (st : List ℤ) → Within (limit_of s) (reacting s (limit_of s) old e f t st)
   unfolding reacting
   reacting-within old e f t st = branch (holds f (brought s t)) (body-within old e f (t.d0 ∷ t.d1 ∷ t.d2 ∷ t.d3 ∷ []) st) stops
 
@@ -104,17 +101,17 @@ module _ (s : List ℕ) where
 
   received-within : (old : List ℤ) (t : Telegram) (st : List ℤ) (e p n : ℕ) → Within (limit_of s) (received s (limit_of s) old t st e p n)
   unfolding received
-  received-within old t st e p n = found (element_body s e (reacts_on p n)) (λ b. reacting-within old e (Present b) t st) (branch (bodies_there s e) (panicking-within old e st) stops)
+  received-within old t st e p n = found (element_body s e (reacts_on p n)) (λ b. reacting-within old e (Some b) t st) (branch (bodies_there s e) (panicking-within old e st) stops)
 
   delivered-within : (old : List ℤ) (t : Telegram) (st : List ℤ) → Within (limit_of s) (delivered s (limit_of s) old t st)
   unfolding delivered
   delivered-within old t st =
-      branch (is_below t.receiver (externals_of s)) (at_once 0 (Outside t) st)
+      branch (is_below t.receiver (externals_of s)) (at_once 0 (Some t) st)
       (number-within t.receiver _ (λ e. number-within t.port _ (λ p. number-within t.name _ (λ n. received-within old t st e p n))))
 
   taking-within : (st : List ℤ) (p : Telegram → Bool) (K : Telegram → List ℤ → Outcome) → ((t : Telegram) (st' : List ℤ) → Within (limit_of s) (K t st')) → Within (limit_of s) (taking s st p K)
   unfolding taking
-  taking-within st p K k = branch (counted st) (branch (ltb (oldest s st p) (waiting st)) (k (telegram_of s st (oldest s st p)) (without_telegram s st (oldest s st p))) (at_once 5 Nothing st)) stops
+  taking-within st p K k = branch (counted st) (branch (ltb (oldest s st p) (waiting st)) (k (telegram_of s st (oldest s st p)) (without_telegram s st (oldest s st p))) (at_once 5 None st)) stops
 
   kind-within : (st ev : List ℤ) (k : Kind) → Within (limit_of s) (happens_as s (limit_of s) st ev k)
   unfolding happens_as outside deliver corrupt inner slice
@@ -134,21 +131,21 @@ module _ (s : List ℕ) where
   event-within old result ev =
       passed-within (check_of s) result _
       (branch (eqb (length old) (state_length s) and eqb (length result) (state_length s))
-      (branch (content_fits s old) (branch (is_event s ev) (happens-within old ev) (at_once 4 Nothing result)) (at_once 3 Nothing result))
-      (at_once 3 Nothing result))
+      (branch (content_fits s old) (branch (is_event s ev) (happens-within old ev) (at_once 4 None result)) (at_once 3 None result))
+      (at_once 3 None result))
 
   -- ---- start
 
   next_within_lem : (m k : ℕ) (r : Ran) (st : List ℤ) (K : ℕ → List ℤ → Outcome) → ((j : ℕ) (st : List ℤ) → j ≤ k + limit_of s → Within m (K j st)) → k + limit_of s ≤ m → Within m (start_next s (limit_of s) k r st K)
   unfolding start_next
   next_within_lem m k (Done l) st K h g = h (k + (limit_of s - l)) st (omega arith)
-  next_within_lem m k (Refused n l) st K h g = ends (answer n (k + (limit_of s - l)) Nothing) (replicate (state_length s) (pos 0)) (omega arith)
+  next_within_lem m k (Refused n l) st K h g = ends (answer n (k + (limit_of s - l)) None) (replicate (state_length s) (pos 0)) (omega arith)
   next_within_lem m k Stuck st K h g = stops
 
   -- n elements after k steps
   from_within : (n e k : ℕ) (st : List ℤ) (m : ℕ) → k + n * limit_of s ≤ m → Within m (start_from s (limit_of s) n e k st)
   unfolding start_from
-  from_within zero e k st m h = ends (answer 0 k Nothing) st (omega arith)
+  from_within zero e k st m h = ends (answer 0 k None) st (omega arith)
   from_within (suc n) e k st m h =
       let q : suc n * limit_of s ≡ n * limit_of s + limit_of s = suc-mul n (limit_of s) in
       let w = ran_body s (limit_of s) e (alone (element_body s e is_initial)) [] st in
@@ -156,4 +153,4 @@ module _ (s : List ℕ) where
 
   pub start-within : (result : List ℤ) → Within (elements_of s * limit_of s) (start_call s (limit_of s) result)
   unfolding start_call started
-  start-within result = passed-within (check_of s) result _ (branch (eqb (length result) (state_length s)) (branch (elements_there s) (from_within (elements_of s) (externals_of s) 0 (default_state s) (elements_of s * limit_of s) (omega arith)) stops) (at_once 3 Nothing result))
+  start-within result = passed-within (check_of s) result _ (branch (eqb (length result) (state_length s)) (branch (elements_there s) (from_within (elements_of s) (externals_of s) 0 (default_state s) (elements_of s * limit_of s) (omega arith)) stops) (at_once 3 None result))

@@ -1,4 +1,5 @@
 -- The machine's own calls meet the contracts: on no arguments are they stuck.
+use Rattle.std.specs.Prelude.{None}
 use Prim.Native.Nat.{ℕ, suc}
 use mathlib.Core.Path.{◌≡◌, refl, sym, subst, ◌∙◌}
 use mathlib.Core.List.{List, []}
@@ -9,7 +10,6 @@ use lib.IntN.{ℤ}
 use borrow.Author.Tests.{eqb-true, eqb-false}
 use Rattle.sheet_rules.specs.declared.Checked.{Checked}
 use Rattle.sheet_rules.specs.declared.Checked.TheVariants.{Passed, Shape, Static}
-use Rattle.machine.specs.declared.Handed.TheVariants.{Nothing}
 use Rattle.machine.specs.State.{state_length}
 use Rattle.machine.specs.Valid.{content_fits, OfSheet}
 use Rattle.machine.specs.Play.{Outcome, ended, stuck, answer, is_event, turned_down, start_call, event_call, limit_of}
@@ -25,7 +25,7 @@ use Rattle.machine_claim.specs.Claim.{Returned, Engine, SomeEngine}
 -- what a call left, by its outcome
 abbrev pub returned_of : Outcome → Returned
 returned_of (ended a st) = record { answer = a; state = st }
-returned_of stuck = record { answer = answer 0 0 Nothing; state = [] }
+returned_of stuck = record { answer = answer 0 0 None; state = [] }
 
 abbrev Ended : Outcome → Type 0
 Ended w = ended (returned_of w).answer (returned_of w).state ≡ w

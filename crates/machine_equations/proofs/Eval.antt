@@ -1,12 +1,11 @@
 -- The recursion equation of `eval_of`: enough fuel is enough.
+use Rattle.std.specs.Prelude.{Option, Some, None}
 use Prim.Native.Nat.{ℕ, zero, suc, ◌≤◌, ◌<◌}
 use mathlib.Core.Path.{◌≡◌, refl, ap, ◌∙◌}
 use mathlib.Core.List.{List}
 use native.Mathlib.Omega.{arith}
 use lib.IntN.{ℤ}
 use Rattle.sheet.specs.declared.Record.{Record}
-use Rattle.sheet.specs.declared.Found.{Found}
-use Rattle.sheet.specs.declared.Found.TheVariants.{Present, Absent}
 use Rattle.sheet.specs.Names.{nodes, operator}
 use Rattle.sheet.specs.Sheet.{record_of}
 use Rattle.machine.specs.declared.Value.{Value}
@@ -23,10 +22,10 @@ same_then (Val v m) K L l p h = h v m p
 same_then (Refused k m) K L l p h = refl
 same_then Stuck K L l p h = refl
 
-same_record : (f : Found) (K L : Record → Out) → ((r : Record) → K r ≡ L r) → on_record f K ≡ on_record f L
+same_record : (f : Option Record) (K L : Record → Out) → ((r : Record) → K r ≡ L r) → on_record f K ≡ on_record f L
 unfolding on_record
-same_record (Present r) K L h = h r
-same_record Absent K L h = refl
+same_record (Some r) K L h = h r
+same_record None K L h = refl
 
 module _ (s : List ℕ) (x : Context) (st lo : List ℤ) where
   -- what works out the operands of a node visited with l + 1 steps left matters with at most l

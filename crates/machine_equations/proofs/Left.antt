@@ -1,4 +1,5 @@
 -- On any sheet the steps left never grow: what a node gives or does leaves fewer than it was visited with.
+use Rattle.std.specs.Prelude.{Option, Some, None}
 use Prim.Native.Nat.{ℕ, zero, suc, ◌+◌, ◌≤◌, ◌<◌}
 use mathlib.Core.List.{List}
 use mathlib.Core.Bool.{Bool, true, false}
@@ -8,8 +9,6 @@ use lib.Dec.{ltb, eqb}
 use lib.IntN.{ℤ, pos, ◌+ℤ◌, ◌-ℤ◌, ◌*ℤ◌}
 use lib.Signed.{le_z}
 use Rattle.sheet.specs.declared.Record.{Record}
-use Rattle.sheet.specs.declared.Found.{Found}
-use Rattle.sheet.specs.declared.Found.TheVariants.{Present, Absent}
 use Rattle.sheet.specs.All.{◌and◌}
 use Rattle.sheet.specs.Names.{declarations, names, nodes, declared_type, data_of, chart_variables, body_parameters, root, operator, bool_type, int_type, component_type, port_type, timer_type, is_clock, is_literal, chart_parameter, chart_variable, body_variable}
 use Rattle.sheet.specs.Sheet.{record_of}
@@ -63,10 +62,10 @@ then_in (Val v m) K l p q = q v m p
 then_in (Refused k m) K l p q = p
 then_in Stuck K l p q = tt
 
-record_in : (f : Found) (K : Record → Out) (l : ℕ) → ((r : Record) → Within l (K r)) → Within l (on_record f K)
+record_in : (f : Option Record) (K : Record → Out) (l : ℕ) → ((r : Record) → Within l (K r)) → Within l (on_record f K)
 unfolding on_record
-record_in (Present r) K l p = p r
-record_in Absent K l p = tt
+record_in (Some r) K l p = p r
+record_in None K l p = tt
 
 int_in : (z : ℤ) (l : ℕ) → Within (suc l) (int_out z l)
 unfolding int_out
@@ -244,10 +243,10 @@ then_values_in (given vs m) st lo K l p h q = q vs m p
 then_values_in (refused k m) st lo K l p h q = le_trans p h
 then_values_in stuck st lo K l p h q = tt
 
-with_record_in : (f : Found) (st lo : List ℤ) (K : Record → World) (l : ℕ) → ((r : Record) → RanWithin l (K r).ran) → RanWithin l (with_record f st lo K).ran
+with_record_in : (f : Option Record) (st lo : List ℤ) (K : Record → World) (l : ℕ) → ((r : Record) → RanWithin l (K r).ran) → RanWithin l (with_record f st lo K).ran
 unfolding with_record
-with_record_in (Present r) st lo K l p = p r
-with_record_in Absent st lo K l p = tt
+with_record_in (Some r) st lo K l p = p r
+with_record_in None st lo K l p = tt
 
 provided_in : (b : Bool) (st lo : List ℤ) (w : World) (l : ℕ) → RanWithin l w.ran → RanWithin l (provided b st lo w).ran
 unfolding provided

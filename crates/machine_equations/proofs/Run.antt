@@ -1,4 +1,5 @@
 -- The recursion equation of `run_of`: enough fuel is enough, and the guard on the steps left is never met.
+use Rattle.std.specs.Prelude.{Option, Some, None}
 use Prim.Native.Nat.{ℕ, zero, suc, ◌+◌, ◌≤◌, ◌<◌}
 use mathlib.Core.Path.{◌≡◌, refl, ap, ◌∙◌, fun_ext}
 use mathlib.Core.List.{List}
@@ -8,8 +9,6 @@ use lib.Dec.{ltb, eqb}
 use lib.IntN.{ℤ}
 use borrow.Author.Tests.{ltb-true, lt-ltb}
 use Rattle.sheet.specs.declared.Record.{Record}
-use Rattle.sheet.specs.declared.Found.{Found}
-use Rattle.sheet.specs.declared.Found.TheVariants.{Present, Absent}
 use Rattle.sheet.specs.Names.{nodes, body_parameters, root, operator, bool_type}
 use Rattle.sheet.specs.Sheet.{record_of}
 use Rattle.machine.specs.declared.Value.{Value}
@@ -60,10 +59,10 @@ same_values_lem (given vs m) st lo K L l p q = q vs m p
 same_values_lem (refused k m) st lo K L l p q = refl
 same_values_lem stuck st lo K L l p q = refl
 
-same_record : (f : Found) (st lo : List ℤ) (K L : Record → World) → ((r : Record) → K r ≡ L r) → with_record f st lo K ≡ with_record f st lo L
+same_record : (f : Option Record) (st lo : List ℤ) (K L : Record → World) → ((r : Record) → K r ≡ L r) → with_record f st lo K ≡ with_record f st lo L
 unfolding with_record
-same_record (Present r) st lo K L q = q r
-same_record Absent st lo K L q = refl
+same_record (Some r) st lo K L q = q r
+same_record None st lo K L q = refl
 
 -- ---- the guard
 

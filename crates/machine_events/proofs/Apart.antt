@@ -6,7 +6,6 @@ use mathlib.Core.Bool.{Bool, true, false, not}
 use lib.ListN.{length}
 use lib.Dec.{eqb}
 use lib.IntN.{ℤ}
-use Rattle.sheet.specs.All.{◌and◌}
 use Rattle.sheet.proofs.All.{true_false, and_first, and_second}
 use Rattle.sheet_rules.specs.declared.Checked.TheVariants.{Passed}
 use Rattle.sheet_rules.specs.Fields.{components_of}

@@ -1,4 +1,5 @@
 -- Start runs the initial bodies one after another.
+use Rattle.std.specs.Prelude.{None}
 use Prim.Native.Nat.{ℕ, suc, ◌+◌, ◌-◌, ◌<◌, ◌≤◌}
 use mathlib.Core.Path.{◌≡◌, sym, ap, subst, ◌∙◌}
 use mathlib.Core.List.{List, []}
@@ -10,7 +11,6 @@ use borrow.Author.Tests.{eqb-true, lt-ltb, le-leb}
 use Rattle.sheet.specs.Names.{role, initial, root}
 use Rattle.sheet.proofs.All.{and-true}
 use Rattle.sheet_rules.specs.declared.Checked.TheVariants.{Passed}
-use Rattle.machine.specs.declared.Handed.TheVariants.{Nothing}
 use Rattle.machine.specs.declared.Answer.{Answer}
 use Rattle.machine.specs.declared.Ran.{Ran}
 use Rattle.machine.specs.declared.Ran.TheVariants.{Done, Refused, Stuck}
@@ -33,7 +33,7 @@ pub begins : (s : List ℕ) → check_of s ≡ Passed → (n e : ℕ) (st : List
 unfolding started
 begins s ok n e st p q r = ap (λ b. elim b as (λ b. Outcome) [ true ↦ start_from s (limit_of s) (elements_of s) (externals_of s) 0 (default_state s) | false ↦ stuck ]) (elements-there s ok) ∙ ap (λ n. start_from s (limit_of s) n (externals_of s) 0 (default_state s)) (sym p) ∙ ap (λ e. start_from s (limit_of s) n e 0 (default_state s)) (sym q) ∙ ap (start_from s (limit_of s) n e 0) (sym r)
 
-pub ends : (s : List ℕ) (n e k : ℕ) (st : List ℤ) (a : Answer) → n ≡ 0 → a ≡ answer 0 k Nothing → ended a st ≡ start_from s (limit_of s) n e k st
+pub ends : (s : List ℕ) (n e k : ℕ) (st : List ℤ) (a : Answer) → n ≡ 0 → a ≡ answer 0 k None → ended a st ≡ start_from s (limit_of s) n e k st
 unfolding start_from
 ends s n e k st a z q = ap (λ a. ended a st) q ∙ ap (λ n. start_from s (limit_of s) n e k st) (sym z)
 
@@ -49,7 +49,7 @@ module _ (s : List ℕ) where
   unfolding start_next
   one_done n e k l st h = one n e k st (Done l) h
 
-  one-refused : (n e k x l : ℕ) (st : List ℤ) → (first_run e st).ran ≡ Refused x l → start_from s (limit_of s) (suc n) e k st ≡ ended (answer x (k + (limit_of s - l)) Nothing) (replicate (state_length s) (pos 0))
+  one-refused : (n e k x l : ℕ) (st : List ℤ) → (first_run e st).ran ≡ Refused x l → start_from s (limit_of s) (suc n) e k st ≡ ended (answer x (k + (limit_of s - l)) None) (replicate (state_length s) (pos 0))
   unfolding start_next
   one-refused n e k x l st h = one n e k st (Refused x l) h
 
@@ -115,9 +115,9 @@ module _ (s : List ℕ) (ok : check_of s ≡ Passed) where
             ∙ ap (start_from s (limit_of s) (count - (i + 1)) (first + (i + 1)) (steps + (most - x))) (sym b)
 
         -- "after 6 to 10 its state is all zeros"
-        pub refused_ends : (k x : ℕ) → r ≡ Refused k x → (n : ℕ) (zeros : List ℤ) → zeros ≡ replicate n (pos 0) → n ≡ state_length s → (given : Answer) → given ≡ answer k (steps + (most - x)) Nothing → ended given zeros ≡ started s (limit_of s)
+        pub refused_ends : (k x : ℕ) → r ≡ Refused k x → (n : ℕ) (zeros : List ℤ) → zeros ≡ replicate n (pos 0) → n ≡ state_length s → (given : Answer) → given ≡ answer k (steps + (most - x)) None → ended given zeros ≡ started s (limit_of s)
         refused_ends k x h n zeros z w given g =
             ap (λ g. ended g zeros) g
-            ∙ ap (ended (answer k (steps + (most - x)) Nothing)) (z ∙ ap (λ n. replicate n (pos 0)) w)
-            ∙ ap (λ n. ended (answer k (steps + (n - x)) Nothing) (replicate (state_length s) (pos 0))) m
+            ∙ ap (ended (answer k (steps + (most - x)) None)) (z ∙ ap (λ n. replicate n (pos 0)) w)
+            ∙ ap (λ n. ended (answer k (steps + (n - x)) None) (replicate (state_length s) (pos 0))) m
             ∙ sym (so_far ∙ ap (λ n. start_from s (limit_of s) n (first + i) steps st) next ∙ one-refused s (count - (i + 1)) (first + i) steps k x st (sym a ∙ h))

@@ -1,5 +1,6 @@
 -- The bodies that events and start run, found by number.
-use Prim.Native.Nat.{ℕ, ◌+◌, ◌-◌, ◌<◌, ◌≤◌}
+use Rattle.std.specs.Prelude.{Option, Some, None}
+use Prim.Native.Nat.{ℕ, ◌+◌, ◌<◌, ◌≤◌}
 use mathlib.Core.Path.{◌≡◌, refl, sym, ap, subst, ◌∙◌}
 use mathlib.Core.List.{List, [], ◌∷◌}
 use mathlib.Core.Bool.{Bool, true, false}
@@ -9,8 +10,6 @@ use lib.Dec.{leb}
 use lib.IntN.{ℤ, pos, nat_abs}
 use borrow.Author.Tests.{eqb-true, lt-ltb, le-ltb}
 use Rattle.sheet.specs.declared.Record.{Record}
-use Rattle.sheet.specs.declared.Found.{Found}
-use Rattle.sheet.specs.declared.Found.TheVariants.{Present, Absent}
 use Rattle.sheet.specs.All.{◌and◌}
 use Rattle.sheet.specs.Names.{names, bodies, chart_bodies, body_parameters, role, initial, panic, external_reaction, internal_reaction, reaction_name}
 use Rattle.sheet.specs.Sheet.{count_of, record_of}
@@ -39,29 +38,29 @@ four_zeros = pos 0 ∷ pos 0 ∷ pos 0 ∷ pos 0 ∷ []
 abbrev pub data_in : Telegram → List ℤ
 data_in t = t.d0 ∷ t.d1 ∷ t.d2 ∷ t.d3 ∷ []
 
-absent_differs : (b : Record) → Absent ≡ Present b → ⊥
+absent_differs : (b : Record) → None ≡ Some b → ⊥
 absent_differs b e = true_false {b = false} (ap there e) refl
   where
-    there : Found → Bool
-    there (Present q) = true
-    there Absent = false
+    there : Option Record → Bool
+    there (Some q) = true
+    there None = false
 
 -- a bound element has a chart
-pub has_chart : (s : List ℕ) → check_of s ≡ Passed → (e : ℕ) → is_bound s e ≡ true → chart_of s e ≡ Absent → ⊥
+pub has_chart : (s : List ℕ) → check_of s ≡ Passed → (e : ℕ) → is_bound s e ≡ true → chart_of s e ≡ None → ⊥
 has_chart s ok e h q = let x = bound-element s ok e h in absent_differs x.1 (sym q ∙ element-chart s e x.0 x.1 x.2)
 
 module _ (s : List ℕ) (ok : check_of s ≡ Passed) (e : ℕ) (b c : Record) (x : Element s e b c) where
   module _ (p : Record → Bool) (j : ℕ) (h : StandsAt s c p j) where
     -- one that is found
     module _ (l : j < (chart_bodies c).count) where
-      found : (d : Record) × (body_of s c j ≡ Present d)
+      found : (d : Record) × (body_of s c j ≡ Some d)
       found = let d = body-there s ok _ c x.chart j l in (d.0, d.1)
 
       abbrev body : Record
       body = found.0
 
-      searched : body_where s c p ≡ Present body
-      searched = h.there ∙ ap (λ t. elim t as (λ t. Found) [ true ↦ record_of s bodies ((chart_bodies c).first + j) | false ↦ Absent ]) (lt-ltb _ _ l) ∙ found.1
+      searched : body_where s c p ≡ Some body
+      searched = h.there ∙ ap (λ t. elim t as (λ t. Option Record) [ true ↦ record_of s bodies ((chart_bodies c).first + j) | false ↦ None ]) (lt-ltb _ _ l) ∙ found.1
 
       inside : InChart s c body
       inside = record { number = j; below = l; there = found.1 }
@@ -77,11 +76,11 @@ module _ (s : List ℕ) (ok : check_of s ≡ Passed) (e : ℕ) (b c : Record) (x
       called zs k = record { binding = b; chart = c; body = body; element = x; inside = inside; at = refl; parameters = k }
 
     -- none is found
-    pub element-none : (chart_bodies c).count ≤ j → element_body s e p ≡ Absent
-    element-none l = element-body s e c p (element-chart s e b c x) ∙ h.there ∙ ap (λ t. elim t as (λ t. Found) [ true ↦ record_of s bodies ((chart_bodies c).first + j) | false ↦ Absent ]) (le-ltb _ _ l)
+    pub element-none : (chart_bodies c).count ≤ j → element_body s e p ≡ None
+    element-none l = element-body s e c p (element-chart s e b c x) ∙ h.there ∙ ap (λ t. elim t as (λ t. Option Record) [ true ↦ record_of s bodies ((chart_bodies c).first + j) | false ↦ None ]) (le-ltb _ _ l)
 
-    stands : (d : Record) → body_where s c p ≡ Present d → j < (chart_bodies c).count
-    stands d q = elim (dec_lt j (chart_bodies c).count) [ yes l ↦ l | no l ↦ absurd (absent_differs d (sym (h.there ∙ ap (λ t. elim t as (λ t. Found) [ true ↦ record_of s bodies ((chart_bodies c).first + j) | false ↦ Absent ]) (le-ltb j (chart_bodies c).count (omega arith))) ∙ q)) ]
+    stands : (d : Record) → body_where s c p ≡ Some d → j < (chart_bodies c).count
+    stands d q = elim (dec_lt j (chart_bodies c).count) [ yes l ↦ l | no l ↦ absurd (absent_differs d (sym (h.there ∙ ap (λ t. elim t as (λ t. Option Record) [ true ↦ record_of s bodies ((chart_bodies c).first + j) | false ↦ None ]) (le-ltb j (chart_bodies c).count (omega arith))) ∙ q)) ]
 
   -- ---- the panic body
 
@@ -132,15 +131,15 @@ module _ (s : List ℕ) (ok : check_of s ≡ Passed) (e : ℕ) (b c : Record) (x
 
       pub on-delivered : (old st : List ℤ) → e ≡ nat_abs t.receiver → telegram_fits s t ≡ true → external_fits s t ≡ true → is_below t.receiver (externals_of s) ≡ false → delivered s (limit_of s) old t st ≡ body_event s (limit_of s) old e (record_of s bodies ((chart_bodies c).first + j)) (data_in t) st
       on-delivered old st q whole outer n =
-          delivered_reaction s old t st whole outer n (body on j h l) (subst (λ e. element_body s e on ≡ Present (body on j h l)) q (element_found on j h l ∙ (found on j h l).1))
-          ∙ ap (λ e. reacting s (limit_of s) old e (Present (body on j h l)) t st) (sym q)
+          delivered_reaction s old t st whole outer n (body on j h l) (subst (λ e. element_body s e on ≡ Some (body on j h l)) q (element_found on j h l ∙ (found on j h l).1))
+          ∙ ap (λ e. reacting s (limit_of s) old e (Some (body on j h l)) t st) (sym q)
           ∙ reacting_is s old e _ t st (brought_so s ok e b c x _ (inside on j h l) t named-on below fits reaction_on)
           ∙ ap (λ f. body_event s (limit_of s) old e f (data_in t) st) (sym (found on j h l).1)
 
     -- without a reaction the panic body
     pub panic-delivered : (j : ℕ) → StandsAt s c (reacts_on (nat_abs t.port) (nat_abs t.name)) j → (chart_bodies c).count ≤ j → (old st : List ℤ) → e ≡ nat_abs t.receiver → telegram_fits s t ≡ true → external_fits s t ≡ true → is_below t.receiver (externals_of s) ≡ false → delivered s (limit_of s) old t st ≡ panicking s (limit_of s) old e st
     panic-delivered j h l old st q whole outer n =
-        delivered-panic s old t st whole outer n (subst (λ e. bodies_there s e ≡ true) q (bodies-there s ok e x.bound)) (subst (λ e. element_body s e (reacts_on (nat_abs t.port) (nat_abs t.name)) ≡ Absent) q (element-none (reacts_on (nat_abs t.port) (nat_abs t.name)) j h l))
+        delivered-panic s old t st whole outer n (subst (λ e. bodies_there s e ≡ true) q (bodies-there s ok e x.bound)) (subst (λ e. element_body s e (reacts_on (nat_abs t.port) (nat_abs t.name)) ≡ None) q (element-none (reacts_on (nat_abs t.port) (nat_abs t.name)) j h l))
         ∙ ap (λ e. panicking s (limit_of s) old e st) (sym q)
 
     -- ---- an internal name that has a reaction

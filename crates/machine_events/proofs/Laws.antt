@@ -1,5 +1,6 @@
 -- The kinds of event, as an engine plays them.
-use Prim.Native.Nat.{ℕ, zero, suc, ◌-◌, ◌<◌, ◌≤◌}
+use Rattle.std.specs.Prelude.{Some, None}
+use Prim.Native.Nat.{ℕ, zero, suc, ◌<◌, ◌≤◌}
 use mathlib.Core.Path.{◌≡◌, refl, ap, ◌∙◌, fun_ext}
 use mathlib.Core.List.{List, [], ◌∷◌}
 use mathlib.Core.Bool.{Bool, true, false}
@@ -8,13 +9,11 @@ use lib.Dec.{ltb, eqb}
 use lib.IntN.{ℤ, pos, nat_abs}
 use borrow.Author.Tests.{lt-ltb, le-ltb, eq-eqb, ne_eqb}
 use Rattle.sheet.specs.declared.Record.{Record}
-use Rattle.sheet.specs.declared.Found.TheVariants.{Present, Absent}
 use Rattle.sheet.specs.All.{◌and◌}
 use Rattle.sheet.specs.Names.{body_parameters, root}
 use Rattle.sheet.proofs.All.{and_first, and_second, and-true, false-and, and-false}
 use Rattle.sheet_rules.specs.declared.Checked.TheVariants.{Passed, Shape, Static}
 use Rattle.machine.specs.declared.Telegram.{Telegram}
-use Rattle.machine.specs.declared.Handed.TheVariants.{Nothing, Outside}
 use Rattle.sheet_rules.specs.Fields.{holds, externals_of, elements_of}
 use Rattle.machine.specs.Values.{is_below, binding_at, chart_of}
 use Rattle.machine.specs.State.{state_length, waiting, Changed, lost, counted, telegram_of, without_telegram}
@@ -31,7 +30,7 @@ use Rattle.machine_promise.proofs.Events.{number_is}
 -- ---- the oldest telegram that meets a test
 
 module _ (s : List ℕ) (st : List ℤ) (p : Telegram → Bool) (K : Telegram → List ℤ → Outcome) (c : counted st ≡ true) where
-  pub taking-none : waiting st ≤ oldest s st p → taking s st p K ≡ ended (answer 5 0 Nothing) st
+  pub taking-none : waiting st ≤ oldest s st p → taking s st p K ≡ ended (answer 5 0 None) st
   unfolding taking
   taking-none h = rw (taking, c, le-ltb (oldest s st p) (waiting st) h) refl
 
@@ -42,7 +41,7 @@ module _ (s : List ℕ) (st : List ℤ) (p : Telegram → Bool) (K : Telegram �
 -- ---- 2 Deliver
 
 module _ (s : List ℕ) (old : List ℤ) (t : Telegram) (st : List ℤ) where
-  pub handed_outside : is_below t.receiver (externals_of s) ≡ true → delivered s (limit_of s) old t st ≡ ended (answer 0 0 (Outside t)) st
+  pub handed_outside : is_below t.receiver (externals_of s) ≡ true → delivered s (limit_of s) old t st ≡ ended (answer 0 0 (Some t)) st
   unfolding delivered
   handed_outside h = rw (delivered, h) refl
 
@@ -54,22 +53,22 @@ module _ (s : List ℕ) (old : List ℤ) (t : Telegram) (st : List ℤ) where
         rw (delivered, bound)
         (number_is t.receiver _ _ (and_first _ _ (and_second _ _ fits)) ∙ number_is t.port _ _ (and_first _ _ (and_second _ _ outer)) ∙ number_is t.name _ _ (and_first _ _ (and_second _ _ (and_second _ _ outer))))
 
-    pub delivered_reaction : (b : Record) → element_body s (nat_abs t.receiver) (reacts_on (nat_abs t.port) (nat_abs t.name)) ≡ Present b → delivered s (limit_of s) old t st ≡ reacting s (limit_of s) old (nat_abs t.receiver) (Present b) t st
+    pub delivered_reaction : (b : Record) → element_body s (nat_abs t.receiver) (reacts_on (nat_abs t.port) (nat_abs t.name)) ≡ Some b → delivered s (limit_of s) old t st ≡ reacting s (limit_of s) old (nat_abs t.receiver) (Some b) t st
     unfolding received
     delivered_reaction b h = delivered-bound ∙ rw (received, h) refl
 
-    pub delivered-panic : bodies_there s (nat_abs t.receiver) ≡ true → element_body s (nat_abs t.receiver) (reacts_on (nat_abs t.port) (nat_abs t.name)) ≡ Absent → delivered s (limit_of s) old t st ≡ panicking s (limit_of s) old (nat_abs t.receiver) st
+    pub delivered-panic : bodies_there s (nat_abs t.receiver) ≡ true → element_body s (nat_abs t.receiver) (reacts_on (nat_abs t.port) (nat_abs t.name)) ≡ None → delivered s (limit_of s) old t st ≡ panicking s (limit_of s) old (nat_abs t.receiver) st
     unfolding received
     delivered-panic k h = delivered-bound ∙ rw (received, h, k) refl
 
 -- ---- bodies
 
-pub reacting_is : (s : List ℕ) (old : List ℤ) (e : ℕ) (b : Record) (t : Telegram) (st : List ℤ) → brought s t b ≡ true → reacting s (limit_of s) old e (Present b) t st ≡ body_event s (limit_of s) old e (Present b) (t.d0 ∷ t.d1 ∷ t.d2 ∷ t.d3 ∷ []) st
+pub reacting_is : (s : List ℕ) (old : List ℤ) (e : ℕ) (b : Record) (t : Telegram) (st : List ℤ) → brought s t b ≡ true → reacting s (limit_of s) old e (Some b) t st ≡ body_event s (limit_of s) old e (Some b) (t.d0 ∷ t.d1 ∷ t.d2 ∷ t.d3 ∷ []) st
 unfolding reacting holds
 reacting_is s old e b t st h = rw (reacting, h) refl
 
 -- a body of the element's chart
-pub element-body : (s : List ℕ) (e : ℕ) (c : Record) (p : Record → Bool) → chart_of s e ≡ Present c → element_body s e p ≡ body_where s c p
+pub element-body : (s : List ℕ) (e : ℕ) (c : Record) (p : Record → Bool) → chart_of s e ≡ Some c → element_body s e p ≡ body_where s c p
 unfolding element_body
 element-body s e c p h = rw (element_body, h) refl
 
@@ -89,17 +88,17 @@ no_data_lem s b = ap (list_from 16 0) (fun_ext (λ i. each i (ltb i (body_parame
     each i true z = none-datum i
     each i false z = refl
 
-ran_without : (s : List ℕ) (e : ℕ) (b : Record) (st : List ℤ) → ran_body s (limit_of s) e (Present b) [] st ≡ ran_body s (limit_of s) e (Present b) (pos 0 ∷ pos 0 ∷ pos 0 ∷ pos 0 ∷ []) st
+ran_without : (s : List ℕ) (e : ℕ) (b : Record) (st : List ℤ) → ran_body s (limit_of s) e (Some b) [] st ≡ ran_body s (limit_of s) e (Some b) (pos 0 ∷ pos 0 ∷ pos 0 ∷ pos 0 ∷ []) st
 unfolding ran_body with_record
 ran_without s e b st = ap (λ lo. with_record (chart_of s e) st [] (λ c. provided (locals_there s b) st [] (run_of s 0 (record { element = e; chart = c; binding = binding_at s e; body = b }) (root b) (limit_of s) st lo))) (no_data_lem s b)
 
 -- the panic body runs without data
-pub panicking_is : (s : List ℕ) (old : List ℤ) (e : ℕ) (st : List ℤ) (b : Record) → alone (element_body s e has_panic) ≡ Present b → panicking s (limit_of s) old e st ≡ body_event s (limit_of s) old e (Present b) (pos 0 ∷ pos 0 ∷ pos 0 ∷ pos 0 ∷ []) st
+pub panicking_is : (s : List ℕ) (old : List ℤ) (e : ℕ) (st : List ℤ) (b : Record) → alone (element_body s e has_panic) ≡ Some b → panicking s (limit_of s) old e st ≡ body_event s (limit_of s) old e (Some b) (pos 0 ∷ pos 0 ∷ pos 0 ∷ pos 0 ∷ []) st
 unfolding panicking
 panicking_is s old e st b h = ap (λ f. body_event s (limit_of s) old e f [] st) h ∙ ap (λ w. event_end (limit_of s) old w.ran w.st) (ran_without s e b st)
 
 -- so does an initial body
-pub initial-ran : (s : List ℕ) (e : ℕ) (st : List ℤ) (b : Record) → alone (element_body s e is_initial) ≡ Present b → ran_body s (limit_of s) e (alone (element_body s e is_initial)) [] st ≡ ran_body s (limit_of s) e (Present b) (pos 0 ∷ pos 0 ∷ pos 0 ∷ pos 0 ∷ []) st
+pub initial-ran : (s : List ℕ) (e : ℕ) (st : List ℤ) (b : Record) → alone (element_body s e is_initial) ≡ Some b → ran_body s (limit_of s) e (alone (element_body s e is_initial)) [] st ≡ ran_body s (limit_of s) e (Some b) (pos 0 ∷ pos 0 ∷ pos 0 ∷ pos 0 ∷ []) st
 initial-ran s e st b h = ap (λ f. ran_body s (limit_of s) e f [] st) h ∙ ran_without s e b st
 
 -- ---- the calls

@@ -1,4 +1,5 @@
 -- A telegram reaches an element: which body runs, with which data.
+use Rattle.std.specs.Prelude.{Some}
 use Prim.Native.Nat.{ℕ, ◌+◌, ◌<◌, ◌≤◌}
 use mathlib.Core.Path.{◌≡◌, sym, ap, subst, ◌∙◌}
 use mathlib.Core.List.{List}
@@ -8,7 +9,6 @@ use lib.IntN.{ℤ, pos, nat_abs}
 use lib.Signed.{le_z}
 use borrow.Author.Tests.{le-leb}
 use Rattle.sheet.specs.declared.Record.{Record}
-use Rattle.sheet.specs.declared.Found.TheVariants.{Present}
 use Rattle.sheet.specs.Names.{names, bodies, chart_bodies}
 use Rattle.sheet.specs.Sheet.{count_of, record_of}
 use Rattle.sheet.proofs.All.{and_first, and_second}
@@ -34,7 +34,7 @@ not_negative : (z : ℤ) (n : ℕ) → is_below z n ≡ true → le_z (pos 0) z 
 not_negative z n h = ap (le_z (pos 0)) (below_pos z n h) ∙ le-leb 0 (nat_abs z) (omega arith)
 
 module _ (s : List ℕ) (ok : check_of s ≡ Passed) where
-  module _ (e : ℕ) (c : Record) (chart : chart_of s e ≡ Present c) (j : ℕ) (h : StandsAt s c has_panic j) where
+  module _ (e : ℕ) (c : Record) (chart : chart_of s e ≡ Some c) (j : ℕ) (h : StandsAt s c has_panic j) where
     pub panic_asked : Called s e ((chart_bodies c).first + j) four_zeros
     panic_asked = let x = chart-element s e c chart in panic-called s ok e x.0 c x.1 j h
 
@@ -70,7 +70,7 @@ module _ (s : List ℕ) (ok : check_of s ≡ Passed) where
         pub receiver-bound : is_bound s e ≡ true
         receiver-bound = subst (λ e. is_bound s e ≡ true) (sym same) (bound_word_lem s t.receiver (receiver-below s ok t fits) far)
 
-        module _ (c : Record) (chart : chart_of s e ≡ Present c) (port name j : ℕ) (on : port ≡ nat_abs t.port) (of : name ≡ nat_abs t.name) (h : StandsAt s c (reacts_on port name) j) where
+        module _ (c : Record) (chart : chart_of s e ≡ Some c) (port name j : ℕ) (on : port ≡ nat_abs t.port) (of : name ≡ nat_abs t.name) (h : StandsAt s c (reacts_on port name) j) where
           stands : StandsAt s c (reacts_on (nat_abs t.port) (nat_abs t.name)) j
           stands = subst (λ n. StandsAt s c (reacts_on (nat_abs t.port) n) j) of (subst (λ p. StandsAt s c (reacts_on p name) j) on h)
 
@@ -114,7 +114,7 @@ module _ (s : List ℕ) (ok : check_of s ≡ Passed) where
         unfolding internal_fits
         inner_bound = subst (λ e. is_bound s e ≡ true) (sym same) (and_first _ _ (and_second _ _ inside))
 
-        module _ (c : Record) (chart : chart_of s e ≡ Present c) (name j : ℕ) (of : name ≡ nat_abs t.name) (h : StandsAt s c (reacts_to name) j) (zs : List ℤ) (read : zs ≡ data_in t) where
+        module _ (c : Record) (chart : chart_of s e ≡ Some c) (name j : ℕ) (of : name ≡ nat_abs t.name) (h : StandsAt s c (reacts_to name) j) (zs : List ℤ) (read : zs ≡ data_in t) where
           awaited : has_reaction s c (nat_abs t.name) ≡ true
           unfolding internal_fits reaction_awaits
           awaited = sym (holds-present _ c _ chart) ∙ subst (λ e. holds (chart_of s e) (λ c. has_reaction s c (nat_abs t.name)) ≡ true) (sym same) (and_second _ _ (and_second _ _ (and_second _ _ inside)))

@@ -1,4 +1,5 @@
 -- The telegram that an event takes, and what then is done with it.
+use Rattle.std.specs.Prelude.{None}
 use Prim.Native.Nat.{ℕ, ◌≤◌}
 use mathlib.Core.Path.{◌≡◌, refl, sym, ap, subst, ◌∙◌}
 use mathlib.Core.List.{List}
@@ -12,7 +13,6 @@ use Rattle.sheet.specs.Names.{names}
 use Rattle.sheet.specs.Sheet.{count_of}
 use Rattle.sheet.proofs.All.{and_first, and_second, and-true}
 use Rattle.machine.specs.declared.Telegram.{Telegram}
-use Rattle.machine.specs.declared.Handed.TheVariants.{Nothing}
 use Rattle.sheet_rules.specs.declared.Checked.TheVariants.{Passed}
 use Rattle.sheet_rules.specs.Fields.{components_of, externals_of}
 use Rattle.sheet_rules.specs.Types.{reacts_to}
@@ -41,7 +41,7 @@ module _ {s : List ℕ} {st : List ℤ} (o : OfSheet s st) {j : ℕ} {t : Telegr
 
 module _ {s : List ℕ} {st : List ℤ} (o : OfSheet s st) {j : ℕ} (p : Telegram → Bool) (at : j ≡ oldest s st p) where
   -- "no such telegram waits"
-  pub took_none : (K : Telegram → List ℤ → Outcome) → waiting st ≤ j → taking s st p K ≡ ended (answer 5 0 Nothing) st
+  pub took_none : (K : Telegram → List ℤ → Outcome) → waiting st ≤ j → taking s st p K ≡ ended (answer 5 0 None) st
   took_none K l = taking-none s st p K (is_counted_lem s st o) (omega arith)
 
   module _ {t : Telegram} {st' : List ℤ} (k : Takes s st j t st') where

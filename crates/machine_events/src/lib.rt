@@ -3,7 +3,8 @@
 
 use machine::Telegram;
 
-// An event's words, taken apart by its kind. Malformed is every one that is turned down with 4.
+// An event's words, taken apart by its kind. Malformed is every one that is turned down with 4: a
+// case of its own and no option, since the definitions say of it too what happens.
 #[derive(Clone, Copy)]
 pub enum Event {
     Malformed,

@@ -1,4 +1,5 @@
 -- Start and the five kinds of event, within one limit.
+use Rattle.std.specs.Prelude.{Some, None}
 use Prim.Native.Nat.{ℕ, zero, suc, ◌+◌, ◌*◌, ◌-◌}
 use mathlib.Core.List.{List, [], ◌∷◌, ◌++◌}
 use mathlib.Core.Bool.{Bool, true, false, not}
@@ -7,13 +8,11 @@ use lib.ListN.{length, set, replicate}
 use lib.Dec.{ltb, leb, eqb}
 use lib.IntN.{ℤ, pos, ◌+ℤ◌, ◌-ℤ◌}
 use Rattle.sheet.specs.declared.Record.{Record}
-use Rattle.sheet.specs.declared.Found.TheVariants.{Present, Absent}
 use Rattle.sheet.specs.All.{◌and◌, all_below}
 use Rattle.sheet.specs.Names.{names, bodies, declared_type, data_of, external, chart_variables, chart_bodies, body_parameters, root, timer_type, timeout_type, is_clock}
 use Rattle.sheet_rules.specs.Fields.{holds}
 use Rattle.sheet_rules.specs.Types.{reacts_to}
 use Rattle.machine.specs.declared.Telegram.{Telegram}
-use Rattle.machine.specs.declared.Handed.TheVariants.{Nothing, Outside}
 use Rattle.machine.specs.declared.Ran.{Ran}
 use Rattle.machine.specs.declared.Ran.TheVariants.{Done, Refused, Stuck}
 use Rattle.machine.specs.Values.{is_below, is_zero, same_word}
@@ -44,7 +43,7 @@ module _ {s s' : List ℕ} (h : ButLimit s s') where
 
   body_from_at : (p : (Record → Bool)) (a : ℕ) → body_from s p a ≡ body_from s' p a
   unfolding body_from
-  body_from_at p zero = λ q i. Absent
+  body_from_at p zero = λ q i. None
   body_from_at p (suc n) = λ q i. elim (holds (same_bodies h q i) p) [ true ↦ same_bodies h q i | false ↦ body_from_at p n q (suc i) ]
 
   pub same_body_from : body_from s ≡ body_from s'
@@ -64,7 +63,7 @@ module _ {s s' : List ℕ} (h : ButLimit s s') where
 
   pub same_element_body : element_body s ≡ element_body s'
   unfolding element_body
-  same_element_body = λ q e p. elim (same_chart_of h q e) [ Present c ↦ same_body_where q c p | Absent ↦ Absent ]
+  same_element_body = λ q e p. elim (same_chart_of h q e) [ Some c ↦ same_body_where q c p | None ↦ None ]
 
   pub same_body_event : body_event s ≡ body_event s'
   same_body_event = λ q limit old e f zs st. let w = same_ran_body q limit e f zs st in event_end limit old w.ran w.st
@@ -83,7 +82,7 @@ module _ {s s' : List ℕ} (h : ButLimit s s') where
 
   pub same_element_cells : element_cells s ≡ element_cells s'
   unfolding element_cells
-  same_element_cells = λ q e. elim (same_chart_of h q e) [ Present c ↦ same_default_cells q (chart_variables c).count (chart_variables c).first | Absent ↦ [] ]
+  same_element_cells = λ q e. elim (same_chart_of h q e) [ Some c ↦ same_default_cells q (chart_variables c).count (chart_variables c).first | None ↦ [] ]
 
   cells_from_at : (a : ℕ) → cells_from s a ≡ cells_from s' a
   unfolding cells_from
@@ -108,7 +107,7 @@ module _ {s s' : List ℕ} (h : ButLimit s s') where
   start_next_within_at : (limit k : ℕ) (a : Ran) → start_next s limit k a ≡ start_next s' limit k a
   unfolding start_next
   start_next_within_at limit k (Done l) = λ q st K. K (k + (limit - l)) st
-  start_next_within_at limit k (Refused n l) = λ q st K. ended (answer n (k + (limit - l)) Nothing) (replicate (same_state_length h q) (pos 0))
+  start_next_within_at limit k (Refused n l) = λ q st K. ended (answer n (k + (limit - l)) None) (replicate (same_state_length h q) (pos 0))
   start_next_within_at limit k Stuck = λ q st K. stuck
 
   pub same_start_next : start_next s ≡ start_next s'
@@ -116,7 +115,7 @@ module _ {s s' : List ℕ} (h : ButLimit s s') where
 
   start_from_within_at : (limit a : ℕ) → start_from s limit a ≡ start_from s' limit a
   unfolding start_from
-  start_from_within_at limit zero = λ q e k st. ended (answer 0 k Nothing) st
+  start_from_within_at limit zero = λ q e k st. ended (answer 0 k None) st
   start_from_within_at limit (suc n) = λ q e k st. let w = same_ran_body q limit e (alone (same_element_body q e is_initial)) [] st in same_start_next q limit k w.ran w.st (λ k st. start_from_within_at limit n q (suc e) k st)
 
   pub same_start_from : start_from s ≡ start_from s'
@@ -140,7 +139,7 @@ module _ {s s' : List ℕ} (h : ButLimit s s') where
 
   pub same_taking : taking s ≡ taking s'
   unfolding taking
-  same_taking = λ q st p K. elim (counted st) [ true ↦ elim (ltb (same_oldest q st p) (waiting st)) [ true ↦ K (same_telegram_of h q st (same_oldest q st p)) (same_without_telegram h q st (same_oldest q st p)) | false ↦ ended (answer 5 0 Nothing) st ] | false ↦ stuck ]
+  same_taking = λ q st p K. elim (counted st) [ true ↦ elim (ltb (same_oldest q st p) (waiting st)) [ true ↦ K (same_telegram_of h q st (same_oldest q st p)) (same_without_telegram h q st (same_oldest q st p)) | false ↦ ended (answer 5 0 None) st ] | false ↦ stuck ]
 
   pub same_same_declared : same_declared s ≡ same_declared s'
   unfolding same_declared
@@ -175,15 +174,15 @@ module _ {s s' : List ℕ} (h : ButLimit s s') where
   unfolding received
   same_received = λ q limit old t st e p n.
       elim (same_element_body q e (reacts_on p n)) [
-        | Present b ↦ same_reacting q limit old e (Present b) t st
-        | Absent ↦ elim (same_bodies_there q e) [ true ↦ same_panicking q limit old e st | false ↦ stuck ]
+        | Some b ↦ same_reacting q limit old e (Some b) t st
+        | None ↦ elim (same_bodies_there q e) [ true ↦ same_panicking q limit old e st | false ↦ stuck ]
       ]
 
   pub same_delivered : delivered s ≡ delivered s'
   unfolding delivered
   same_delivered = λ q limit old t st.
       elim (is_below t.receiver (same_externals_of h q)) [
-        | true ↦ ended (answer 0 0 (Outside t)) st
+        | true ↦ ended (answer 0 0 (Some t)) st
         | false ↦ with_number t.receiver (λ e. with_number t.port (λ p. with_number t.name (λ n. same_received q limit old t st e p n)))
       ]
 
@@ -228,7 +227,7 @@ module _ {s s' : List ℕ} (h : ButLimit s s') where
 
   pub same_sliced_variable : sliced_variable s ≡ sliced_variable s'
   unfolding sliced_variable
-  same_sliced_variable = λ q e d i st. elim (same_declarations h q d) [ Present r ↦ same_sliced_each q e (declared_type r) (same_cells_taken h q d) i st | Absent ↦ lost ]
+  same_sliced_variable = λ q e d i st. elim (same_declarations h q d) [ Some r ↦ same_sliced_each q e (declared_type r) (same_cells_taken h q d) i st | None ↦ lost ]
 
   sliced_cells_at : (e a : ℕ) → sliced_cells s e a ≡ sliced_cells s' e a
   unfolding sliced_cells
@@ -240,7 +239,7 @@ module _ {s s' : List ℕ} (h : ButLimit s s') where
 
   pub same_sliced_element : sliced_element s ≡ sliced_element s'
   unfolding sliced_element
-  same_sliced_element = λ q e st. elim (same_chart_of h q e) [ Present c ↦ same_sliced_cells q e (chart_variables c).count (chart_variables c).first (same_first_cell h q e) st | Absent ↦ lost ]
+  same_sliced_element = λ q e st. elim (same_chart_of h q e) [ Some c ↦ same_sliced_cells q e (chart_variables c).count (chart_variables c).first (same_first_cell h q e) st | None ↦ lost ]
 
   sliced_from_at : (a : ℕ) → sliced_from s a ≡ sliced_from s' a
   unfolding sliced_from

@@ -1,11 +1,11 @@
 -- Values, their types and bound elements are the same on both sheets. As with the rules, a law has the body of its definition, read on the way from one sheet to the other.
+use Rattle.std.specs.Prelude.{Some, None}
 use Prim.Native.Nat.{ℕ, suc, ◌-◌}
 use mathlib.Core.List.{List}
 use mathlib.Core.Bool.{true, false}
 use mathlib.Core.Path.{◌≡◌, refl}
 use lib.Dec.{ltb, leb}
 use lib.IntN.{ℤ, pos, negsuc}
-use Rattle.sheet.specs.declared.Found.TheVariants.{Present, Absent}
 use Rattle.sheet.specs.Names.{default_member, bound_chart, is_clock, names}
 use Rattle.sheet.specs.All.{◌and◌}
 use Rattle.sheet_rules.specs.Fields.{number_or0, sum_below}
@@ -76,11 +76,11 @@ module _ {s s' : List ℕ} (h : ButLimit s s') where
 
   pub same_binding_of : binding_of s ≡ binding_of s'
   unfolding binding_of
-  same_binding_of = λ q e. elim (same_is_bound q e) [ true ↦ same_bindings h q (same_binding_at q e) | false ↦ Absent ]
+  same_binding_of = λ q e. elim (same_is_bound q e) [ true ↦ same_bindings h q (same_binding_at q e) | false ↦ None ]
 
   pub same_chart_of : chart_of s ≡ chart_of s'
   unfolding chart_of
-  same_chart_of = λ q e. elim (same_binding_of q e) [ Present b ↦ same_charts h q (bound_chart b) | Absent ↦ Absent ]
+  same_chart_of = λ q e. elim (same_binding_of q e) [ Some b ↦ same_charts h q (bound_chart b) | None ↦ None ]
 
   pub same_first_cell : first_cell s ≡ first_cell s'
   unfolding first_cell

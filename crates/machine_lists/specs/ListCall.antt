@@ -1,8 +1,7 @@
 -- What playing a whole list comes to.
-use Rattle.std.specs.Prelude.{ℕ, ◌*◌, ◌/◌, ◌%◌, List, [], ◌∷◌, Bool, true, false, length, eqb, ℤ}
+use Rattle.std.specs.Prelude.{ℕ, ◌*◌, ◌/◌, ◌%◌, List, [], ◌∷◌, Bool, true, false, length, eqb, ℤ, None}
 use Rattle.sheet.specs.All.{◌and◌}
 use Rattle.sheet_rules.specs.declared.Checked.TheVariants.{Passed, Shape, Static}
-use Rattle.machine.specs.declared.Handed.TheVariants.{Nothing}
 use Rattle.machine.specs.declared.Answer.{Answer}
 use Rattle.machine.specs.State.{state_length}
 use Rattle.machine.specs.Play.{answer, words_of_event}
@@ -17,7 +16,7 @@ pub data Listed : Type 0 where
 
 -- nothing is played: steps 0, state and answers untouched
 abbrev pub turned_down : ℕ → List ℤ → List ℤ → Listed
-turned_down n st answers = listed (answer n 0 Nothing) st answers
+turned_down n st answers = listed (answer n 0 None) st answers
 
 -- nine words for each event, and room for eleven of each answer
 unfoldable pub whole_events : List ℤ → List ℤ → Bool

@@ -1,7 +1,6 @@
 -- Events and answers of a list in words.
-use Rattle.std.specs.Prelude.{ℕ, zero, suc, ◌+◌, ◌*◌, ◌/◌, List, [], ◌∷◌, ◌++◌, true, false, length, take, drop, replicate, ℤ, pos, nat_abs}
-use Rattle.machine.specs.declared.Handed.{Handed}
-use Rattle.machine.specs.declared.Handed.TheVariants.{Nothing, Outside}
+use Rattle.machine.specs.declared.Telegram.{Telegram}
+use Rattle.std.specs.Prelude.{ℕ, zero, suc, ◌+◌, ◌*◌, ◌/◌, List, [], ◌∷◌, ◌++◌, true, false, length, take, drop, replicate, ℤ, pos, nat_abs, Option, Some, None}
 use Rattle.machine.specs.declared.Answer.{Answer}
 use Rattle.machine.specs.Values.{is_below, is_zero}
 use Rattle.machine.specs.State.{word_of, telegram_in}
@@ -27,13 +26,13 @@ abbrev pub words_of_answer : ℕ
 words_of_answer = 11
 
 -- 1 and the receiver, port, name and four data that were handed outside; or zeros
-unfoldable pub handed_words : Handed → List ℤ
-handed_words Nothing = replicate 8 (pos 0)
-handed_words (Outside t) = pos 1 ∷ t.receiver ∷ t.port ∷ t.name ∷ t.d0 ∷ t.d1 ∷ t.d2 ∷ t.d3 ∷ []
+unfoldable pub handed_words : Option Telegram → List ℤ
+handed_words None = replicate 8 (pos 0)
+handed_words (Some t) = pos 1 ∷ t.receiver ∷ t.port ∷ t.name ∷ t.d0 ∷ t.d1 ∷ t.d2 ∷ t.d3 ∷ []
 
 -- read again from those words: 1 stands where a telegram has its sender
-abbrev pub handed_in : List ℤ → ℕ → Handed
-handed_in ws at = elim (is_zero (word_of ws at)) [ true ↦ Nothing | false ↦ Outside (telegram_in ws at) ]
+abbrev pub handed_in : List ℤ → ℕ → Option Telegram
+handed_in ws at = elim (is_zero (word_of ws at)) [ true ↦ None | false ↦ Some (telegram_in ws at) ]
 
 -- number, steps, dropped, and what is handed
 abbrev pub answer_words : Answer → List ℤ

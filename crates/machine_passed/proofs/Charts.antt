@@ -1,4 +1,5 @@
 -- What is known of the elements, charts and bodies of a passed sheet.
+use Rattle.std.specs.Prelude.{Option, Some, None}
 use Prim.Native.Nat.{ℕ, zero, suc, ◌+◌, ◌-◌, ◌<◌, ◌≤◌}
 use mathlib.Core.Path.{◌≡◌, refl, sym, ap, ◌∙◌}
 use mathlib.Core.List.{List}
@@ -7,8 +8,6 @@ use native.Mathlib.Omega.{arith}
 use lib.Dec.{eqb}
 use borrow.Author.Tests.{ltb-true, leb-true, eqb-true, lt-ltb, le-leb}
 use Rattle.sheet.specs.declared.Record.{Record}
-use Rattle.sheet.specs.declared.Found.{Found}
-use Rattle.sheet.specs.declared.Found.TheVariants.{Present, Absent}
 use Rattle.sheet.specs.All.{◌and◌, all_below}
 use Rattle.sheet.specs.Names.{charts, bodies, bindings, chart_bodies, role, initial, panic, root, bound_chart}
 use Rattle.sheet.specs.Sheet.{record_of}
@@ -29,37 +28,37 @@ use Rattle.machine_passed.proofs.Records.{held, one_record, elements-rest, compo
 
 -- ---- elements
 
-no_record : {r : Record} {X : Type 0} → Absent ≡ Present r → X
+no_record : {r : Record} {X : Type 0} → None ≡ Some r → X
 no_record e = absurd (true_false {b = false} (ap there e) refl)
   where
-    there : Found → Bool
-    there (Present q) = true
-    there Absent = false
+    there : Option Record → Bool
+    there (Some q) = true
+    there None = false
 
 module _ (s : List ℕ) (e : ℕ) where
-  pub element-binding : (b c : Record) → Element s e b c → binding_of s e ≡ Present b
+  pub element-binding : (b c : Record) → Element s e b c → binding_of s e ≡ Some b
   unfolding binding_of
   element-binding b c x = rw (binding_of, x.bound) x.binding
 
-  pub element-chart : (b c : Record) → Element s e b c → chart_of s e ≡ Present c
+  pub element-chart : (b c : Record) → Element s e b c → chart_of s e ≡ Some c
   unfolding chart_of
   element-chart b c x = rw (chart_of, element-binding b c x) x.chart
 
-  binding-element : (b : Record) → binding_of s e ≡ Present b → (is_bound s e ≡ true) × (record_of s bindings (binding_at s e) ≡ Present b)
+  binding-element : (b : Record) → binding_of s e ≡ Some b → (is_bound s e ≡ true) × (record_of s bindings (binding_at s e) ≡ Some b)
   unfolding binding_of
   binding-element b h = go (is_bound s e) refl h
     where
-      go : (t : Bool) → is_bound s e ≡ t → ◌≡◌ {A = Found} (elim t [ true ↦ record_of s bindings (binding_at s e) | false ↦ Absent ]) (Present b) → (is_bound s e ≡ true) × (record_of s bindings (binding_at s e) ≡ Present b)
+      go : (t : Bool) → is_bound s e ≡ t → ◌≡◌ {A = Option Record} (elim t [ true ↦ record_of s bindings (binding_at s e) | false ↦ None ]) (Some b) → (is_bound s e ≡ true) × (record_of s bindings (binding_at s e) ≡ Some b)
       go true q h = (q, h)
       go false q h = no_record h
 
-  pub chart-element : (c : Record) → chart_of s e ≡ Present c → (b : Record) × Element s e b c
+  pub chart-element : (c : Record) → chart_of s e ≡ Some c → (b : Record) × Element s e b c
   unfolding chart_of
   chart-element c h = go (binding_of s e) refl h
     where
-      go : (f : Found) → binding_of s e ≡ f → ◌≡◌ {A = Found} (elim f [ Present b ↦ record_of s charts (bound_chart b) | Absent ↦ Absent ]) (Present c) → (b : Record) × Element s e b c
-      go (Present b) q h = let p = binding-element b q in (b, record { bound = p.0; binding = p.1; chart = h })
-      go Absent q h = no_record h
+      go : (f : Option Record) → binding_of s e ≡ f → ◌≡◌ {A = Option Record} (elim f [ Some b ↦ record_of s charts (bound_chart b) | None ↦ None ]) (Some c) → (b : Record) × Element s e b c
+      go (Some b) q h = let p = binding-element b q in (b, record { bound = p.0; binding = p.1; chart = h })
+      go None q h = no_record h
 
   -- the chart of a bound element is the one that its first record names
   pub chart_of_lem : is_bound s e ≡ true → chart_bound s (binding_at s e) ≡ chart_of s e
@@ -75,38 +74,38 @@ number_bound s i l = and-true _ _ (le-leb (externals_of s) (externals_of s + i) 
 
 module _ (s : List ℕ) (p : Record → Bool) where
   abbrev Here : ℕ → ℕ → Record → Type 0
-  Here n i b = (j : ℕ) × (j < n) × (record_of s bodies (i + j) ≡ Present b) × (p b ≡ true)
+  Here n i b = (j : ℕ) × (j < n) × (record_of s bodies (i + j) ≡ Some b) × (p b ≡ true)
 
-  from_found : (n i : ℕ) (b : Record) → body_from s p n i ≡ Present b → Here n i b
+  from_found : (n i : ℕ) (b : Record) → body_from s p n i ≡ Some b → Here n i b
   unfolding body_from
   from_found zero i b e = no_record e
   from_found (suc n) i b e = go (from_found n (suc i) b) (holds (record_of s bodies i) p) refl e
     where
-      go : (body_from s p n (suc i) ≡ Present b → Here n (suc i) b) → (t : Bool) → holds (record_of s bodies i) p ≡ t → ◌≡◌ {A = Found} (elim t [ true ↦ record_of s bodies i | false ↦ body_from s p n (suc i) ]) (Present b) → Here (suc n) i b
+      go : (body_from s p n (suc i) ≡ Some b → Here n (suc i) b) → (t : Bool) → holds (record_of s bodies i) p ≡ t → ◌≡◌ {A = Option Record} (elim t [ true ↦ record_of s bodies i | false ↦ body_from s p n (suc i) ]) (Some b) → Here (suc n) i b
       go later true q h = let z : i + 0 ≡ i = omega arith in (0, omega arith, rw z h, sym (holds-present (record_of s bodies i) b p h) ∙ q)
       go later false q h = let d = later h in let z : i + suc d.0 ≡ suc i + d.0 = omega arith in (suc d.0, (let l = d.1 in omega arith), rw z d.2, d.3)
 
-  from_some : (n i j : ℕ) → j < n → holds (record_of s bodies (i + j)) p ≡ true → (b : Record) × (body_from s p n i ≡ Present b)
+  from_some : (n i j : ℕ) → j < n → holds (record_of s bodies (i + j)) p ≡ true → (b : Record) × (body_from s p n i ≡ Some b)
   unfolding body_from
   from_some zero i j l h = absurd (omega arith)
   from_some (suc n) i j l h = go (from_some n (suc i)) (holds (record_of s bodies i) p) refl
     where
       Later : Type 0
-      Later = (m : ℕ) → m < n → holds (record_of s bodies (suc i + m)) p ≡ true → (b : Record) × (body_from s p n (suc i) ≡ Present b)
+      Later = (m : ℕ) → m < n → holds (record_of s bodies (suc i + m)) p ≡ true → (b : Record) × (body_from s p n (suc i) ≡ Some b)
 
-      next : Later → (m : ℕ) → j ≡ m → holds (record_of s bodies i) p ≡ false → (b : Record) × (body_from s p n (suc i) ≡ Present b)
+      next : Later → (m : ℕ) → j ≡ m → holds (record_of s bodies i) p ≡ false → (b : Record) × (body_from s p n (suc i) ≡ Some b)
       next later zero q f = absurd (true_false h (let z : i + j ≡ i = omega arith in rw z f))
       next later (suc m) q f = later m (omega arith) (let z : suc i + m ≡ i + j = omega arith in rw z h)
 
-      go : Later → (t : Bool) → holds (record_of s bodies i) p ≡ t → (b : Record) × (◌≡◌ {A = Found} (elim t [ true ↦ record_of s bodies i | false ↦ body_from s p n (suc i) ]) (Present b))
+      go : Later → (t : Bool) → holds (record_of s bodies i) p ≡ t → (b : Record) × (◌≡◌ {A = Option Record} (elim t [ true ↦ record_of s bodies i | false ↦ body_from s p n (suc i) ]) (Some b))
       go later true q = let r = held (record_of s bodies i) p q in (r.0, r.1)
       go later false q = next later j refl q
 
-  pub where_found : (c b : Record) → body_where s c p ≡ Present b → InChart s c b × (p b ≡ true)
+  pub where_found : (c b : Record) → body_where s c p ≡ Some b → InChart s c b × (p b ≡ true)
   unfolding body_where
   where_found c b e = let d = from_found (chart_bodies c).count (chart_bodies c).first b e in (record { number = d.0; below = d.1; there = d.2 }, d.3)
 
-  pub where_some : (c : Record) (j : ℕ) → j < (chart_bodies c).count → holds (body_of s c j) p ≡ true → (b : Record) × (body_where s c p ≡ Present b)
+  pub where_some : (c : Record) (j : ℕ) → j < (chart_bodies c).count → holds (body_of s c j) p ≡ true → (b : Record) × (body_where s c p ≡ Some b)
   unfolding body_where
   where_some c j l h = from_some (chart_bodies c).count (chart_bodies c).first j l h
 
@@ -140,7 +139,7 @@ some_reacts s c n e = some_meets (chart_bodies c).count (λ j. holds (body_of s 
     flip true h = absurd (true_false h refl)
     flip false h = refl
 
-pub reaction_there : (s : List ℕ) (c : Record) (n : ℕ) → has_reaction s c n ≡ true → (b : Record) × (body_where s c (reacts_to n) ≡ Present b)
+pub reaction_there : (s : List ℕ) (c : Record) (n : ℕ) → has_reaction s c n ≡ true → (b : Record) × (body_where s c (reacts_to n) ≡ Some b)
 reaction_there s c n e = let m = some_reacts s c n e in where_some s (reacts_to n) c m.0 m.1 m.2
 
 -- ---- a passed sheet
@@ -176,12 +175,12 @@ module _ (s : List ℕ) (ok : check_of s ≡ Passed) where
     unfolding binding_at
     element_low = omega (arith, (first_most s (e - externals_of s)).1, bound-number e x.bound, elements-rest s ok, components_limit s ok)
 
-  module _ (k : ℕ) (c : Record) (chart : record_of s charts k ≡ Present c) where
+  module _ (k : ℕ) (c : Record) (chart : record_of s charts k ≡ Some c) where
     bodies-static : bodies_static s c ≡ true
     unfolding chart_static
     bodies-static = and_second _ _ (and_second _ _ (and_second _ _ (chart-static s ok k c chart)))
 
-    pub body-there : (j : ℕ) → j < (chart_bodies c).count → (b : Record) × (body_of s c j ≡ Present b) × (no_twin s c j b and body_static s c b ≡ true)
+    pub body-there : (j : ℕ) → j < (chart_bodies c).count → (b : Record) × (body_of s c j ≡ Some b) × (no_twin s c j b and body_static s c b ≡ true)
     unfolding bodies_static
     body-there j l = held _ _ (all-at (chart_bodies c).count _ bodies-static j l)
 
@@ -192,15 +191,15 @@ module _ (s : List ℕ) (ok : check_of s ≡ Passed) where
     unfolding trees_shape
     body-tree b x = sym (holds-present _ b _ x.there) ∙ all-at (chart_bodies c).count _ (trees_shape_lem s ok k c chart) x.number x.below
 
-    one-body : (k : ℕ) → bodies_with s c k ≡ 1 → (b : Record) × (body_where s c (λ b. eqb (role b) k) ≡ Present b)
+    one-body : (k : ℕ) → bodies_with s c k ≡ 1 → (b : Record) × (body_where s c (λ b. eqb (role b) k) ≡ Some b)
     unfolding bodies_with has_role
     one-body k e = let m = counted (chart_bodies c).count (λ j. has_role s ((chart_bodies c).first + j) k) 0 e in where_some s (λ b. eqb (role b) k) c m.0 m.1 m.2
 
     -- "every chart has one initial and one panic body"
-    pub initial-there : (b : Record) × (body_where s c is_initial ≡ Present b)
+    pub initial-there : (b : Record) × (body_where s c is_initial ≡ Some b)
     unfolding chart_static
     initial-there = one-body initial (eqb-true _ _ (and_first _ _ (and_second _ _ (chart-static s ok k c chart))))
 
-    pub panic-there : (b : Record) × (body_where s c has_panic ≡ Present b)
+    pub panic-there : (b : Record) × (body_where s c has_panic ≡ Some b)
     unfolding chart_static
     panic-there = one-body panic (eqb-true _ _ (and_first _ _ (and_second _ _ (and_second _ _ (chart-static s ok k c chart)))))

@@ -1,4 +1,5 @@
 -- What a passed sheet numbers is there: its declarations, each with a default; its elements with all that they need.
+use Rattle.std.specs.Prelude.{Some}
 use Prim.Native.Nat.{ℕ, zero, suc, ◌+◌, ◌*◌, ◌-◌, ◌<◌, ◌≤◌}
 use mathlib.Core.Path.{◌≡◌, refl, sym, ap, ◌∙◌}
 use mathlib.Core.List.{List}
@@ -8,7 +9,6 @@ use lib.Dec.{ltb, leb, eqb}
 use borrow.Author.Tests.{ltb-true, ltb-false, leb-true, lt-ltb, le-leb}
 use Rattle.sheet.specs.declared.Record.{Record}
 use Rattle.sheet.specs.declared.Range.{Range}
-use Rattle.sheet.specs.declared.Found.TheVariants.{Present}
 use Rattle.sheet.specs.All.{◌and◌, all_below}
 use Rattle.sheet.specs.Table.{look_up}
 use Rattle.sheet.specs.Names.{enumerated_types, declarations, names, charts, bodies, size, default_member, declared_type, data_of, chart_parameters, chart_variables, chart_bodies, body_parameters, body_locals, bound_chart, chart_parameter, chart_variable, body_variable, is_clock}
@@ -43,7 +43,7 @@ module _ (s : List ℕ) where
   unfolding in_section
   in_section_lem k g h j l = let m : g.first + g.count ≤ count_of s k = leb-true _ _ h in omega arith
 
-  pub declared_record : (d : ℕ) → d < count_of s declarations → (r : Record) × (record_of s declarations d ≡ Present r) × (declared_type r ≡ type_at s d)
+  pub declared_record : (d : ℕ) → d < count_of s declarations → (r : Record) × (record_of s declarations d ≡ Some r) × (declared_type r ≡ type_at s d)
   unfolding type_at
   declared_record d l = let p = record_present s declarations d l in (_, p, sym (number-present _ _ declared_type p))
 
@@ -103,11 +103,11 @@ module _ (s : List ℕ) (ok : check_of s ≡ Passed) where
 
   -- ---- the declarations that records number
 
-  pub name-declared : (n : ℕ) (r : Record) → record_of s names n ≡ Present r → (j : ℕ) → j < (data_of r).count → (data_of r).first + j < count_of s declarations
+  pub name-declared : (n : ℕ) (r : Record) → record_of s names n ≡ Some r → (j : ℕ) → j < (data_of r).count → (data_of r).first + j < count_of s declarations
   unfolding name_shape
   name-declared n r e = in_section_lem s declarations (data_of r) (and_first _ _ (name-shape s ok n r e))
 
-  module _ (k : ℕ) (c : Record) (chart : record_of s charts k ≡ Present c) where
+  module _ (k : ℕ) (c : Record) (chart : record_of s charts k ≡ Some c) where
     pub chart_parameter_declared : (j : ℕ) → j < (chart_parameters c).count → (chart_parameters c).first + j < count_of s declarations
     unfolding chart_shape
     chart_parameter_declared = in_section_lem s declarations (chart_parameters c) (and_first _ _ (chart-shape s ok k c chart))
@@ -160,7 +160,7 @@ module _ (s : List ℕ) (ok : check_of s ≡ Passed) where
   unfolding has_head
   has_head_lem = holds-present _ (head-there s ok).0 _ (head-there s ok).1
 
-  pub element-declared : (e : ℕ) (c : Record) → chart_of s e ≡ Present c → (j : ℕ) → j < (chart_variables c).count → (chart_variables c).first + j < count_of s declarations
+  pub element-declared : (e : ℕ) (c : Record) → chart_of s e ≡ Some c → (j : ℕ) → j < (chart_variables c).count → (chart_variables c).first + j < count_of s declarations
   element-declared e c p = let x = chart-element s e c p in chart-variable-declared (bound_chart x.0) c x.1.chart
 
   pub element-there : (e : ℕ) → is_bound s e ≡ true → element_there s e ≡ true

@@ -1,4 +1,5 @@
 -- Array variables on a passed sheet: what an index may be, and that a clock is a plain variable.
+use Rattle.std.specs.Prelude.{Option, Some, None}
 use Prim.Native.Nat.{ℕ, ◌-◌, ◌<◌, ◌≤◌}
 use mathlib.Core.Path.{◌≡◌, refl, sym, ap, subst, ◌∙◌}
 use mathlib.Core.List.{List, ◌∷◌}
@@ -10,8 +11,6 @@ use lib.Dec.{T, eqb}
 use lib.IntN.{ℤ}
 use borrow.Author.Tests.{not-true}
 use Rattle.sheet.specs.declared.Record.{Record}
-use Rattle.sheet.specs.declared.Found.{Found}
-use Rattle.sheet.specs.declared.Found.TheVariants.{Present, Absent}
 use Rattle.sheet.specs.All.{◌and◌}
 use Rattle.sheet.specs.Table.{Line, look_up}
 use Rattle.sheet.specs.Names.{declarations, declared_type, declared_index, int_type, is_clock}
@@ -75,9 +74,9 @@ module _ (s : List ℕ) where
   unfolding index_at
   covers_at d = go (record_of s declarations d)
     where
-      go : (f : Found) → Covers (elim f [ Present r ↦ index_of s (declared_index r) | Absent ↦ no_index ])
-      go (Present r) = index_covers (declared_index r)
-      go Absent = tt
+      go : (f : Option Record) → Covers (elim f [ Some r ↦ index_of s (declared_index r) | None ↦ no_index ])
+      go (Some r) = index_covers (declared_index r)
+      go None = tt
 
 -- ---- plain variables
 
@@ -109,6 +108,6 @@ module _ (s : List ℕ) (ok : check_of s ≡ Passed) where
   unfolding type_at index_at number_or0 is_clock ◌and◌
   clock-plain d = go (record_of s declarations d) refl
     where
-      go : (f : Found) → record_of s declarations d ≡ f → is_clock (number_or0 f declared_type) ≡ true → is_plain (elim f [ Present r ↦ index_of s (declared_index r) | Absent ↦ no_index ]) ≡ true
-      go (Present r) e h = array_no_clock s r (declaration_static_lem s ok d r e) h
-      go Absent e h = absurd (true_false h refl)
+      go : (f : Option Record) → record_of s declarations d ≡ f → is_clock (number_or0 f declared_type) ≡ true → is_plain (elim f [ Some r ↦ index_of s (declared_index r) | None ↦ no_index ]) ≡ true
+      go (Some r) e h = array_no_clock s r (declaration_static_lem s ok d r e) h
+      go None e h = absurd (true_false h refl)

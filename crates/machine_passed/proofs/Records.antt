@@ -1,4 +1,5 @@
 -- What is known of each record of a passed sheet.
+use Rattle.std.specs.Prelude.{Option, Some, None}
 use Prim.Native.Nat.{ℕ, ◌+◌, ◌<◌, ◌≤◌}
 use mathlib.Core.Path.{◌≡◌, refl, sym, ap, ◌∙◌}
 use mathlib.Core.List.{List}
@@ -6,8 +7,6 @@ use mathlib.Core.Bool.{Bool, true, false}
 use native.Mathlib.Omega.{arith}
 use borrow.Author.Tests.{leb-true, eqb-true}
 use Rattle.sheet.specs.declared.Record.{Record}
-use Rattle.sheet.specs.declared.Found.{Found}
-use Rattle.sheet.specs.declared.Found.TheVariants.{Present, Absent}
 use Rattle.sheet.specs.Table.{look_up}
 use Rattle.sheet.specs.Names.{head, enumerated_types, declarations, names, charts, bodies, bindings, declared_type, components, externals, ports}
 use Rattle.sheet.specs.Sheet.{directory_right, count_of, record_of}
@@ -27,12 +26,12 @@ pub use Rattle.sheet_rules.proofs.Fields.{held}
 
 -- ---- a record that is there
 
-pub one_record : (r r' : Record) → Present r ≡ Present r' → r ≡ r'
+pub one_record : (r r' : Record) → Some r ≡ Some r' → r ≡ r'
 one_record r r' e = ap get e
   where
-    get : Found → Record
-    get (Present q) = q
-    get Absent = r
+    get : Option Record → Record
+    get (Some q) = q
+    get None = r
 
 module _ (s : List ℕ) (ok : check_of s ≡ Passed) where
   both : (shape s ≡ true) × (static s ≡ true)
@@ -80,7 +79,7 @@ module _ (s : List ℕ) (ok : check_of s ≡ Passed) where
 
   -- ---- each record
 
-  module _ (k n : ℕ) (r : Record) (below : k < bindings) (e : record_of s k n ≡ Present r) where
+  module _ (k n : ℕ) (r : Record) (below : k < bindings) (e : record_of s k n ≡ Some r) where
     record_shape_lem : record_shape s k n r ≡ true
     record_shape_lem = record_shaped s sections k n r below e
 
@@ -88,39 +87,39 @@ module _ (s : List ℕ) (ok : check_of s ≡ Passed) where
     record_static_lem = record_ruled s ruled k n r below e
 
   module _ (n : ℕ) (r : Record) where
-    pub type_shape : record_of s enumerated_types n ≡ Present r → enumerated_shape r ≡ true
+    pub type_shape : record_of s enumerated_types n ≡ Some r → enumerated_shape r ≡ true
     unfolding record_shape look_up
     type_shape e = record_shape_lem 1 n r (omega arith) e
 
-    pub declaration_shape_lem : record_of s declarations n ≡ Present r → declaration_shape s r ≡ true
+    pub declaration_shape_lem : record_of s declarations n ≡ Some r → declaration_shape s r ≡ true
     unfolding record_shape look_up
     declaration_shape_lem e = record_shape_lem 2 n r (omega arith) e
 
-    pub name-shape : record_of s names n ≡ Present r → name_shape s r ≡ true
+    pub name-shape : record_of s names n ≡ Some r → name_shape s r ≡ true
     unfolding record_shape look_up
     name-shape e = record_shape_lem 3 n r (omega arith) e
 
-    pub chart-shape : record_of s charts n ≡ Present r → chart_shape s n r ≡ true
+    pub chart-shape : record_of s charts n ≡ Some r → chart_shape s n r ≡ true
     unfolding record_shape look_up
     chart-shape e = record_shape_lem 4 n r (omega arith) e
 
-    pub body-shape : record_of s bodies n ≡ Present r → body_shape s r ≡ true
+    pub body-shape : record_of s bodies n ≡ Some r → body_shape s r ≡ true
     unfolding record_shape look_up
     body-shape e = record_shape_lem 5 n r (omega arith) e
 
-    pub trees_shape_lem : record_of s charts n ≡ Present r → trees_shape s r ≡ true
+    pub trees_shape_lem : record_of s charts n ≡ Some r → trees_shape s r ≡ true
     unfolding nodes_shape
     trees_shape_lem e = sym (holds-present (record_of s charts n) r (trees_shape s) e) ∙ all-at (count_of s charts) _ trees n (present-below s charts n r e)
 
-    pub declaration_static_lem : record_of s declarations n ≡ Present r → declaration_static s r ≡ true
+    pub declaration_static_lem : record_of s declarations n ≡ Some r → declaration_static s r ≡ true
     unfolding record_static look_up
     declaration_static_lem e = record_static_lem 2 n r (omega arith) e
 
-    pub name-static : record_of s names n ≡ Present r → name_static s r ≡ true
+    pub name-static : record_of s names n ≡ Some r → name_static s r ≡ true
     unfolding record_static look_up
     name-static e = record_static_lem 3 n r (omega arith) e
 
-    pub chart-static : record_of s charts n ≡ Present r → chart_static s r ≡ true
+    pub chart-static : record_of s charts n ≡ Some r → chart_static s r ≡ true
     unfolding record_static look_up
     chart-static e = record_static_lem 4 n r (omega arith) e
 
@@ -133,11 +132,11 @@ module _ (s : List ℕ) (ok : check_of s ≡ Passed) where
 
   -- ---- the head
 
-  pub head-there : (r : Record) × (record_of s head 0 ≡ Present r) × (head_shape r ≡ true)
+  pub head-there : (r : Record) × (record_of s head 0 ≡ Some r) × (head_shape r ≡ true)
   unfolding record_shape look_up
   head-there = let p = record_present s head 0 (omega (arith, one-head)) in (_, p, record_shape_lem 0 0 _ (omega arith) p)
 
-  head_numbers : (r : Record) → record_of s head 0 ≡ Present r → head_shape r ≡ true → (2 ≤ externals_of s) × (externals_of s ≤ components_of s) × (components_of s ≤ 64) × (2 ≤ ports_of s) × (ports_of s ≤ 64)
+  head_numbers : (r : Record) → record_of s head 0 ≡ Some r → head_shape r ≡ true → (2 ≤ externals_of s) × (externals_of s ≤ components_of s) × (components_of s ≤ 64) × (2 ≤ ports_of s) × (ports_of s ≤ 64)
   unfolding head_shape components_of externals_of ports_of
   head_numbers r e h =
       let c : components_of s ≡ r.f0 = number-present _ r components e in
@@ -171,6 +170,6 @@ module _ (s : List ℕ) (ok : check_of s ≡ Passed) where
   unfolding type_at number_or0 declaration_shape type_exists
   declared-exists d = go (record_of s declarations d) refl
     where
-      go : (f : Found) → record_of s declarations d ≡ f → type_exists s (number_or0 f declared_type) ≡ true
-      go (Present r) e = and_first _ _ (declaration_shape_lem d r e)
-      go Absent e = refl
+      go : (f : Option Record) → record_of s declarations d ≡ f → type_exists s (number_or0 f declared_type) ≡ true
+      go (Some r) e = and_first _ _ (declaration_shape_lem d r e)
+      go None e = refl

@@ -1,7 +1,6 @@
 -- Where a body runs on a passed sheet, and what its variables hold.
-use Rattle.std.specs.Prelude.{ℕ, ◌+◌, ◌<◌, ◌≤◌, ◌≡◌, List, Bool, true, false, length, ltb, ℤ}
+use Rattle.std.specs.Prelude.{ℕ, ◌+◌, ◌<◌, ◌≤◌, ◌≡◌, List, Bool, true, false, length, ltb, ℤ, Some, None}
 use Rattle.sheet.specs.declared.Record.{Record}
-use Rattle.sheet.specs.declared.Found.TheVariants.{Present, Absent}
 use Rattle.sheet.specs.Names.{charts, bodies, bindings, chart_variables, chart_bodies, body_parameters, body_locals, bound_chart, body_variable}
 use Rattle.sheet.specs.Sheet.{record_of}
 use Rattle.sheet_rules.specs.Fields.{type_at}
@@ -18,13 +17,13 @@ use Rattle.machine.specs.Play.{body_where}
 pub record InChart (s : List ℕ) (c b : Record) : Type 0 where
   pub number : ℕ
   pub below : number < (chart_bodies c).count
-  pub there : body_of s c number ≡ Present b
+  pub there : body_of s c number ≡ Some b
 
 -- element e with its first binding record and its chart
 pub record Element (s : List ℕ) (e : ℕ) (b c : Record) : Type 0 where
   pub bound : is_bound s e ≡ true
-  pub binding : record_of s bindings (binding_at s e) ≡ Present b
-  pub chart : record_of s charts (bound_chart b) ≡ Present c
+  pub binding : record_of s bindings (binding_at s e) ≡ Some b
+  pub chart : record_of s charts (bound_chart b) ≡ Some c
 
 -- a body of an element's chart
 pub record Placed (s : List ℕ) (x : Context) : Type 0 where
@@ -45,4 +44,4 @@ Cells s x st = (j k : ℕ) → j < (chart_variables x.chart).count → k < cells
 -- number j of chart c is the first body that meets a test; the count of its bodies if none does
 pub record StandsAt (s : List ℕ) (c : Record) (p : Record → Bool) (j : ℕ) : Type 0 where
   pub within : j ≤ (chart_bodies c).count
-  pub there : body_where s c p ≡ elim (ltb j (chart_bodies c).count) [ true ↦ record_of s bodies ((chart_bodies c).first + j) | false ↦ Absent ]
+  pub there : body_where s c p ≡ elim (ltb j (chart_bodies c).count) [ true ↦ record_of s bodies ((chart_bodies c).first + j) | false ↦ None ]

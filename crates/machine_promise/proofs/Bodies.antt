@@ -1,5 +1,6 @@
 -- The bodies that events run.
-use Prim.Native.Nat.{ℕ, zero, suc, ◌+◌, ◌-◌, ◌<◌, ◌≤◌}
+use Rattle.std.specs.Prelude.{Some}
+use Prim.Native.Nat.{ℕ, zero, suc, ◌+◌, ◌<◌, ◌≤◌}
 use mathlib.Core.Path.{◌≡◌, refl, sym, ap, subst, ◌∙◌}
 use mathlib.Core.List.{List, [], ◌∷◌}
 use mathlib.Core.Logic.{inl, inr}
@@ -9,7 +10,6 @@ use lib.Dec.{leb, eqb}
 use lib.IntN.{ℤ, pos, negsuc, nat_abs}
 use borrow.Author.Tests.{ltb-true, eqb-true, lt-ltb, le-leb, eq-eqb}
 use Rattle.sheet.specs.declared.Record.{Record}
-use Rattle.sheet.specs.declared.Found.TheVariants.{Present}
 use Rattle.sheet.specs.All.{◌and◌}
 use Rattle.sheet.specs.Names.{names, data_of, role, panic, reaction_name, body_parameters, root}
 use Rattle.sheet.specs.Sheet.{count_of, record_of}
@@ -40,7 +40,7 @@ use Rattle.machine_sound.proofs.Run.{body_ends}
 use Rattle.machine_promise.specs.Promise.{EventKept}
 
 -- a record by a word that is a number
-record_by_lem : (s : List ℕ) (k : ℕ) (z : ℤ) → is_below z (count_of s k) ≡ true → (r : Record) × (record_by s k z ≡ Present r) × (record_of s k (nat_abs z) ≡ Present r)
+record_by_lem : (s : List ℕ) (k : ℕ) (z : ℤ) → is_below z (count_of s k) ≡ true → (r : Record) × (record_by s k z ≡ Some r) × (record_of s k (nat_abs z) ≡ Some r)
 unfolding is_below record_by
 record_by_lem s k (pos n) h = let p = record_present s k n (ltb-true _ _ h) in (_, p, p)
 record_by_lem s k (negsuc n) h = absurd (true_false h refl)
@@ -57,11 +57,11 @@ module _ (s : List ℕ) (ok : check_of s ≡ Passed) (e : ℕ) (b c : Record) (x
     abbrev Parameters : List ℤ → Type 0
     Parameters zs = (j : ℕ) → j < (body_parameters d).count → in_type s (type_at s ((body_parameters d).first + j)) (datum zs j) ≡ true
 
-    pub ran_is : (zs st : List ℤ) → ran_body s (limit_of s) e (Present d) zs st ≡ run_of s 0 context (root d) (limit_of s) st (locals_of s d zs)
+    pub ran_is : (zs st : List ℤ) → ran_body s (limit_of s) e (Some d) zs st ≡ run_of s 0 context (root d) (limit_of s) st (locals_of s d zs)
     unfolding ran_body with_record provided
     ran_is zs st = rw (ran_body, element-chart s e b c x, locals-there s ok _ c x.chart d i) refl
 
-    pub ran_ends : (zs st : List ℤ) → OfSheet s st → Parameters zs → Ends s context (ran_body s (limit_of s) e (Present d) zs st).ran (ran_body s (limit_of s) e (Present d) zs st).st (ran_body s (limit_of s) e (Present d) zs st).lo
+    pub ran_ends : (zs st : List ℤ) → OfSheet s st → Parameters zs → Ends s context (ran_body s (limit_of s) e (Some d) zs st).ran (ran_body s (limit_of s) e (Some d) zs st).st (ran_body s (limit_of s) e (Some d) zs st).lo
     ran_ends zs st o p = subst (λ w. Ends s context w.ran w.st w.lo) (sym (ran_is zs st)) (body_ends s ok 0 context (limit_of s) st (locals_of s d zs) placed o (fresh_locals s ok context placed zs p))
 
     end_kept : (old : List ℤ) (r : Ran) (st lo : List ℤ) → Ends s context r st lo → EventKept s old (event_end (limit_of s) old r st)
@@ -70,7 +70,7 @@ module _ (s : List ℕ) (ok : check_of s ≡ Passed) (e : ℕ) (b c : Record) (x
     end_kept old (Refused k l) st lo h = (inr (omega arith, omega arith), λ q. absurd (let m = h.0 in omega arith), λ n. refl)
     end_kept old Stuck st lo h = h
 
-    pub body_kept : (old zs st : List ℤ) → OfSheet s st → Parameters zs → EventKept s old (body_event s (limit_of s) old e (Present d) zs st)
+    pub body_kept : (old zs st : List ℤ) → OfSheet s st → Parameters zs → EventKept s old (body_event s (limit_of s) old e (Some d) zs st)
     body_kept old zs st o p = end_kept old _ _ _ (ran_ends zs st o p)
 
     static-role : role_static s d ≡ true
@@ -90,7 +90,7 @@ module _ (s : List ℕ) (ok : check_of s ≡ Passed) (e : ℕ) (b c : Record) (x
     pub no_parameters : role d ≤ panic → (zs : List ℤ) → Parameters zs
     no_parameters h zs j l = absurd (omega (arith, none_asked h))
 
-    pub runs-alone : role d ≤ panic → alone (Present d) ≡ Present d
+    pub runs-alone : role d ≤ panic → alone (Some d) ≡ Some d
     unfolding alone
     runs-alone h = rw (alone, eq-eqb (body_parameters d).count 0 (none_asked h)) refl
 
@@ -100,7 +100,7 @@ module _ (s : List ℕ) (ok : check_of s ≡ Passed) (e : ℕ) (b c : Record) (x
       unfolding role_static reaction_static
       reaction_types h = rw name at (and_second _ _ (rw (role_static, h) at static-role))
 
-      named : (n : Record) × (record_by s names t.name ≡ Present n) × (record_of s names (nat_abs t.name) ≡ Present n)
+      named : (n : Record) × (record_by s names t.name ≡ Some n) × (record_of s names (nat_abs t.name) ≡ Some n)
       named = record_by_lem s names t.name below
 
       abbrev n : Record
@@ -137,7 +137,7 @@ module _ (s : List ℕ) (ok : check_of s ≡ Passed) (e : ℕ) (b c : Record) (x
             let k : j < (data_of n).count = omega (arith, same_count) in
             rw (same_type_lem j l) (declared_true s _ (λ t. in_type s t _) (rw (lt-ltb j (data_of n).count k) at (all-at 4 _ fits j (omega (arith, few_data s ok _ n named.2)))))
 
-        pub reacting-kept : (old st : List ℤ) → OfSheet s st → EventKept s old (reacting s (limit_of s) old e (Present d) t st)
+        pub reacting-kept : (old st : List ℤ) → OfSheet s st → EventKept s old (reacting s (limit_of s) old e (Some d) t st)
         unfolding reacting holds
         reacting-kept old st o = rw (reacting, brought_so) (body_kept old _ st o brought_data)
 

@@ -1,4 +1,6 @@
 -- Every event on a state of the sheet keeps it so, and is not stuck.
+use Rattle.std.specs.Prelude.{Option, Some, None}
+use Rattle.sheet.specs.declared.Record.{Record}
 use Prim.Native.Nat.{ℕ, zero, suc, ◌+◌, ◌<◌}
 use mathlib.Core.Path.{◌≡◌, refl, sym, ap, subst, ◌∙◌}
 use mathlib.Core.List.{List}
@@ -9,15 +11,12 @@ use lib.ListN.{length}
 use lib.Dec.{ltb, eqb}
 use lib.IntN.{ℤ, pos, negsuc, nat_abs}
 use borrow.Author.Tests.{ltb-true, ltb-false, eqb-true, le-leb, eq-eqb, not-true}
-use Rattle.sheet.specs.declared.Found.{Found}
-use Rattle.sheet.specs.declared.Found.TheVariants.{Present, Absent}
 use Rattle.sheet.specs.All.{◌and◌}
 use Rattle.sheet.specs.Names.{names, external, role, external_reaction, internal_reaction}
 use Rattle.sheet.specs.Sheet.{count_of}
 use Rattle.sheet.proofs.All.{true_false, and_first, and_second, and-true, and-false}
 use Rattle.sheet_rules.specs.declared.Checked.TheVariants.{Passed}
 use Rattle.machine.specs.declared.Telegram.{Telegram}
-use Rattle.machine.specs.declared.Handed.TheVariants.{Nothing, Outside}
 use Rattle.sheet_rules.specs.Fields.{holds, components_of, externals_of, ports_of, elements_of}
 use Rattle.sheet_rules.specs.Shape.{is_reaction}
 use Rattle.sheet_rules.specs.Types.{name_range, has_class, has_reaction}
@@ -76,7 +75,7 @@ unfolding taking
 taking-kept s st o p K h = subst (λ b. EventKept s st (elim b [ true ↦ taken (ltb (oldest s st p) (waiting st)) | false ↦ stuck ])) (sym (is_counted_lem s st o)) (go (ltb (oldest s st p) (waiting st)) refl)
   where
     taken : Bool → Outcome
-    taken b = elim b [ true ↦ K (telegram_of s st (oldest s st p)) (without_telegram s st (oldest s st p)) | false ↦ ended (answer 5 0 Nothing) st ]
+    taken b = elim b [ true ↦ K (telegram_of s st (oldest s st p)) (without_telegram s st (oldest s st p)) | false ↦ ended (answer 5 0 None) st ]
 
     go : (b : Bool) → ltb (oldest s st p) (waiting st) ≡ b → EventKept s st (taken b)
     go true q = let l = ltb-true _ _ q in h _ _ (telegram_of_lem s st o _ l) (oldest_meets s st p l) (removed_kept s st o _ l)
@@ -101,7 +100,7 @@ module _ (s : List ℕ) (ok : check_of s ≡ Passed) where
   change_end_lem old (off n) h = (inr (omega arith, omega arith), λ z. absurd (omega (arith, h.0)), λ k. refl)
   change_end_lem old lost h = h
 
-  -- ---- 1 Outside
+  -- ---- 1 Some
 
   outside_kept : (st : List ℤ) → OfSheet s st → (t : Telegram) → telegram_fits s t ≡ true → EventKept s st (outside s st t)
   unfolding outside
@@ -114,13 +113,13 @@ module _ (s : List ℕ) (ok : check_of s ≡ Passed) where
   unfolding received is_reaction
   received-kept old st o t below h e p bound = go (element_body s e (reacts_on p (nat_abs t.name))) refl
     where
-      go : (f : Found) → element_body s e (reacts_on p (nat_abs t.name)) ≡ f → EventKept s old (elim f [ Present b ↦ reacting s (limit_of s) old e (Present b) t st | Absent ↦ elim (bodies_there s e) [ true ↦ panicking s (limit_of s) old e st | false ↦ stuck ] ])
-      go (Present d) q =
+      go : (f : Option Record) → element_body s e (reacts_on p (nat_abs t.name)) ≡ f → EventKept s old (elim f [ Some b ↦ reacting s (limit_of s) old e (Some b) t st | None ↦ elim (bodies_there s e) [ true ↦ panicking s (limit_of s) old e st | false ↦ stuck ] ])
+      go (Some d) q =
           let x = bound-element s ok e bound in
           let f = where_found s _ x.1 d (sym (body_of s ok e x.0 x.1 x.2 _) ∙ q) in
           let two : role d ≡ external_reaction = eqb-true _ _ (and_first _ _ f.1) in
           reacting-kept s ok e x.0 x.1 x.2 d f.0 t (eqb-true _ _ (and_second _ _ (and_second _ _ f.1))) below h (rw two (and-true _ _ refl refl)) old st o
-      go Absent q = let x = bound-element s ok e bound in subst (λ b. EventKept s old (elim b [ true ↦ panicking s (limit_of s) old e st | false ↦ stuck ])) (sym (bodies-there s ok e bound)) (panicking-kept s ok e x.0 x.1 x.2 old st o)
+      go None q = let x = bound-element s ok e bound in subst (λ b. EventKept s old (elim b [ true ↦ panicking s (limit_of s) old e st | false ↦ stuck ])) (sym (bodies-there s ok e bound)) (panicking-kept s ok e x.0 x.1 x.2 old st o)
 
   delivered-kept : (old : List ℤ) (t : Telegram) (st : List ℤ) → telegram_fits s t ≡ true → is_internal t ≡ false → OfSheet s st → EventKept s old (delivered s (limit_of s) old t st)
   unfolding delivered external_fits name_fits
@@ -129,7 +128,7 @@ module _ (s : List ℕ) (ok : check_of s ≡ Passed) where
       named : is_below t.name (count_of s names) and has_class s (nat_abs t.name) external and data_fit s (name_range s (nat_abs t.name)) (datum_of t) ≡ true
       named = and_second _ _ (and_second _ _ (external_part t h n))
 
-      go : (b : Bool) → is_below t.receiver (externals_of s) ≡ b → EventKept s old (elim b [ true ↦ ended (answer 0 0 (Outside t)) st | false ↦ with_number t.receiver (λ e. with_number t.port (λ p. with_number t.name (λ n. received s (limit_of s) old t st e p n))) ])
+      go : (b : Bool) → is_below t.receiver (externals_of s) ≡ b → EventKept s old (elim b [ true ↦ ended (answer 0 0 (Some t)) st | false ↦ with_number t.receiver (λ e. with_number t.port (λ p. with_number t.name (λ n. received s (limit_of s) old t st e p n))) ])
       go true q = (inl refl, λ z. o, λ k. absurd (k refl))
       go false q =
           subst (EventKept s old)
@@ -160,7 +159,7 @@ module _ (s : List ℕ) (ok : check_of s ≡ Passed) where
       let named = and_second _ _ (and_second _ _ i) in
       let fits : data_fit s (name_range s (nat_abs t.name)) (datum_of t) ≡ true = and_second _ _ (and_second _ _ (and_first _ _ named)) in
       let x = bound-element s ok (nat_abs r) bound in
-      let c : chart_of s (nat_abs r) ≡ Present x.1 = element-chart s (nat_abs r) x.0 x.1 x.2 in
+      let c : chart_of s (nat_abs r) ≡ Some x.1 = element-chart s (nat_abs r) x.0 x.1 x.2 in
       let awaits = subst (λ z. holds (chart_of s (nat_abs z)) (λ c. has_reaction s c (nat_abs t.name)) ≡ true) same (and_second _ _ named) in
       let d = reaction_there s x.1 (nat_abs t.name) (sym (holds-present _ x.1 _ c) ∙ awaits) in
       let f = where_found s _ x.1 d.0 d.1 in

@@ -1,4 +1,5 @@
 -- On a passed sheet an internal name that waits or is armed has one reaction.
+use Rattle.std.specs.Prelude.{Some}
 use Prim.Native.Nat.{ℕ, zero, suc, ◌<◌}
 use mathlib.Core.Path.{◌≡◌, refl, sym, ap, subst, ◌∙◌}
 use mathlib.Core.List.{List}
@@ -9,7 +10,6 @@ use lib.Dec.{ltb, leb, eqb}
 use lib.IntN.{ℤ}
 use borrow.Author.Tests.{eqb-true, eq-eqb, not-true}
 use Rattle.sheet.specs.declared.Record.{Record}
-use Rattle.sheet.specs.declared.Found.TheVariants.{Present}
 use Rattle.sheet.specs.All.{◌and◌}
 use Rattle.sheet.specs.Names.{charts, chart_bodies, role, internal_reaction, external_reaction, reaction_port, reaction_name, bound_chart}
 use Rattle.sheet.specs.Sheet.{record_of}
@@ -61,12 +61,12 @@ once-counted (suc n) p one h = go (once-counted n p) (p n) refl
 module _ (s : List ℕ) (ok : check_of s ≡ Passed) where
   -- ---- "no chart has two .. internal ones with equal name"
 
-  module _ (k : ℕ) (c : Record) (chart : record_of s charts k ≡ Present c) (n : ℕ) where
+  module _ (k : ℕ) (c : Record) (chart : record_of s charts k ≡ Some c) (n : ℕ) where
     abbrev reacts : ℕ → Bool
     reacts j = holds (body_of s c j) (reacts_to n)
 
     -- a body that is no external reaction has port 0
-    no_port_lem : (j : ℕ) (b : Record) → body_of s c j ≡ Present b → role b ≡ internal_reaction → reaction_port b ≡ 0
+    no_port_lem : (j : ℕ) (b : Record) → body_of s c j ≡ Some b → role b ≡ internal_reaction → reaction_port b ≡ 0
     unfolding body_shape reaction_shape
     no_port_lem j b e three = eqb-true _ _ (subst (λ r. ◌≡◌ {A = Bool} (elim (eqb r external_reaction) [ true ↦ ltb (reaction_port b) (ports_of s) | false ↦ eqb (reaction_port b) 0 ]) true) three (and_first _ _ (and_first _ _ (and_second _ _ (body-shape s ok _ b e)))))
 

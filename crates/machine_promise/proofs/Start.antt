@@ -1,5 +1,5 @@
 -- Start is not stuck, and after 0 its state is of the sheet.
-use Prim.Native.Nat.{ℕ, zero, suc, ◌+◌, ◌-◌, ◌≤◌}
+use Prim.Native.Nat.{ℕ, zero, suc, ◌+◌, ◌≤◌}
 use mathlib.Core.Path.{◌≡◌, refl, sym, ap, subst, ◌∙◌}
 use mathlib.Core.List.{List, []}
 use mathlib.Core.Logic.{inl, inr}
@@ -9,7 +9,6 @@ use lib.ListN.{length}
 use lib.Dec.{eqb}
 use lib.IntN.{ℤ}
 use borrow.Author.Tests.{eqb-true, lt-ltb, le-leb, eq-eqb}
-use Rattle.sheet.specs.All.{◌and◌}
 use Rattle.sheet.specs.Names.{role, initial}
 use Rattle.sheet.proofs.All.{and-true}
 use Rattle.machine.specs.declared.Ran.{Ran}

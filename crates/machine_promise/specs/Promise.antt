@@ -1,7 +1,6 @@
 -- What is promised of the machine on a sheet that the rules pass.
-use Rattle.std.specs.Prelude.{ℕ, ◌+◌, ◌<◌, ◌≤◌, ◌≡◌, List, [], ◌∷◌, ◌⊎◌, true, false, length, eqb, ℤ, nat_abs}
+use Rattle.std.specs.Prelude.{ℕ, ◌+◌, ◌<◌, ◌≤◌, ◌≡◌, List, [], ◌∷◌, ◌⊎◌, true, false, length, eqb, ℤ, nat_abs, Some}
 use Rattle.sheet.specs.declared.Record.{Record}
-use Rattle.sheet.specs.declared.Found.TheVariants.{Present}
 use Rattle.sheet.specs.Names.{bodies, chart_variables, chart_bodies, timer_type, is_clock}
 use Rattle.sheet.specs.Sheet.{record_of}
 use Rattle.machine.specs.declared.Answer.{Answer}
@@ -38,7 +37,7 @@ clock_at s e c j = cell_of s e c j 0
 
 -- variable j of element e, whose chart is c, is a Timeout or a Cycler, and runs
 pub record Armed (s : List ℕ) (st : List ℤ) (e : ℕ) (c : Record) (j : ℕ) : Type 0 where
-  pub chart : chart_of s e ≡ Present c
+  pub chart : chart_of s e ≡ Some c
   pub variable : j < (chart_variables c).count
   pub clock : is_clock (type_at s ((chart_variables c).first + j)) ≡ true
   pub no_timer : eqb (type_at s ((chart_variables c).first + j)) timer_type ≡ false

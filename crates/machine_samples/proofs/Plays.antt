@@ -1,10 +1,10 @@
 -- What the samples about whole plays are made of: start as a call, events on the states that are left, sheets, states.
+use Rattle.std.specs.Prelude.{None}
 use Prim.Native.Nat.{ℕ, zero, suc, ◌+◌, ◌*◌, ◌-◌}
 use mathlib.Core.List.{List, [], ◌∷◌, ◌++◌}
 use lib.ListN.{replicate}
 use lib.IntN.{ℤ, pos}
 use Rattle.sheet_rules.proofs.Samples.{sheet_of, rec3, rec6, body}
-use Rattle.machine.specs.declared.Handed.TheVariants.{Nothing}
 use Rattle.machine.specs.State.{state_length, waiting}
 use Rattle.machine.specs.Valid.{name_fits, reaction_awaits, zero_words, running_clock, clock_cell, cell_fits, variable_fits, element_fits, internal_fits, external_fits, telegram_fits, head_fits, cells_fit, waiting_fit, unused_zero, classes_fit, content_fits}
 use Rattle.machine.specs.Play.{Outcome, ended, stuck, answer, rest_zero, well_formed, is_event, if_passed, start_call, event_call, limit_of}
@@ -18,7 +18,7 @@ start ss = start_call (sheet_of ss) (limit_of (sheet_of ss)) (replicate (state_l
 
 -- what is answered, without a telegram handed outside
 unfoldable pub answered : ℕ → ℕ → List ℤ → Outcome
-answered number steps st = ended (answer number steps Nothing) st
+answered number steps st = ended (answer number steps None) st
 
 -- A play is start, then events, each on the state that the last one left, with a row for each
 heard : Outcome → (List ℤ → List (List ℕ)) → List (List ℕ)

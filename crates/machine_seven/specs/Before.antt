@@ -1,10 +1,8 @@
 -- The machine's definitions that changed with M-105 and that a stored sheet can be compared by: record i of section 7 bound element i, and a run held its element's binding record.
 -- Binding, chart and first cell have the text that they had before. Reading has it but for one thing: the record b that a run held is a parameter here, since a context no longer has it.
 -- They stand over today's definitions of everything else (values, words of the state, types ..), so a comparison with them says nothing about those.
-use Rattle.std.specs.Prelude.{ℕ, ◌+◌, ◌-◌, List, true, false, ltb, eqb, ℤ}
+use Rattle.std.specs.Prelude.{ℕ, ◌+◌, ◌-◌, List, true, false, ltb, eqb, ℤ, Option, Some, None}
 use Rattle.sheet.specs.declared.Record.{Record}
-use Rattle.sheet.specs.declared.Found.{Found}
-use Rattle.sheet.specs.declared.Found.TheVariants.{Present, Absent}
 use Rattle.sheet.specs.All.{◌and◌}
 use Rattle.sheet.specs.Names
 use Rattle.sheet.specs.Names.{charts, nodes, bindings, bound_chart, operator, is_literal}
@@ -19,11 +17,11 @@ use Rattle.machine.specs.Values.{is_bound}
 use Rattle.machine.specs.State.{word_of}
 use Rattle.machine.specs.Eval.{Context, needs, on_record, val, literal_value, within, of_type, on_type, body_words, variable_at_cell}
 
-unfoldable pub binding_of : List ℕ → ℕ → Found
-binding_of s e = elim (is_bound s e) [ true ↦ record_of s bindings (e - externals_of s) | false ↦ Absent ]
+unfoldable pub binding_of : List ℕ → ℕ → Option Record
+binding_of s e = elim (is_bound s e) [ true ↦ record_of s bindings (e - externals_of s) | false ↦ None ]
 
-unfoldable pub chart_of : List ℕ → ℕ → Found
-chart_of s e = elim (binding_of s e) [ Present b ↦ record_of s charts (bound_chart b) | Absent ↦ Absent ]
+unfoldable pub chart_of : List ℕ → ℕ → Option Record
+chart_of s e = elim (binding_of s e) [ Some b ↦ record_of s charts (bound_chart b) | None ↦ None ]
 
 unfoldable pub first_cell : List ℕ → ℕ → ℕ
 first_cell s e = sum_below (e - externals_of s) (cells_bound s)

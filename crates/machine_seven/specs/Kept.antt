@@ -1,8 +1,7 @@
 -- "Stored sheets keep their bytes and meaning", definition by definition: each definition that changed with M-105 gives, on a sheet none of whose charts has more than seven parameters, what its text of before gives (`Before`, here and of sheet_seven).
 -- A definition that did not change is today's on both sides, and nothing is said of it. What a run gives is said in no one theorem: its definitions are the same text over those compared here, with the number of the element's first binding record where they had the record.
-use Rattle.std.specs.Prelude.{ℕ, ◌≡◌, List, true, ℤ}
+use Rattle.std.specs.Prelude.{ℕ, ◌≡◌, List, true, ℤ, Some}
 use Rattle.sheet.specs.declared.Record.{Record}
-use Rattle.sheet.specs.declared.Found.TheVariants.{Present}
 use Rattle.sheet.specs.Names.{charts, bindings}
 use Rattle.sheet.specs.Sheet.{record_of}
 use Rattle.sheet_seven.specs.Kept.{up_to_seven, SheetKept}
@@ -18,9 +17,9 @@ pub record StoredKept (s : List ℕ) : Type 0 where
   pub chart : (e : ℕ) → chart_of s e ≡ before.chart_of s e
   pub first : (e : ℕ) → first_cell s e ≡ before.first_cell s e
   -- the record by whose number a run finds its constants is the one that it held
-  pub held : (e : ℕ) (b : Record) → before.binding_of s e ≡ Present b → record_of s bindings (binding_at s e) ≡ Present b
+  pub held : (e : ℕ) (b : Record) → before.binding_of s e ≡ Some b → record_of s bindings (binding_at s e) ≡ Some b
   -- 7 read in a chart of the sheet, of any place and number
-  pub reading : (x : Context) (b : Record) (k : ℕ) → record_of s charts k ≡ Present x.chart → record_of s bindings x.binding ≡ Present b → (st lo : List ℤ) (place n l : ℕ) → read_val s x st lo place n l ≡ before.read_val s x b st lo place n l
+  pub reading : (x : Context) (b : Record) (k : ℕ) → record_of s charts k ≡ Some x.chart → record_of s bindings x.binding ≡ Some b → (st lo : List ℤ) (place n l : ℕ) → read_val s x st lo place n l ≡ before.read_val s x b st lo place n l
 
 -- for every sheet none of whose charts has more than seven parameters, passed or not
 abbrev pub EveryStored : Type 0

@@ -1,5 +1,6 @@
 -- Data of a send, an arming or a call are of their declared types, and what is sent fits.
-use Prim.Native.Nat.{ℕ, zero, suc, ◌+◌, ◌-◌, ◌<◌, ◌≤◌}
+use Rattle.std.specs.Prelude.{Some}
+use Prim.Native.Nat.{ℕ, zero, suc, ◌+◌, ◌<◌, ◌≤◌}
 use mathlib.Core.Path.{◌≡◌, refl, sym, ap, subst, ◌∙◌}
 use mathlib.Core.List.{List, ◌∷◌}
 use mathlib.Core.Bool.{true, false}
@@ -11,8 +12,6 @@ use lib.IntN.{ℤ, pos}
 use borrow.Author.Tests.{leb-true, lt-ltb, le-ltb, eq-eqb}
 use Rattle.sheet.specs.declared.Record.{Record}
 use Rattle.sheet.specs.declared.Range.{Range}
-use Rattle.sheet.specs.declared.Found.TheVariants.{Present}
-use Rattle.sheet.specs.All.{◌and◌}
 use Rattle.sheet.specs.Names.{declarations, names, data_of}
 use Rattle.sheet.specs.Sheet.{count_of, record_of}
 use Rattle.sheet.proofs.All.{and_first, and_second, and-true}
@@ -77,17 +76,17 @@ unfolding is_below
 below_in k n h = lt-ltb k n h
 
 -- the data of a name that is there
-pub range_of : (s : List ℕ) (n : ℕ) (r : Record) → record_of s names n ≡ Present r → name_range s n ≡ data_of r
+pub range_of : (s : List ℕ) (n : ℕ) (r : Record) → record_of s names n ≡ Some r → name_range s n ≡ data_of r
 unfolding name_range
 range_of s n r e = rw (name_range, e) refl
 
 module _ (s : List ℕ) (ok : check_of s ≡ Passed) where
-  pub few_data : (n : ℕ) (r : Record) → record_of s names n ≡ Present r → (data_of r).count ≤ 4
+  pub few_data : (n : ℕ) (r : Record) → record_of s names n ≡ Some r → (data_of r).count ≤ 4
   unfolding name_shape
   few_data n r there = leb-true _ _ (and_first _ _ (and_second _ _ (name-shape s ok n r there)))
 
   -- a name of a class, with data of its types
-  module _ (n k : ℕ) (r : Record) (there : record_of s names n ≡ Present r) (classed : has_class s n k ≡ true) (zs : List ℤ) (typed : WordsOf s (data_of r) (data_of r).count 0 zs) where
+  module _ (n k : ℕ) (r : Record) (there : record_of s names n ≡ Some r) (classed : has_class s n k ≡ true) (zs : List ℤ) (typed : WordsOf s (data_of r) (data_of r).count 0 zs) where
     pub name-fits : name_fits s k (pos n) (datum zs) ≡ true
     unfolding name_fits
     name-fits = and-true _ _ (below_in n _ (present-below s names n r there)) (and-true _ _ classed (rw (range_of s n r there) (data_fit_lem s (data_of r) zs (few_data n r there) (name-declared s ok n r there) typed)))

@@ -1,5 +1,6 @@
 -- An expression that has a type gives a value of it.
-use Prim.Native.Nat.{ℕ, zero, suc, ◌+◌, ◌-◌, ◌<◌, ◌≤◌}
+use Rattle.std.specs.Prelude.{Option, Some}
+use Prim.Native.Nat.{ℕ, zero, suc, ◌+◌, ◌<◌, ◌≤◌}
 use mathlib.Core.Path.{◌≡◌, refl, sym, ap, subst, ◌∙◌}
 use mathlib.Core.List.{List}
 use mathlib.Core.Bool.{Bool, true, false}
@@ -8,8 +9,6 @@ use lib.Dec.{ltb, eqb}
 use lib.IntN.{ℤ, pos, negsuc}
 use borrow.Author.Tests.{ltb-true, leb-true, eqb-true, lt-ltb, eq-eqb, ne_eqb, not-true}
 use Rattle.sheet.specs.declared.Record.{Record}
-use Rattle.sheet.specs.declared.Found.{Found}
-use Rattle.sheet.specs.declared.Found.TheVariants.{Present}
 use Rattle.sheet.specs.All.{◌and◌}
 use Rattle.sheet.specs.Table.{look_up}
 use Rattle.sheet.specs.Names
@@ -49,7 +48,7 @@ use Rattle.machine_sound.proofs.Indices.{Leads, array_index, array_leads, array_
 use Rattle.machine_sound.proofs.Locals.{few}
 use Rattle.machine_sound.proofs.Leaves.{no_statement, not_wrong, one_type, asked, then, met, value-within, int_in, not_gives, binary-gives, literal_fine}
 
-pub on-present : (f : Found) (r : Record) (K : Record → Out) → f ≡ Present r → on_record f K ≡ K r
+pub on-present : (f : Option Record) (r : Record) (K : Record → Out) → f ≡ Some r → on_record f K ≡ K r
 unfolding on_record
 on-present f r K e = rw e refl
 
@@ -233,7 +232,7 @@ module _ (s : List ℕ) (ok : check_of s ≡ Passed) (x : Context) (placed : Pla
     act_gives assign_element t l h o e = no_statement (asked _ _ e).1
     act_gives unknown t l h o e = not_wrong e
 
-  pub type_at_lem : (n : ℕ) (r : Record) → record_of s nodes n ≡ Present r → type_of s x.chart x.body n ≡ type_in s x.chart x.body (lower_type n (type_of s x.chart x.body)) r (form_of (operator r))
+  pub type_at_lem : (n : ℕ) (r : Record) → record_of s nodes n ≡ Some r → type_of s x.chart x.body n ≡ type_in s x.chart x.body (lower_type n (type_of s x.chart x.body)) r (form_of (operator r))
   unfolding type_step
   type_at_lem n r e = type_step_lem s x.chart x.body n ∙ rw (type_step, e) refl
 

@@ -1,5 +1,5 @@
 -- The variables of a body: "Each run of a body has fresh default locals".
-use Prim.Native.Nat.{ℕ, zero, suc, ◌+◌, ◌-◌, ◌<◌, ◌≤◌}
+use Prim.Native.Nat.{ℕ, zero, suc, ◌+◌, ◌<◌, ◌≤◌}
 use mathlib.Core.Path.{◌≡◌, refl, ap, ◌∙◌}
 use mathlib.Core.List.{List}
 use mathlib.Core.Bool.{true, false}
@@ -8,7 +8,6 @@ use native.Mathlib.Decide.{dec_lt, ℕ_discrete}
 use lib.ListN.{length, set, length-set}
 use lib.IntN.{ℤ}
 use borrow.Author.Tests.{leb-true, lt-ltb, le-ltb, not-true}
-use Rattle.sheet.specs.All.{◌and◌}
 use Rattle.sheet.specs.Names.{body_parameters, body_locals, body_variable, is_clock}
 use Rattle.sheet.proofs.All.{and_first, and_second, all-at}
 use Rattle.sheet_rules.specs.declared.Checked.TheVariants.{Passed}

@@ -1,4 +1,5 @@
 -- A statement on a passed sheet is not stuck, and leaves a state of the sheet.
+use Rattle.std.specs.Prelude.{Option, Some, None}
 use Prim.Native.Nat.{ℕ, zero, suc, ◌+◌, ◌-◌, ◌<◌, ◌≤◌}
 use mathlib.Core.Path.{◌≡◌, refl, sym, ap, subst, ◌∙◌}
 use mathlib.Core.List.{List}
@@ -10,8 +11,6 @@ use lib.Signed.{le_z}
 use borrow.Author.Tests.{ltb-true, leb-true, eqb-true, lt-ltb, le-ltb, lt-leb, eq-eqb, ne_eqb}
 use Rattle.sheet.specs.declared.Record.{Record}
 use Rattle.sheet.specs.declared.Range.{Range}
-use Rattle.sheet.specs.declared.Found.{Found}
-use Rattle.sheet.specs.declared.Found.TheVariants.{Present, Absent}
 use Rattle.sheet.specs.All.{◌and◌}
 use Rattle.sheet.specs.Table.{look_up}
 use Rattle.sheet.specs.Names
@@ -103,24 +102,24 @@ no_binary div y z e = no_value _ _ e
 no_binary modulo y z e = no_value _ _ e
 
 -- the body that a call names stands in the chart
-pub called_in : (s : List ℕ) (c r b : Record) → called_body s c r ≡ Present b → InChart s c b
+pub called_in : (s : List ℕ) (c r b : Record) → called_body s c r ≡ Some b → InChart s c b
 unfolding called_body
 called_in s c r b e = go (ltb r.f1 (chart_bodies c).count) refl e
   where
-    go : (t : Bool) → ltb r.f1 (chart_bodies c).count ≡ t → ◌≡◌ {A = Found} (elim t [ true ↦ record_of s bodies ((chart_bodies c).first + r.f1) | false ↦ Absent ]) (Present b) → InChart s c b
+    go : (t : Bool) → ltb r.f1 (chart_bodies c).count ≡ t → ◌≡◌ {A = Option Record} (elim t [ true ↦ record_of s bodies ((chart_bodies c).first + r.f1) | false ↦ None ]) (Some b) → InChart s c b
     go true q h = record { number = r.f1; below = ltb-true _ _ q; there = h }
     go false q h = absurd (true_false {b = false} (ap present h) refl)
       where
-        present : Found → Bool
-        present (Present a) = true
-        present Absent = false
+        present : Option Record → Bool
+        present (Some a) = true
+        present None = false
 
 -- a body has at most four parameters
 pub few-parameters : (s : List ℕ) → check_of s ≡ Passed → (b c : Record) → InChart s c b → (body_parameters b).count ≤ 4
 unfolding body_shape
 few-parameters s ok b c i = leb-true _ _ (and_first _ _ (and_second _ _ (and_second _ _ (and_second _ _ (body-shape s ok _ b i.there)))))
 
-pub parameters_of_lem : (f : Found) (b : Record) → f ≡ Present b → parameters_of f ≡ body_parameters b
+pub parameters_of_lem : (f : Option Record) (b : Record) → f ≡ Some b → parameters_of f ≡ body_parameters b
 unfolding parameters_of
 parameters_of_lem f b e = rw e refl
 
@@ -152,7 +151,7 @@ module _ (s : List ℕ) (ok : check_of s ≡ Passed) where
   Steps L = (depth : ℕ) (x : Context) (n m k : ℕ) (st lo : List ℤ) → m ≤ L → Placed s x → OfSheet s st → Locals s x lo → tree_shape s x.chart x.body k n ≡ true → type_of s x.chart x.body n ≡ Statement → Good s x (run_of s depth x n m st lo)
 
   module _ (x : Context) (placed : Placed s x) (st lo : List ℤ) (o : OfSheet s st) (locals : Locals s x lo) where
-    there : chart_of s x.element ≡ Present x.chart
+    there : chart_of s x.element ≡ Some x.chart
     there = element-chart s x.element placed.bound x.chart placed.element
 
     cells : Cells s x st
@@ -227,7 +226,7 @@ module _ (s : List ℕ) (ok : check_of s ≡ Passed) where
 
         -- the name of a send or an arming
         module _ (l : ℕ) (q : l ≤ L) (shape : send_shape s r ≡ true) (d : data_match s f (name_range s r.f3) r ≡ true) where
-          named : (a : Record) × (record_of s names r.f3 ≡ Present a) × (name_range s r.f3 ≡ data_of a) × (name_data s r ≡ (data_of a).count)
+          named : (a : Record) × (record_of s names r.f3 ≡ Some a) × (name_range s r.f3 ≡ data_of a) × (name_data s r ≡ (data_of a).count)
           unfolding send_shape name_data
           named = let h = held _ _ shape in (h.0, h.1, range_of s r.f3 h.0 h.1, number-present _ _ _ h.1)
 

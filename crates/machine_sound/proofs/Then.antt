@@ -1,4 +1,5 @@
 -- How parts of a statement follow each other: each keeps what `Ends` says.
+use Rattle.std.specs.Prelude.{Option, Some, None}
 use Prim.Native.Nat.{ℕ, ◌+◌, ◌<◌, ◌≤◌}
 use mathlib.Core.Path.{◌≡◌, refl, sym, ap, subst}
 use mathlib.Core.List.{List}
@@ -7,8 +8,6 @@ use lib.IntN.{ℤ}
 use native.Mathlib.Omega.{arith}
 use Rattle.sheet.specs.declared.Record.{Record}
 use Rattle.sheet.specs.declared.Range.{Range}
-use Rattle.sheet.specs.declared.Found.{Found}
-use Rattle.sheet.specs.declared.Found.TheVariants.{Present, Absent}
 use Rattle.sheet.proofs.All.{true_false}
 use Rattle.machine.specs.declared.Value.{Value}
 use Rattle.machine.specs.declared.Out.{Out}
@@ -48,18 +47,18 @@ module _ (s : List ℕ) (x : Context) where
   run_ends l (Refused q m) st lo K h w k = h
   run_ends l Stuck st lo K h w k = absurd h
 
-  pub record_ends : (f : Found) (r : Record) (st lo : List ℤ) (K : Record → World) → f ≡ Present r → Good (K r) → Good (with_record f st lo K)
+  pub record_ends : (f : Option Record) (r : Record) (st lo : List ℤ) (K : Record → World) → f ≡ Some r → Good (K r) → Good (with_record f st lo K)
   unfolding with_record
-  record_ends (Present q) r st lo K e h = subst (λ r. Good (K r)) (sym (ap (get r) e)) h
+  record_ends (Some q) r st lo K e h = subst (λ r. Good (K r)) (sym (ap (get r) e)) h
     where
-      get : Record → Found → Record
-      get d (Present a) = a
-      get d Absent = d
-  record_ends Absent r st lo K e h = absurd (true_false {b = false} (ap there e) refl)
+      get : Record → Option Record → Record
+      get d (Some a) = a
+      get d None = d
+  record_ends None r st lo K e h = absurd (true_false {b = false} (ap there e) refl)
     where
-      there : Found → Bool
-      there (Present a) = true
-      there Absent = false
+      there : Option Record → Bool
+      there (Some a) = true
+      there None = false
 
   pub provided_ends : (b : Bool) (st lo : List ℤ) (w : World) → b ≡ true → Good w → Good (provided b st lo w)
   unfolding provided

@@ -1,4 +1,5 @@
 -- Each act of a statement leaves a state of the sheet.
+use Rattle.std.specs.Prelude.{Some}
 use Prim.Native.Nat.{ℕ, ◌+◌, ◌<◌}
 use mathlib.Core.Path.{◌≡◌, refl}
 use mathlib.Core.List.{List, ◌∷◌}
@@ -8,7 +9,6 @@ use lib.Dec.{eqb}
 use lib.IntN.{ℤ, pos}
 use lib.Signed.{le_z}
 use Rattle.sheet.specs.declared.Record.{Record}
-use Rattle.sheet.specs.declared.Found.TheVariants.{Present}
 use Rattle.sheet.specs.Names.{internal, chart_variables, timer_type, is_clock}
 use Rattle.sheet_rules.specs.Fields.{type_at}
 use Rattle.sheet_rules.specs.Indices.{cells_taken}
@@ -20,7 +20,7 @@ use Rattle.machine_states.proofs.Kept.{cell_put}
 use Rattle.machine_states.proofs.Clocks.{stopped_fits, started-fits, armed-fits, armed-value}
 
 -- the variable j of element e
-module _ (s : List ℕ) (st : List ℤ) (o : OfSheet s st) (e : ℕ) (c : Record) (p : chart_of s e ≡ Present c) (j : ℕ) (m : j < (chart_variables c).count) (has : 0 < cells_taken s ((chart_variables c).first + j)) where
+module _ (s : List ℕ) (st : List ℤ) (o : OfSheet s st) (e : ℕ) (c : Record) (p : chart_of s e ≡ Some c) (j : ℕ) (m : j < (chart_variables c).count) (has : 0 < cells_taken s ((chart_variables c).first + j)) where
   abbrev cell : ℕ
   cell = cell_of s e c j 0
 

@@ -1,4 +1,5 @@
 -- The words of a running clock, its telegram, and what its next value may be.
+use Rattle.std.specs.Prelude.{Some}
 use Prim.Native.Nat.{ℕ, zero, suc, ◌+◌, ◌-◌, ◌<◌, ◌≤◌}
 use mathlib.Core.Path.{◌≡◌, refl, sym, ap, ◌∙◌}
 use mathlib.Core.List.{List, [], ◌∷◌}
@@ -10,7 +11,6 @@ use lib.IntN.{ℤ, pos, negsuc, nat_abs, ◌+ℤ◌, ◌-ℤ◌}
 use lib.Signed.{le_z, lt_z}
 use borrow.Author.Tests.{ltb-true, leb-true, lt-ltb, le-ltb, le-leb}
 use Rattle.sheet.specs.declared.Record.{Record}
-use Rattle.sheet.specs.declared.Found.TheVariants.{Present}
 use Rattle.sheet.specs.All.{◌and◌, all_below}
 use Rattle.sheet.specs.Names.{names, internal, timer_type, timeout_type, is_clock}
 use Rattle.sheet.specs.Sheet.{count_of}
@@ -194,7 +194,7 @@ module _ (s : List ℕ) (e t : ℕ) (st : List ℤ) (at : ℕ) (st' : List ℤ) 
 
 -- ---- the telegram of a clock
 
-pub clock-telegram : (s : List ℕ) (e t : ℕ) (c : Record) (st : List ℤ) (at : ℕ) → chart_of s e ≡ Present c → running_clock s e t st at ≡ true → eqb t timer_type ≡ false → telegram_fits s (telegram (pos e) (pos e) (negsuc 0) (nat_abs (word_of st (at + 3))) (word_of st (at + 4) ∷ word_of st (at + 5) ∷ word_of st (at + 6) ∷ word_of st (at + 7) ∷ [])) ≡ true
+pub clock-telegram : (s : List ℕ) (e t : ℕ) (c : Record) (st : List ℤ) (at : ℕ) → chart_of s e ≡ Some c → running_clock s e t st at ≡ true → eqb t timer_type ≡ false → telegram_fits s (telegram (pos e) (pos e) (negsuc 0) (nat_abs (word_of st (at + 3))) (word_of st (at + 4) ∷ word_of st (at + 5) ∷ word_of st (at + 6) ∷ word_of st (at + 7) ∷ [])) ≡ true
 clock-telegram s e t c st at p h n =
     own_telegram s e c p (nat_abs (word_of st (at + 3))) zs
     (name_same s internal (pos (nat_abs (word_of st (at + 3)))) (word_of st (at + 3)) (λ j. get_or zs j (pos 0)) (λ j. word_of st (at + 4 + j)) (sym name) same ∙ clock-name s e t st at h n)

@@ -1,4 +1,5 @@
 -- The state that start begins with is of the sheet.
+use Rattle.std.specs.Prelude.{Option, Some, None}
 use Prim.Native.Nat.{ℕ, zero, suc, ◌+◌, ◌*◌, ◌-◌, ◌<◌, ◌≤◌}
 use mathlib.Core.Path.{◌≡◌, refl, ap, ◌∙◌}
 use mathlib.Core.List.{List, [], ◌++◌}
@@ -9,8 +10,6 @@ use lib.ListN.{length, replicate, length-append, length-replicate, get_or-replic
 use lib.IntN.{ℤ, pos, nat_abs}
 use borrow.Author.Tests.{leb-true}
 use Rattle.sheet.specs.declared.Record.{Record}
-use Rattle.sheet.specs.declared.Found.{Found}
-use Rattle.sheet.specs.declared.Found.TheVariants.{Present, Absent}
 use Rattle.sheet.specs.Names.{chart_variables, is_clock}
 use Rattle.sheet.proofs.All.{true_false, and_first, and_second, and-true}
 use Rattle.sheet_rules.specs.declared.Checked.TheVariants.{Passed}
@@ -143,7 +142,7 @@ module _ (s : List ℕ) (c : Record) where
       (rw from_zero at (blocks_word variable_cells (λ j. cells_taken s ((chart_variables c).first + j)) variables_from cells-none-left cells_more (chart_variables c).count 0 j (8 * v + k) (8 * (cells_before s c j + v) + k) (λ j a b. variable-whole j) (omega arith) (omega arith) (omega arith) (omega arith)))
       ∙ alike_word _ _ (cell_length s (type_at s ((chart_variables c).first + j))) v k h m
 
-module _ (s : List ℕ) (e : ℕ) (c : Record) (p : chart_of s e ≡ Present c) where
+module _ (s : List ℕ) (e : ℕ) (c : Record) (p : chart_of s e ≡ Some c) where
   element-cells_are : element_cells s e ≡ default_cells s (chart_variables c).count (chart_variables c).first
   unfolding element_cells
   element-cells_are = rw (element_cells, p) refl
@@ -151,7 +150,7 @@ module _ (s : List ℕ) (e : ℕ) (c : Record) (p : chart_of s e ≡ Present c) 
 -- ---- all cells
 
 module _ (s : List ℕ) (ok : check_of s ≡ Passed) where
-  bound-chart : (i : ℕ) → i < elements_of s → chart_of s (externals_of s + i) ≡ Absent → ⊥
+  bound-chart : (i : ℕ) → i < elements_of s → chart_of s (externals_of s + i) ≡ None → ⊥
   bound-chart i l q =
       let x = bound-element s ok (externals_of s + i) (number_bound s i l) in
       true_false (holds-present (chart_of s (externals_of s + i)) x.1 (λ c. true) (element-chart s (externals_of s + i) x.0 x.1 x.2)) (holds_absent (chart_of s (externals_of s + i)) (λ c. true) q)
@@ -159,12 +158,12 @@ module _ (s : List ℕ) (ok : check_of s ≡ Passed) where
   element_length : (i : ℕ) → i < elements_of s → length (element_cells s (externals_of s + i)) ≡ 8 * cells_bound s i
   element_length i l = go (chart_of s (externals_of s + i)) refl
     where
-      go : (f : Found) → chart_of s (externals_of s + i) ≡ f → length (element_cells s (externals_of s + i)) ≡ 8 * cells_bound s i
-      go (Present c) p =
+      go : (f : Option Record) → chart_of s (externals_of s + i) ≡ f → length (element_cells s (externals_of s + i)) ≡ 8 * cells_bound s i
+      go (Some c) p =
           let e : externals_of s + i - externals_of s ≡ i = omega arith in
           let count : cells_bound s i ≡ cells_before s c (chart_variables c).count = (rw e at (element-count s (externals_of s + i) c p)) in
           omega (arith, ap length (element-cells_are s (externals_of s + i) c p), cells_length s c)
-      go Absent p = absurd (bound-chart i l p)
+      go None p = absurd (bound-chart i l p)
 
   abbrev element_of : ℕ → List ℤ
   element_of i = element_cells s (externals_of s + i)
@@ -208,7 +207,7 @@ module _ (s : List ℕ) (ok : check_of s ≡ Passed) where
   unfolding default_state word_of
   place_word k l = word_rest (replicate 8 (pos 0) ++ all_cells) (replicate (8 * places) (pos 0)) (place_at s 0) k front_whole ∙ get_or-replicate (8 * places) k (pos 0) (pos 0) l
 
-  module _ (e : ℕ) (c : Record) (p : chart_of s e ≡ Present c) (j : ℕ) (l : j < (chart_variables c).count) (v : ℕ) (here : v < cells_taken s ((chart_variables c).first + j)) where
+  module _ (e : ℕ) (c : Record) (p : chart_of s e ≡ Some c) (j : ℕ) (l : j < (chart_variables c).count) (v : ℕ) (here : v < cells_taken s ((chart_variables c).first + j)) where
     abbrev kind : ℕ
     kind = type_at s ((chart_variables c).first + j)
 

@@ -1,4 +1,5 @@
 -- Where the cells of an element lie: in the state, and apart from the cells of others.
+use Rattle.std.specs.Prelude.{Some}
 use Prim.Native.Nat.{ℕ, suc, ◌+◌, ◌-◌, ◌<◌, ◌≤◌}
 use mathlib.Core.Path.{◌≡◌, refl, sym, ap, ◌∙◌}
 use mathlib.Core.List.{List}
@@ -7,7 +8,6 @@ use native.Mathlib.Omega.{arith}
 use native.Mathlib.Decide.{dec_lt}
 use borrow.Author.Tests.{leb-true, ltb-true}
 use Rattle.sheet.specs.declared.Record.{Record}
-use Rattle.sheet.specs.declared.Found.TheVariants.{Present}
 use Rattle.sheet.specs.Names.{chart_variables}
 use Rattle.sheet.proofs.All.{and_first, and_second}
 use Rattle.sheet_rules.specs.Fields.{sum_below, components_of, externals_of, elements_of}
@@ -32,7 +32,7 @@ pub variable-cells : (s : List ℕ) (c : Record) (j n : ℕ) → j < n → cells
 unfolding cells_before
 variable-cells s c j n l = sum_rises (λ i. cells_taken s ((chart_variables c).first + i)) j n l
 
-module _ (s : List ℕ) (e : ℕ) (c : Record) (p : chart_of s e ≡ Present c) where
+module _ (s : List ℕ) (e : ℕ) (c : Record) (p : chart_of s e ≡ Some c) where
   pub element-bound : is_bound s e ≡ true
   element-bound = (chart-element s e c p).1.bound
 
@@ -60,18 +60,18 @@ module _ (s : List ℕ) (e : ℕ) (c : Record) (p : chart_of s e ≡ Present c) 
   pub cell_below : (j k : ℕ) → j < (chart_variables c).count → k < cells_taken s ((chart_variables c).first + j) → first_cell s e + cells_before s c j + k < cells_of s
   cell_below j k l m = omega (arith, element-cells, variable-cells s c j (chart_variables c).count l)
 
-module _ (s : List ℕ) (e : ℕ) (c : Record) (p : chart_of s e ≡ Present c) (e' : ℕ) (c' : Record) (p' : chart_of s e' ≡ Present c') where
+module _ (s : List ℕ) (e : ℕ) (c : Record) (p : chart_of s e ≡ Some c) (e' : ℕ) (c' : Record) (p' : chart_of s e' ≡ Some c') where
   -- the cells of an earlier element lie before
   cells-before : e < e' → first_cell s e + cells_before s c (chart_variables c).count ≤ first_cell s e'
   unfolding first_cell
   cells-before l = omega (arith, sum_rises (cells_bound s) (e - externals_of s) (e' - externals_of s) (omega (arith, element_from s e c p, element_from s e' c' p')), element-count s e c p)
 
 -- one element has one chart
-pub one-chart : (s : List ℕ) (e e' : ℕ) (c c' : Record) → e ≡ e' → chart_of s e ≡ Present c → chart_of s e' ≡ Present c' → c ≡ c'
+pub one-chart : (s : List ℕ) (e e' : ℕ) (c c' : Record) → e ≡ e' → chart_of s e ≡ Some c → chart_of s e' ≡ Some c' → c ≡ c'
 one-chart s e e' c c' q p p' = one_record c c' (sym p ∙ ap (chart_of s) q ∙ p')
 
 -- cell k of variable j, and cell k' of variable j', of elements e and e'
-module _ (s : List ℕ) (e : ℕ) (c : Record) (p : chart_of s e ≡ Present c) (e' : ℕ) (c' : Record) (p' : chart_of s e' ≡ Present c') (j j' k k' : ℕ) (l : j < (chart_variables c).count) (l' : j' < (chart_variables c').count) (m : k < cells_taken s ((chart_variables c).first + j)) (m' : k' < cells_taken s ((chart_variables c').first + j')) (q : first_cell s e + cells_before s c j + k ≡ first_cell s e' + cells_before s c' j' + k') where
+module _ (s : List ℕ) (e : ℕ) (c : Record) (p : chart_of s e ≡ Some c) (e' : ℕ) (c' : Record) (p' : chart_of s e' ≡ Some c') (j j' k k' : ℕ) (l : j < (chart_variables c).count) (l' : j' < (chart_variables c').count) (m : k < cells_taken s ((chart_variables c).first + j)) (m' : k' < cells_taken s ((chart_variables c').first + j')) (q : first_cell s e + cells_before s c j + k ≡ first_cell s e' + cells_before s c' j' + k') where
   same_element : e ≡ e'
   same_element = elim (dec_lt e e') [
     | yes h ↦ absurd (omega (arith, cells-before s e c p e' c' p' h, variable-cells s c j (chart_variables c).count l))

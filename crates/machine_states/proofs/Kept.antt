@@ -1,4 +1,5 @@
 -- Each change of a state of the sheet leaves a state of the sheet.
+use Rattle.std.specs.Prelude.{Some}
 use Prim.Native.Nat.{ℕ, ◌+◌, ◌-◌, ◌<◌, ◌≤◌}
 use mathlib.Core.Path.{◌≡◌, ap, ◌∙◌}
 use mathlib.Core.List.{List}
@@ -9,7 +10,6 @@ use lib.ListN.{length, set, length-set}
 use lib.IntN.{ℤ, pos, nat_abs}
 use borrow.Author.Tests.{lt-ltb}
 use Rattle.sheet.specs.declared.Record.{Record}
-use Rattle.sheet.specs.declared.Found.TheVariants.{Present}
 use Rattle.sheet.specs.Names.{chart_variables, is_clock}
 use Rattle.sheet.proofs.All.{and_second, and-true}
 use Rattle.machine.proofs.Appending.{appending}
@@ -33,7 +33,7 @@ ChangeKept s lost = ⊥
 
 -- ---- a cell
 
-module _ (s : List ℕ) (st : List ℤ) (o : OfSheet s st) (e : ℕ) (c : Record) (p : chart_of s e ≡ Present c) (j : ℕ) (l : j < (chart_variables c).count) (v : ℕ) (here : v < cells_taken s ((chart_variables c).first + j)) where
+module _ (s : List ℕ) (st : List ℤ) (o : OfSheet s st) (e : ℕ) (c : Record) (p : chart_of s e ≡ Some c) (j : ℕ) (l : j < (chart_variables c).count) (v : ℕ) (here : v < cells_taken s ((chart_variables c).first + j)) where
   abbrev cell : ℕ
   cell = cell_of s e c j v
 
@@ -84,7 +84,7 @@ module _ (s : List ℕ) (st : List ℤ) (o : OfSheet s st) (e : ℕ) (c : Record
       classes = classes_fit_lem s st' (like_kept s st st' waiting_kept (λ n. telegram_same st' (place_at s n) st (place_at s n) (place_kept n)) (at_most s st o.classes));
     }
       where
-        each : (e' : ℕ) (c' : Record) → chart_of s e' ≡ Present c' → (j' : ℕ) → j' < (chart_variables c').count → (v' : ℕ) → v' < cells_taken s ((chart_variables c').first + j') → cell_fits s e' (type_at s ((chart_variables c').first + j')) st' (cell_of s e' c' j' v') ≡ true
+        each : (e' : ℕ) (c' : Record) → chart_of s e' ≡ Some c' → (j' : ℕ) → j' < (chart_variables c').count → (v' : ℕ) → v' < cells_taken s ((chart_variables c').first + j') → cell_fits s e' (type_at s ((chart_variables c').first + j')) st' (cell_of s e' c' j' v') ≡ true
         each e' c' p' j' l' v' m' = elim (ℕ_discrete (first_cell s e' + cells_before s c' j' + v') (first_cell s e + cells_before s c j + v)) [
           | yes q ↦ (let same = cells_apart s e' c' p' e c p j' j v' v l' l m' here q in rw (same.0, same.1, same.2, same.3) fits)
           | no q ↦ cell_same st' (cell_of s e' c' j' v') st (cell_of s e' c' j' v') (other_kept_lem (first_cell s e' + cells_before s c' j' + v') q) s e' _ ∙ cell_of_lem s st o e' c' p' j' l' v' m'

@@ -1,4 +1,5 @@
 -- What a state of the sheet says of each of its parts, and what is enough for a part.
+use Rattle.std.specs.Prelude.{Option, Some, None}
 use Prim.Native.Nat.{ℕ, ◌+◌, ◌-◌, ◌<◌, ◌≤◌}
 use mathlib.Core.Path.{◌≡◌, refl, sym, ap, ◌∙◌}
 use mathlib.Core.List.{List}
@@ -8,8 +9,6 @@ use lib.ListN.{length}
 use lib.IntN.{ℤ, pos, negsuc, nat_abs}
 use borrow.Author.Tests.{ltb-true, leb-true, lt-ltb}
 use Rattle.sheet.specs.declared.Record.{Record}
-use Rattle.sheet.specs.declared.Found.{Found}
-use Rattle.sheet.specs.declared.Found.TheVariants.{Present, Absent}
 use Rattle.sheet.specs.Names.{declarations, chart_variables}
 use Rattle.sheet.specs.Sheet.{count_of}
 use Rattle.sheet.proofs.All.{true_false, and_first, and_second, and-true, all-at}
@@ -82,22 +81,22 @@ module _ (s : List ℕ) (st : List ℤ) (o : OfSheet s st) where
   element-fits i l = all-at (elements_of s) _ o.cells i l
 
   -- every element has a chart
-  pub has_chart : (i : ℕ) → i < elements_of s → chart_of s (externals_of s + i) ≡ Absent → ⊥
+  pub has_chart : (i : ℕ) → i < elements_of s → chart_of s (externals_of s + i) ≡ None → ⊥
   unfolding element_fits
   has_chart i l q = true≢false (sym (element-fits i l) ∙ holds_absent (chart_of s (externals_of s + i)) _ q)
 
-  variable_of : (e : ℕ) (c : Record) → chart_of s e ≡ Present c → (j : ℕ) → j < (chart_variables c).count → declared_so s ((chart_variables c).first + j) (λ t. all_below (cells_taken s ((chart_variables c).first + j)) (λ k. cell_fits s e t st (cell_of s e c j k))) ≡ true
+  variable_of : (e : ℕ) (c : Record) → chart_of s e ≡ Some c → (j : ℕ) → j < (chart_variables c).count → declared_so s ((chart_variables c).first + j) (λ t. all_below (cells_taken s ((chart_variables c).first + j)) (λ k. cell_fits s e t st (cell_of s e c j k))) ≡ true
   unfolding element_fits variable_fits
   variable_of e c p j l =
       let same : externals_of s + (e - externals_of s) ≡ e = omega (arith, element_from s e c p) in
       let fits : element_fits s st e ≡ true = rw same at (element-fits (e - externals_of s) (element-number s e c p)) in
       all-at (chart_variables c).count _ (sym (holds-present (chart_of s e) c _ p) ∙ fits) j l
 
-  pub cell_of_lem : (e : ℕ) (c : Record) → chart_of s e ≡ Present c → (j : ℕ) → j < (chart_variables c).count → (k : ℕ) → k < cells_taken s ((chart_variables c).first + j) → cell_fits s e (type_at s ((chart_variables c).first + j)) st (cell_of s e c j k) ≡ true
+  pub cell_of_lem : (e : ℕ) (c : Record) → chart_of s e ≡ Some c → (j : ℕ) → j < (chart_variables c).count → (k : ℕ) → k < cells_taken s ((chart_variables c).first + j) → cell_fits s e (type_at s ((chart_variables c).first + j)) st (cell_of s e c j k) ≡ true
   cell_of_lem e c p j l k m = all-at _ _ (declared_true s _ (λ t. all_below (cells_taken s ((chart_variables c).first + j)) (λ k. cell_fits s e t st (cell_of s e c j k))) (variable_of e c p j l)) k m
 
   -- it is declared
-  pub has_declared : (e : ℕ) (c : Record) → chart_of s e ≡ Present c → (j : ℕ) → j < (chart_variables c).count → (chart_variables c).first + j < count_of s declarations
+  pub has_declared : (e : ℕ) (c : Record) → chart_of s e ≡ Some c → (j : ℕ) → j < (chart_variables c).count → (chart_variables c).first + j < count_of s declarations
   has_declared e c p j l = declared-below s _ (λ t. all_below (cells_taken s ((chart_variables c).first + j)) (λ k. cell_fits s e t st (cell_of s e c j k))) (variable_of e c p j l)
 
   pub telegram_of_lem : (j : ℕ) → j < waiting st → telegram_fits s (telegram_of s st j) ≡ true
@@ -111,16 +110,16 @@ module _ (s : List ℕ) (st : List ℤ) (o : OfSheet s st) where
 -- ---- what is enough
 
 module _ (s : List ℕ) (st : List ℤ) where
-  pub cells_fit_lem : ((i : ℕ) → i < elements_of s → chart_of s (externals_of s + i) ≡ Absent → ⊥) →
-      ((e : ℕ) (c : Record) → chart_of s e ≡ Present c → (j : ℕ) → j < (chart_variables c).count → (chart_variables c).first + j < count_of s declarations) →
-      ((e : ℕ) (c : Record) → chart_of s e ≡ Present c → (j : ℕ) → j < (chart_variables c).count → (k : ℕ) → k < cells_taken s ((chart_variables c).first + j) →
+  pub cells_fit_lem : ((i : ℕ) → i < elements_of s → chart_of s (externals_of s + i) ≡ None → ⊥) →
+      ((e : ℕ) (c : Record) → chart_of s e ≡ Some c → (j : ℕ) → j < (chart_variables c).count → (chart_variables c).first + j < count_of s declarations) →
+      ((e : ℕ) (c : Record) → chart_of s e ≡ Some c → (j : ℕ) → j < (chart_variables c).count → (k : ℕ) → k < cells_taken s ((chart_variables c).first + j) →
       cell_fits s e (type_at s ((chart_variables c).first + j)) st (cell_of s e c j k) ≡ true) → cells_fit s st ≡ true
   unfolding cells_fit element_fits variable_fits
   cells_fit_lem some declared fits = all_true (elements_of s) _ (λ i l. go i l (chart_of s (externals_of s + i)) refl)
     where
-      go : (i : ℕ) → i < elements_of s → (f : Found) → chart_of s (externals_of s + i) ≡ f → element_fits s st (externals_of s + i) ≡ true
-      go i l (Present c) p = holds-present (chart_of s (externals_of s + i)) c _ p ∙ all_true (chart_variables c).count _ (λ j m. declared_so_lem s _ _ (declared (externals_of s + i) c p j m) ∙ all_true _ _ (fits (externals_of s + i) c p j m))
-      go i l Absent p = absurd (some i l p)
+      go : (i : ℕ) → i < elements_of s → (f : Option Record) → chart_of s (externals_of s + i) ≡ f → element_fits s st (externals_of s + i) ≡ true
+      go i l (Some c) p = holds-present (chart_of s (externals_of s + i)) c _ p ∙ all_true (chart_variables c).count _ (λ j m. declared_so_lem s _ _ (declared (externals_of s + i) c p j m) ∙ all_true _ _ (fits (externals_of s + i) c p j m))
+      go i l None p = absurd (some i l p)
 
   pub telegrams_fit : (n : ℕ) → waiting st ≡ n → ((j : ℕ) → j < n → telegram_fits s (telegram_of s st j) ≡ true) → waiting_fit s st ≡ true
   unfolding waiting_fit

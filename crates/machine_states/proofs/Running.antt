@@ -1,4 +1,5 @@
 -- A running clock of a state of the sheet gets another value.
+use Rattle.std.specs.Prelude.{Some}
 use Prim.Native.Nat.{ℕ, ◌+◌, ◌<◌, ◌≤◌}
 use mathlib.Core.Path.{◌≡◌, ap, ◌∙◌}
 use mathlib.Core.List.{List, [], ◌∷◌}
@@ -7,7 +8,6 @@ use native.Mathlib.Omega.{arith}
 use lib.ListN.{length, set, length-set}
 use lib.IntN.{ℤ, pos, ◌-ℤ◌}
 use Rattle.sheet.specs.declared.Record.{Record}
-use Rattle.sheet.specs.declared.Found.TheVariants.{Present}
 use Rattle.sheet.specs.Names.{chart_variables, is_clock}
 use Rattle.sheet_rules.specs.Fields.{type_at}
 use Rattle.sheet_rules.specs.Indices.{cells_taken}
@@ -20,7 +20,7 @@ use Rattle.machine_states.proofs.Kept.{cell_in_state, cell_kept}
 use Rattle.machine_states.proofs.Clocks.{value_fits, running, running-below, clock-on}
 
 -- a running clock in cell v of variable j of element e
-module _ (s : List ℕ) (st : List ℤ) (o : OfSheet s st) (e : ℕ) (c : Record) (p : chart_of s e ≡ Present c) (j : ℕ) (l : j < (chart_variables c).count) (v : ℕ) (here : v < cells_taken s ((chart_variables c).first + j)) where
+module _ (s : List ℕ) (st : List ℤ) (o : OfSheet s st) (e : ℕ) (c : Record) (p : chart_of s e ≡ Some c) (j : ℕ) (l : j < (chart_variables c).count) (v : ℕ) (here : v < cells_taken s ((chart_variables c).first + j)) where
   abbrev cell : ℕ
   cell = cell_of s e c j v
 

@@ -1,4 +1,5 @@
 -- Telegrams that may wait in a state of the sheet.
+use Rattle.std.specs.Prelude.{Some}
 use Prim.Native.Nat.{ℕ, zero, suc, ◌<◌}
 use mathlib.Core.Path.{◌≡◌, refl, sym, ap, ◌∙◌}
 use mathlib.Core.List.{List}
@@ -9,7 +10,6 @@ use lib.Dec.{leb, ltb}
 use lib.IntN.{ℤ, pos, negsuc}
 use borrow.Author.Tests.{lt-ltb, le-ltb, le-leb}
 use Rattle.sheet.specs.declared.Record.{Record}
-use Rattle.sheet.specs.declared.Found.TheVariants.{Present}
 use Rattle.sheet.specs.All.{◌and◌}
 use Rattle.sheet.specs.Names.{external, internal}
 use Rattle.sheet.proofs.All.{and_second, and-true, false-and}
@@ -51,14 +51,14 @@ same_data t zs a b c d (suc (suc (suc zero))) l = d
 same_data t zs a b c d (suc (suc (suc (suc j)))) l = absurd (omega arith)
 
 -- an internal telegram of a bound element to itself
-pub own_telegram : (s : List ℕ) (e : ℕ) (c : Record) → chart_of s e ≡ Present c → (n : ℕ) (zs : List ℤ) → name_fits s internal (pos n) (λ j. get_or zs j (pos 0)) ≡ true → reaction_awaits s e (pos n) ≡ true → telegram_fits s (telegram (pos e) (pos e) (negsuc 0) n zs) ≡ true
+pub own_telegram : (s : List ℕ) (e : ℕ) (c : Record) → chart_of s e ≡ Some c → (n : ℕ) (zs : List ℤ) → name_fits s internal (pos n) (λ j. get_or zs j (pos 0)) ≡ true → reaction_awaits s e (pos n) ≡ true → telegram_fits s (telegram (pos e) (pos e) (negsuc 0) n zs) ≡ true
 unfolding internal_fits is_below
 own_telegram s e c p n zs h a =
     internal-fits s (telegram (pos e) (pos e) (negsuc 0) n zs) (lt-ltb e (components_of s) (element-below s e c p)) (lt-ltb e (components_of s) (element-below s e c p)) (and-true true true refl refl)
     (and-true _ _ (and-true (leb e e) (leb e e) (le-leb e e (omega arith)) (le-leb e e (omega arith))) (and-true _ _ (element-bound s e c p) (and-true _ _ (name_same s internal (pos n) (pos n) (datum_of (telegram (pos e) (pos e) (negsuc 0) n zs)) (λ j. get_or zs j (pos 0)) refl (same_data (telegram (pos e) (pos e) (negsuc 0) n zs) zs refl refl refl refl) ∙ h) a)))
 
 -- an external telegram of a bound element
-pub sent-telegram : (s : List ℕ) (e : ℕ) (c : Record) → chart_of s e ≡ Present c → (receiver port : ℤ) (n : ℕ) (zs : List ℤ) → is_below receiver (components_of s) ≡ true → is_below port (ports_of s) ≡ true → name_fits s external (pos n) (λ j. get_or zs j (pos 0)) ≡ true → telegram_fits s (telegram (pos e) receiver port n zs) ≡ true
+pub sent-telegram : (s : List ℕ) (e : ℕ) (c : Record) → chart_of s e ≡ Some c → (receiver port : ℤ) (n : ℕ) (zs : List ℤ) → is_below receiver (components_of s) ≡ true → is_below port (ports_of s) ≡ true → name_fits s external (pos n) (λ j. get_or zs j (pos 0)) ≡ true → telegram_fits s (telegram (pos e) receiver port n zs) ≡ true
 unfolding is_below
 sent-telegram s e c p receiver port n zs a b h =
     external-fits s (telegram (pos e) receiver port n zs) (lt-ltb e (components_of s) (element-below s e c p)) a (false-and (ltb e (externals_of s)) _ (le-ltb e (externals_of s) (element_from s e c p))) b

@@ -1,4 +1,5 @@
 -- A time slice leaves a state of the sheet, or is refused.
+use Rattle.std.specs.Prelude.{Some}
 use Prim.Native.Nat.{ℕ, zero, suc, ◌+◌, ◌<◌, ◌≤◌}
 use mathlib.Core.Path.{◌≡◌, refl, ap, ◌∙◌}
 use mathlib.Core.List.{List, [], ◌∷◌}
@@ -10,7 +11,6 @@ use lib.IntN.{ℤ, pos, ◌+ℤ◌, ◌-ℤ◌}
 use lib.Signed.{le_z}
 use borrow.Author.Tests.{not-true}
 use Rattle.sheet.specs.declared.Record.{Record}
-use Rattle.sheet.specs.declared.Found.TheVariants.{Present}
 use Rattle.sheet.specs.All.{◌and◌}
 use Rattle.sheet.specs.Names.{declarations, names, chart_variables, timer_type, timeout_type, is_clock}
 use Rattle.sheet.specs.Sheet.{count_of}
@@ -51,7 +51,7 @@ unfolding sliced_variable
 sliced_variable_lem s e d i st l = let r = declared_record s d l in rw (sliced_variable, r.1) (ap (λ (t : ℕ). sliced_each s e t (cells_taken s d) i st) r.2)
 
 -- a running clock in cell v of variable j of element e
-module _ (s : List ℕ) (st : List ℤ) (o : OfSheet s st) (e : ℕ) (c : Record) (p : chart_of s e ≡ Present c) (j : ℕ) (l : j < (chart_variables c).count) (v : ℕ) (here : v < cells_taken s ((chart_variables c).first + j)) where
+module _ (s : List ℕ) (st : List ℤ) (o : OfSheet s st) (e : ℕ) (c : Record) (p : chart_of s e ≡ Some c) (j : ℕ) (l : j < (chart_variables c).count) (v : ℕ) (here : v < cells_taken s ((chart_variables c).first + j)) where
   abbrev cell : ℕ
   cell = cell_of s e c j v
 
@@ -140,7 +140,7 @@ module _ (s : List ℕ) (st : List ℤ) (o : OfSheet s st) (e : ℕ) (c : Record
 
 module _ (s : List ℕ) (ok : check_of s ≡ Passed) where
   -- n cells of variable j from number v on
-  each_sliced : (e : ℕ) (c : Record) → chart_of s e ≡ Present c → (j : ℕ) → j < (chart_variables c).count → (n v : ℕ) → v + n ≤ cells_taken s ((chart_variables c).first + j) → (st : List ℤ) → OfSheet s st → ChangeKept s (sliced_each s e (type_at s ((chart_variables c).first + j)) n (first_cell s e + cells_before s c j + v) st)
+  each_sliced : (e : ℕ) (c : Record) → chart_of s e ≡ Some c → (j : ℕ) → j < (chart_variables c).count → (n v : ℕ) → v + n ≤ cells_taken s ((chart_variables c).first + j) → (st : List ℤ) → OfSheet s st → ChangeKept s (sliced_each s e (type_at s ((chart_variables c).first + j)) n (first_cell s e + cells_before s c j + v) st)
   unfolding sliced_each cell_of
   each_sliced e c p j l zero v b st o = o
   each_sliced e c p j l (suc n) v b st o =
@@ -148,7 +148,7 @@ module _ (s : List ℕ) (ok : check_of s ≡ Passed) where
       let i : suc (first_cell s e + cells_before s c j + v) ≡ first_cell s e + cells_before s c j + suc v = omega arith in
       rw i (each_sliced e c p j l n (suc v) (omega arith) st' o'))
 
-  cells_sliced : (e : ℕ) (c : Record) → chart_of s e ≡ Present c → ((j : ℕ) → j < (chart_variables c).count → (chart_variables c).first + j < count_of s declarations) → (n j : ℕ) → j + n ≤ (chart_variables c).count → (st : List ℤ) → OfSheet s st → ChangeKept s (sliced_cells s e n ((chart_variables c).first + j) (first_cell s e + cells_before s c j) st)
+  cells_sliced : (e : ℕ) (c : Record) → chart_of s e ≡ Some c → ((j : ℕ) → j < (chart_variables c).count → (chart_variables c).first + j < count_of s declarations) → (n j : ℕ) → j + n ≤ (chart_variables c).count → (st : List ℤ) → OfSheet s st → ChangeKept s (sliced_cells s e n ((chart_variables c).first + j) (first_cell s e + cells_before s c j) st)
   unfolding sliced_cells
   cells_sliced e c p d zero j l st o = o
   cells_sliced e c p d (suc n) j l st o =

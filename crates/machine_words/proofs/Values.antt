@@ -1,4 +1,6 @@
 -- What a state of a passed sheet may hold is small: numbers, values of every type, a name with its data.
+use Rattle.std.specs.Prelude.{Option, Some, None}
+use Rattle.sheet.specs.declared.Record.{Record}
 use Prim.Native.Nat.{ℕ, ◌+◌, ◌<◌, ◌≤◌}
 use mathlib.Core.Path.{◌≡◌, refl, sym}
 use mathlib.Core.List.{List}
@@ -8,8 +10,6 @@ use lib.Dec.{ltb}
 use lib.IntN.{ℤ, pos, negsuc, nat_abs}
 use borrow.Author.Tests.{ltb-true, leb-true, eqb-true, lt-ltb}
 use Rattle.sheet.specs.declared.Range.{Range}
-use Rattle.sheet.specs.declared.Found.{Found}
-use Rattle.sheet.specs.declared.Found.TheVariants.{Present, Absent}
 use Rattle.sheet.specs.Names.{enumerated_types, names, size}
 use Rattle.sheet.specs.Sheet.{count_of, record_of}
 use Rattle.sheet.proofs.All.{and_first, and_second, all-at}
@@ -40,9 +40,9 @@ module _ (s : List ℕ) (ok : check_of s ≡ Passed) where
   unfolding members_of number_or0 enumerated_shape
   members_limit k = go (record_of s enumerated_types k) refl
     where
-      go : (f : Found) → record_of s enumerated_types k ≡ f → number_or0 f size ≤ 256
-      go (Present r) e = leb-true _ _ (and_first _ _ (and_second _ _ (type_shape s ok k r e)))
-      go Absent e = omega arith
+      go : (f : Option Record) → record_of s enumerated_types k ≡ f → number_or0 f size ≤ 256
+      go (Some r) e = leb-true _ _ (and_first _ _ (and_second _ _ (type_shape s ok k r e)))
+      go None e = omega arith
 
   -- "Every value is in its type", and every type's values are words
   data_word : (t : DataType) (z : ℤ) → in_data_type s t z ≡ true → fits32 z ≡ true

@@ -1,4 +1,5 @@
 -- Every word of a state of a passed sheet fits 32 bits.
+use Rattle.std.specs.Prelude.{Some}
 use Prim.Native.Nat.{ℕ, ◌+◌, ◌*◌, ◌-◌, ◌/◌, ◌%◌, ◌<◌, ◌≤◌}
 use mathlib.Core.Path.{◌≡◌, refl, sym, ap, subst, ◌∙◌}
 use mathlib.Core.List.{List}
@@ -8,7 +9,6 @@ use native.Mathlib.Decide.{dec_lt}
 use lib.ListN.{length, get_or-eq_default}
 use lib.IntN.{ℤ, pos}
 use Rattle.sheet.specs.declared.Record.{Record}
-use Rattle.sheet.specs.declared.Found.TheVariants.{Present}
 use Rattle.sheet.specs.Names.{chart_variables}
 use Rattle.sheet_rules.specs.declared.Checked.TheVariants.{Passed}
 use Rattle.sheet_rules.specs.Fields.{sum_below, externals_of, elements_of}
@@ -35,7 +35,7 @@ module _ (s : List ℕ) (ok : check_of s ≡ Passed) (st : List ℤ) (o : OfShee
   head_row = first_rest st 0 (below_word (word_of st 0) (places + 1) (omega arith) (is_counted_lem s st o)) (zero_row st 0 1 (head_zero s st o))
 
   -- cell i of an element
-  element_row : (e : ℕ) (c : Record) → chart_of s e ≡ Present c → (i : ℕ) → i < cells_bound s (e - externals_of s) → Row st (cell_at (first_cell s e + i))
+  element_row : (e : ℕ) (c : Record) → chart_of s e ≡ Some c → (i : ℕ) → i < cells_bound s (e - externals_of s) → Row st (cell_at (first_cell s e + i))
   unfolding cells_before cell_of
   element_row e c p i l =
       let v = sum_within (λ j. cells_taken s ((chart_variables c).first + j)) (chart_variables c).count i (omega (arith, element-count s e c p)) in

@@ -4,7 +4,6 @@
 // line that can't be written and where the input can't be read, and says so on standard error.
 #![tactic(auto)]
 
-use std::env::FillError;
 use std::io;
 use std::rt::Env;
 
@@ -20,12 +19,6 @@ fn say_use(rt: &HostRuntime) {
     );
 }
 
-// Whether there is an argument of this number; the program's own name is number 0.
-fn is_there(rt: &HostRuntime, i: usize) -> bool {
-    let mut first = [0u8; 1];
-    !matches!(rt.arg(i, &mut first), Err(FillError::NotPresent))
-}
-
 // An argument that is too long leaves its first bytes in `name`, so an option is told by its first.
 fn play_argument(rt: &HostRuntime) {
     let mut name = [0u8; NAME];
@@ -36,7 +29,7 @@ fn play_argument(rt: &HostRuntime) {
     }
     match got {
         Ok(n) => {
-            program_runs::desk_from(rt, &mut rt.stdout(), rt, &name[..n]);
+            let _ = program_runs::desk_from(rt, &mut rt.stdout(), rt, &name[..n]);
         }
         Err(_) => {
             let why = io::Error::from_raw_os_error(NAME_TOO_LONG);
@@ -46,11 +39,11 @@ fn play_argument(rt: &HostRuntime) {
 }
 
 fn main(rt: HostRuntime) {
-    if !is_there(&rt, 1) {
-        program_runs::desk(&mut rt.stdin(), &mut rt.stdout(), &rt);
+    if !program_runs::has_argument(&rt, 1) {
+        let _ = program_runs::desk(&mut rt.stdin(), &mut rt.stdout(), &rt);
         return;
     }
-    if is_there(&rt, 2) {
+    if program_runs::has_argument(&rt, 2) {
         say_use(&rt);
         return;
     }

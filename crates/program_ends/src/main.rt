@@ -2,22 +2,28 @@
 // it, and writes each file's name before its listing.
 #![tactic(auto)]
 
-fn play_file(rt: &HostRuntime, name: &[u8]) {
+use program_runs::Unplayed;
+
+fn play_file(rt: &HostRuntime, name: &str) -> Result<(), Unplayed> {
     let mut to = rt.stdout();
-    if program_text::write_out(&mut to, rt, name) {
-        if program_text::write_out(&mut to, rt, b"\n") {
-            program_runs::desk_from(rt, &mut to, rt, name);
-        }
-    }
+    program_text::write_out(&mut to, rt, name.as_bytes())?;
+    program_text::write_out(&mut to, rt, b"\n")?;
+    program_runs::desk_from(rt, &mut to, rt, name.as_bytes())
 }
 
+// The last two are no such file, and a folder, which can be opened and not read.
+const NAMES: [&str; 7] = [
+    "length_cut",
+    "sheet_cut",
+    "sheet_ends_early",
+    "event_cut",
+    "start_refused",
+    "missing",
+    ".",
+];
+
 fn main(rt: HostRuntime) {
-    play_file(&rt, b"length_cut");
-    play_file(&rt, b"sheet_cut");
-    play_file(&rt, b"sheet_ends_early");
-    play_file(&rt, b"event_cut");
-    play_file(&rt, b"start_refused");
-    // no such file, and a folder, which can be opened and not read
-    play_file(&rt, b"missing");
-    play_file(&rt, b".");
+    for name in NAMES {
+        let _ = play_file(&rt, name);
+    }
 }

@@ -1,7 +1,7 @@
 -- What is lent to play events as they come and to list their answers.
 use Rattle.std.specs.Prelude.{ℕ, ◌+◌, ◌*◌, ◌<◌, ◌≤◌, ◌≡◌, List, length, ℤ}
 use Rattle.machine.specs.Play.{words_of_event}
-use Rattle.engine_cells.specs.Playing.{Playing}
+use Rattle.machine.specs.Valid.{OfSheet}
 use Rattle.machine_lists.specs.Words.{words_of_answer}
 use Rattle.program_input.specs.Input.{room_events, bytes_of_event}
 
@@ -16,8 +16,8 @@ pub record ListedRoom (ws room : List ℤ) (count done : ℕ) (out : List ℕ) :
   pub text : length out ≡ room_text
 
 -- a state of the sheet, a second one's room, `count` events that came, before which `done` were played, and room for as many as are taken at once
-pub record RoundRoom (s d c : List ℕ) (st second : List ℤ) (events : List ℕ) (count : ℕ) (ws room : List ℤ) (done : ℕ) (out : List ℕ) : Type 0 where
-  pub playing : Playing s d c st
+pub record RoundRoom (s : List ℕ) (st second : List ℤ) (events : List ℕ) (count : ℕ) (ws room : List ℤ) (done : ℕ) (out : List ℕ) : Type 0 where
+  pub state : OfSheet s st
   pub spare : length second ≡ length st
   pub whole : bytes_of_event * count ≤ length events
   pub few : count ≤ room_events

@@ -1,10 +1,12 @@
 -- A sheet that is read behind its length, where the reader's bytes are known.
-use Rattle.std.proofs.Common.{◌≡◌, ℕ, ◌<◌, ◌≤◌, ◌++◌, List, [], ◌∷◌, length, take, drop, min, None, Some, IfSome, Option, refl, sym, ap, ◌∙◌, arith, append_assoc, append-nil, length-take-le, take_all, length-append}
+use Rattle.std.proofs.Common.{◌≡◌, ℕ, ◌<◌, ◌≤◌, ◌++◌, List, [], ◌∷◌, length, take, drop, min, None, Some, IfSome, Option, Ok, Err, IfOk, MatchResult, Result, subst, refl, sym, ap, ◌∙◌, arith, append_assoc, append-nil, length-take-le, take_all, length-append}
 use Rattle.std.specs.Io.KnownBytes.{Consumes, IsAtEnd}
 use native.Mathlib.Decide.{ℕ_discrete}
 use lib.ListN.{get_or-append}
+use lib.Seq.{take-append-le}
 use Rattle.std.proofs.Math.Seq.{take-append_seam, drop-append_seam}
 use Rattle.engine_words.specs.Words.{number_at}
+use Rattle.program_input.specs.declared.Unread.{Unread}
 use Rattle.program_input.specs.Input.{sheet_size, sheet_in}
 use Rattle.program_input.proofs.Answers.{size_cut, size_whole}
 
@@ -64,7 +66,7 @@ module _ (xs ys zs head s : List ℕ) (came : ℕ) (four : length head ≡ 4) (f
         split ∙ ap (λ l. head ++ l) second ∙ sym (append_assoc head s zs) ∙ sym (ap (λ l. (l ++ sheet_in xs) ++ zs) begins ∙ ap (λ l. (head ++ l) ++ zs) sheet),
       )
 
-pub sheet_read : (a b c : Option (List ℕ)) (head s : List ℕ) (came : ℕ) → length head ≡ 4 → came ≤ 4
+sheet_read : (a b c : Option (List ℕ)) (head s : List ℕ) (came : ℕ) → length head ≡ 4 → came ≤ 4
     → Consumes a b (take came head) → (came < 4 → IsAtEnd b) → length s ≤ sheet_size head came → Consumes b c s → (length s < sheet_size head came → IsAtEnd c)
     → IfSome a (λ xs. (s ≡ sheet_in xs) × Consumes (Some xs) c (take 4 xs ++ sheet_in xs))
 sheet_read None b c head s came four within first end fits second last = tt
@@ -74,3 +76,15 @@ sheet_read (Some xs) (Some ys) (Some zs) head s came four within first end fits 
   | yes q ↦ read_whole xs ys zs head s came four first second q fits last
   | no q ↦ let h : came < 4 = omega arith in read_short xs ys zs head s came four first second h (end h)
 ]
+
+-- the bytes of a sheet that came, in the front of their room, whether or not a read failed then
+pub sheet_came : (a b c : Option (List ℕ)) (head asked room rest : List ℕ) (came : ℕ) (r : Result ℕ Unread) → length head ≡ 4 → came ≤ 4
+    → Consumes a b (take came head) → (came < 4 → IsAtEnd b) → length asked ≡ sheet_size head came → length room ≡ length asked
+    → IfOk r (λ n. n ≤ length asked) → MatchResult r (λ n. Consumes b c (take n room)) (λ e. Consumes b c (take e.count room)) → IfOk r (λ n. n < length asked → IsAtEnd c)
+    → IfOk r (λ n. IfSome a (λ xs. (take n (room ++ rest) ≡ sheet_in xs) × Consumes (Some xs) c (take 4 xs ++ sheet_in xs)))
+sheet_came a b c head asked room rest came (Err e) four within first end size long fits second last = tt
+sheet_came a b c head asked room rest came (Ok n) four within first end size long fits second last =
+    let front : n ≤ length room = omega arith in
+    let same : take n room ≡ take n (room ++ rest) = sym (take-append-le n room rest front) in
+    let all : length (take n (room ++ rest)) ≡ n = ap length (sym same) ∙ length-take-le n room front in
+    sheet_read a b c head (take n (room ++ rest)) came four within first end (omega arith) (subst (Consumes b c) same second) (λ h. last (omega arith))

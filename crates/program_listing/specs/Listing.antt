@@ -1,8 +1,6 @@
 -- Answers as text.
-use Rattle.std.specs.Prelude.{ℕ, List, [], ◌∷◌, ◌++◌, ℤ}
+use Rattle.std.specs.Prelude.{ℕ, List, [], ◌∷◌, ◌++◌, ℤ, Option, Some, None}
 use Rattle.machine.specs.declared.Telegram.{Telegram}
-use Rattle.machine.specs.declared.Handed.{Handed}
-use Rattle.machine.specs.declared.Handed.TheVariants.{Nothing, Outside}
 use Rattle.machine.specs.declared.Answer.{Answer}
 use Rattle.program_text.specs.Decimal.{decimal, signed}
 
@@ -25,9 +23,9 @@ unfoldable pub telegram_text : ℕ → Telegram → List ℕ
 telegram_text sep t = signed t.receiver ++ after_text sep t.port ++ after_text sep t.name ++ after_text sep t.d0 ++ after_text sep t.d1 ++ after_text sep t.d2 ++ after_text sep t.d3
 
 -- "after "to" .. handed outside": 116 and 111 are t and o
-unfoldable pub handed_text : Handed → List ℕ
-handed_text Nothing = []
-handed_text (Outside t) = (32 ∷ 116 ∷ 111 ∷ 32 ∷ []) ++ telegram_text 32 t
+unfoldable pub handed_text : Option Telegram → List ℕ
+handed_text None = []
+handed_text (Some t) = (32 ∷ 116 ∷ 111 ∷ 32 ∷ []) ++ telegram_text 32 t
 
 -- "it prints "start" with answer and steps"
 unfoldable pub start_line : ℕ → ℕ → List ℕ

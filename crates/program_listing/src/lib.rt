@@ -5,7 +5,7 @@ ghost use Rattle.std.specs.Prelude.{◌+◌, ◌≤◌, length};
 ghost use Rattle.program_text.specs.Decimal.{Put};
 ghost use Rattle.program_listing.specs.Listing.{counts_text, after_text, telegram_text, handed_text, start_line, event_line, longest_line};
 
-use machine::{Answer, Handed, Telegram};
+use machine::{Answer, Telegram};
 
 // The most bytes that an event's line takes.
 pub const LONGEST_LINE: usize = 220;
@@ -41,13 +41,13 @@ pub fn put_telegram(out: &mut [u8], at: usize, sep: u8, t: Telegram) -> usize
     put_after(out, f, sep, t.d3)
 }
 
-fn put_handed(out: &mut [u8], at: usize, h: Handed) -> usize
+fn put_handed(out: &mut [u8], at: usize, h: Option<Telegram>) -> usize
     requires { at + 157 ≤ length out.old }
     ensures { Put out.old at (handed_text h) out.new result × (result ≤ at + 157) }
 {
     match h {
-        Handed::Nothing => at,
-        Handed::Outside(t) => {
+        None => at,
+        Some(t) => {
             let a = program_text::put_bytes(out, at, b" to ");
             put_telegram(out, a, b' ', t)
         }

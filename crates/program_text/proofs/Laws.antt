@@ -1,7 +1,6 @@
 -- Texts one behind another, and how many digits a number has.
 use Prim.Native.Nat.{ℕ, zero, suc, ◌+◌, ◌*◌, ◌/◌, ◌%◌, ◌≤◌, ◌<◌}
 use native.Mathlib.Omega.{arith}
-use native.Mathlib.Nat.{zero-add}
 use native.Mathlib.Numerals.{add-one}
 use mathlib.Core.Path.{◌≡◌, refl, sym, ap, ◌∙◌}
 use mathlib.Core.Bool.{Bool, true, false}
@@ -10,11 +9,10 @@ use lib.ListN.{length, take, drop, set, length-append}
 use lib.Seq.{length-take-le, set_split, append_snoc, take_at, drop-append-add, drop-drop, take-length, paste, paste-zero}
 use lib.Dec.{ltb}
 use borrow.Author.Tests.{ltb-true, ltb-false, lt-ltb, le-ltb, le-leb, lt-leb}
-use lib.IntN.{ℤ, pos, negsuc, nat_abs, ◌-ℤ◌}
-use lib.Signed.{mag, lt_z, non_neg}
-use lib.Dec.{T}
-use mir.Syntax.{w32, w64}
-use mir.Val.{Fits, SFits, of_z, to_z}
+use lib.IntN.{ℤ, pos, negsuc, nat_abs}
+use lib.Signed.{lt_z}
+use mir.Syntax.{w32}
+use mir.Val.{SFits, of_z, to_z}
 use mir.ValLaws.{to_z-of_z}
 use Rattle.program_text.specs.Decimal.{digits, decimal, signed, placed, Put, place_with_room}
 
@@ -109,50 +107,8 @@ module _ (n : ℕ) (long : 10 ≤ n) (fits : n < 18446744073709551616) where
 -- ---- signed numbers
 
 module _ (z : ℤ) (h : SFits w32 z) where
-  wide : SFits w64 z
-  wide = record { sfits = omega (arith, h.sfits) }
-
   pub back : to_z w32 (of_z w32 z) ≡ z
   back = to_z-of_z w32 z h
-
-  pub read : SFits w64 (to_z w32 (of_z w32 z))
-  read = rw back wide
-
-  pub read_wide : to_z w64 (of_z w64 (to_z w32 (of_z w32 z))) ≡ z
-  read_wide = rw back (to_z-of_z w64 z wide)
-
-abs_limit : (z : ℤ) → nat_abs z ≤ mag z + 1
-abs_limit (pos n) = omega arith
-abs_limit (negsuc n) = omega arith
-
-negated : (z : ℤ) → lt_z z (pos 0) ≡ true → pos 0 -ℤ z ≡ pos (nat_abs z)
-negated (pos n) e = absurd (omega (arith, ltb-true n 0 e))
-negated (negsuc n) e = ap pos (zero-add (suc n))
-
-module _ (z : ℤ) (h : SFits w32 z) (b : lt_z z (pos 0) ≡ true) where
-  turned : pos 0 -ℤ to_z w64 (of_z w64 (to_z w32 (of_z w32 z))) ≡ pos (nat_abs z)
-  turned = rw (read_wide z h) (negated z b)
-
-  small : SFits w64 (pos (nat_abs z))
-  small = record { sfits = omega (arith, h.sfits, abs_limit z) }
-
-  pub turned_fits : SFits w64 (pos 0 -ℤ to_z w64 (of_z w64 (to_z w32 (of_z w32 z))))
-  turned_fits = rw turned small
-
-  pub turned_back_lem : to_z w64 (of_z w64 (pos 0 -ℤ to_z w64 (of_z w64 (to_z w32 (of_z w32 z))))) ≡ pos (nat_abs z)
-  turned_back_lem = rw turned (to_z-of_z w64 (pos (nat_abs z)) small)
-
-  pub turned_counts : T (non_neg (to_z w64 (of_z w64 (pos 0 -ℤ to_z w64 (of_z w64 (to_z w32 (of_z w32 z))))))) × Fits w64 (nat_abs (to_z w64 (of_z w64 (pos 0 -ℤ to_z w64 (of_z w64 (to_z w32 (of_z w32 z)))))))
-  turned_counts = rw turned_back_lem (tt, record { fits = omega (arith, h.sfits, abs_limit z) })
-
--- a number that isn't below 0
-module _ (z : ℤ) (h : SFits w32 z) (b : lt_z z (pos 0) ≡ false) where
-  pub counts : T (non_neg (to_z w32 (of_z w32 z))) × Fits w64 (nat_abs (to_z w32 (of_z w32 z)))
-  counts = rw (back z h) (plain z b, record { fits = omega (arith, h.sfits, abs_limit z) })
-    where
-      plain : (z : ℤ) → lt_z z (pos 0) ≡ false → T (non_neg z)
-      plain (pos n) e = tt
-      plain (negsuc n) e = absurd (omega (arith, ltb-false 0 1 e))
 
 pub signed_below : (z : ℤ) → lt_z z (pos 0) ≡ true → signed z ≡ (45 ∷ []) ++ decimal (nat_abs z)
 unfolding signed

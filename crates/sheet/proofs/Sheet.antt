@@ -1,4 +1,5 @@
 -- Laws of the directory and of the records.
+use Rattle.std.specs.Prelude.{Some, None}
 use Prim.Native.Nat.{ℕ, zero, suc, ◌+◌, ◌*◌, ◌-◌, ◌/◌, ◌<◌, ◌≤◌}
 use mathlib.Core.Path.{◌≡◌, refl, sym, ◌∙◌}
 use mathlib.Core.List.{List}
@@ -11,7 +12,6 @@ use lib.Seq.{ext_get_or}
 use lib.Dec.{ltb}
 use borrow.Author.Tests.{ltb-true, leb-true, eqb-true, lt-ltb, le-ltb}
 use Rattle.sheet.specs.declared.Record.{Record}
-use Rattle.sheet.specs.declared.Found.TheVariants.{Present, Absent}
 use Rattle.sheet.specs.All.{◌and◌}
 use Rattle.sheet.specs.Sheet.{offset_of, length_of, start_of, pair_right, directory_right, count_of, record_at, record_of, sections_from, directory_of, count_in}
 use Rattle.sheet.proofs.All.{and_first, and_second, and-false, all-at, not_so}
@@ -79,16 +79,16 @@ count_some s k n h = go (directory_right s and ltb k 8) refl
 
 -- ---- a record
 
-pub record_present : (s : List ℕ) (k n : ℕ) → n < count_of s k → record_of s k n ≡ Present (record_at s (offset_of s k + 16 * n))
+pub record_present : (s : List ℕ) (k n : ℕ) → n < count_of s k → record_of s k n ≡ Some (record_at s (offset_of s k + 16 * n))
 unfolding record_of
 record_present s k n h = rw (record_of, lt-ltb n (count_of s k) h) refl
 
-pub record_absent : (s : List ℕ) (k n : ℕ) → count_of s k ≤ n → record_of s k n ≡ Absent
+pub record_absent : (s : List ℕ) (k n : ℕ) → count_of s k ≤ n → record_of s k n ≡ None
 unfolding record_of
 record_absent s k n h = rw (record_of, le-ltb n (count_of s k) h) refl
 
 -- a record that is there is one of its section's
-pub present-below : (s : List ℕ) (k n : ℕ) (r : Record) → record_of s k n ≡ Present r → n < count_of s k
+pub present-below : (s : List ℕ) (k n : ℕ) (r : Record) → record_of s k n ≡ Some r → n < count_of s k
 present-below s k n r e = elim (dec_lt n (count_of s k)) [
   | yes l ↦ l
   | no l ↦ (let z : ◌≡◌ {A = ℕ} 0 1 = cc (record_absent s k n (omega arith)) in absurd (omega arith))

@@ -1,9 +1,7 @@
 -- The sheet: bytes, its directory, its records.
-use Rattle.std.specs.Prelude.{ℕ, zero, suc, ◌+◌, ◌*◌, ◌/◌, ◌%◌, List, [], ◌∷◌, Bool, true, false, length, get_or, replicate, ltb, leb, eqb}
+use Rattle.std.specs.Prelude.{ℕ, zero, suc, ◌+◌, ◌*◌, ◌/◌, ◌%◌, List, [], ◌∷◌, Bool, true, false, length, get_or, replicate, ltb, leb, eqb, Option, Some, None}
 use Rattle.sheet.specs.All.{◌and◌, all_below}
 use Rattle.sheet.specs.declared.Record.{Record}
-use Rattle.sheet.specs.declared.Found.{Found}
-use Rattle.sheet.specs.declared.Found.TheVariants.{Present, Absent}
 
 -- "Bytes, little-endian 16-bit numbers". A byte past the end counts as 0, so that every offset has a number.
 abbrev pub word_at : List ℕ → ℕ → ℕ
@@ -38,8 +36,8 @@ unfoldable pub record_at : List ℕ → ℕ → Record
 record_at s at = record { f0 = word_at s at; f1 = word_at s (at + 2); f2 = word_at s (at + 4); f3 = word_at s (at + 6); f4 = word_at s (at + 8); f5 = word_at s (at + 10); f6 = word_at s (at + 12); f7 = word_at s (at + 14) }
 
 -- "any record by section and number, and a record that isn't there is reported absent"
-unfoldable pub record_of : List ℕ → ℕ → ℕ → Found
-record_of s k n = elim (ltb n (count_of s k)) [ true ↦ Present (record_at s (offset_of s k + 16 * n)) | false ↦ Absent ]
+unfoldable pub record_of : List ℕ → ℕ → ℕ → Option Record
+record_of s k n = elim (ltb n (count_of s k)) [ true ↦ Some (record_at s (offset_of s k + 16 * n)) | false ↦ None ]
 
 -- The directory as it is handed on once it is tested: for section k its offset at place 2k and its count of records at place 2k + 1; all 0 if it is wrong.
 unfoldable pub sections_from : List ℕ → ℕ → ℕ → List ℕ

@@ -30,7 +30,7 @@ pub const RECORDS: usize = 4096;
 pub type ByRecord = [u16; RECORDS];
 
 // A record of the sheet: eight 16-bit fields.
-#[derive(Clone, Copy)]
+#[derive(Clone, Copy, Default)]
 pub struct Record {
     pub f0: u16,
     pub f1: u16,
@@ -40,13 +40,6 @@ pub struct Record {
     pub f5: u16,
     pub f6: u16,
     pub f7: u16,
-}
-
-// What a section holds at a number: a record, or nothing.
-#[derive(Clone, Copy)]
-pub enum Found {
-    Present(Record),
-    Absent,
 }
 
 // A range of records: its first one and how many.

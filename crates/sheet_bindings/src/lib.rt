@@ -1,11 +1,14 @@
 // Which records bind an element, and where in them the constant for a parameter stands.
 #![tactic(auto)]
 
-ghost use Rattle.std.specs.Prelude.{◌≡◌, ◌+◌, ◌≤◌, ◌<◌};
-ghost use Rattle.sheet.specs.Sheet.{directory_of};
-ghost use Rattle.sheet_rules.specs.Bindings.{records_for, chart_bound, behind, elements_bound_in, constant_record, constant_field};
+ghost use Rattle.std.specs.Prelude.{◌≡◌, ℕ, ◌+◌, ◌≤◌, ◌<◌, Bool};
+ghost use Rattle.sheet.specs.All.{all_below};
+ghost use Rattle.sheet_rules.specs.Fields.{holds};
+ghost use Rattle.sheet_rules.specs.Bindings.{records_for, chart_bound, behind, elements_bound_in, first_binding, constant_record, constant_field, constant_binding, constant_of};
+ghost use Rattle.sheet_bindings.specs.Tests.{Asked, Tests, AskedBoth, TestsBoth};
 
-use sheet::{BINDINGS, CHARTS, Directory, Found};
+use sheet::{BINDINGS, CHARTS, Record};
+use sheet_opened::Reader;
 
 // ---- records
 
@@ -20,38 +23,37 @@ pub fn records_for(n: u16) -> usize
 }
 
 // The chart that record k names.
-pub fn chart_bound(sheet: &[u8], directory: &Directory, k: usize) -> Found
-    requires { directory.now ≡ directory_of sheet.now }
+pub fn chart_bound(sheet: &Reader, k: usize) -> Option<Record>
     ensures { result ≡ chart_bound sheet.now k }
 {
-    let Found::Present(b) = sheet_reader::read(sheet, directory, BINDINGS, k) else {
-        return Found::Absent;
+    let Some(b) = sheet.record(BINDINGS, k) else {
+        return None;
     };
-    sheet_reader::read(sheet, directory, CHARTS, b.f0 as usize)
+    sheet.record(CHARTS, b.f0 as usize)
 }
 
 // The record behind those of the element whose first one is k. An element's first record is at most at
 // twice its number, which has 16 bits.
-pub fn record_behind(sheet: &[u8], directory: &Directory, k: usize) -> usize
-    requires { (directory.now ≡ directory_of sheet.now) × (k ≤ 131072) }
+pub fn record_behind(sheet: &Reader, k: usize) -> usize
+    requires { k ≤ 131072 }
     ensures { (result ≡ behind sheet.now k) × (result ≤ k + 2) }
 {
-    let Found::Present(c) = chart_bound(sheet, directory, k) else {
+    let Some(c) = chart_bound(sheet, k) else {
         return k + 1;
     };
     k + records_for(c.f1)
 }
 
 // How many elements the section binds.
-pub fn elements_bound(sheet: &[u8], directory: &Directory) -> usize
-    requires { directory.now ≡ directory_of sheet.now }
+pub fn elements_bound(sheet: &Reader) -> usize
     ensures { (result ≡ elements_bound_in sheet.now) × (result < 65536) }
 {
-    let count = sheet_reader::count_in(directory, BINDINGS);
+    let count = sheet.count(BINDINGS);
     let mut n: usize = 0;
     let mut k: usize = 0;
+    // A while, as an element takes one record or two.
     while k < count {
-        k = record_behind(sheet, directory, k);
+        k = record_behind(sheet, k);
         n += 1;
     }
     n
@@ -79,4 +81,48 @@ pub fn constant_field(j: usize) -> usize
         return 1 + j;
     }
     j - 6
+}
+
+// ---- every element, every constant
+
+// Whether a test holds for every element, which it takes by the first of its records.
+pub fn every_element<F: Fn(usize) -> bool>(sheet: &Reader, met: F) -> bool
+    requires { Asked (F.pre met) }
+    ensures { (p : ℕ → Bool) → Tests (F.post met) p → result ≡ all_below (elements_bound_in sheet.now) (λ i. p (first_binding sheet.now i)) }
+{
+    let count = sheet.count(BINDINGS);
+    let mut k: usize = 0;
+    // The same.
+    while k < count {
+        if !met(k) {
+            return false;
+        }
+        k = record_behind(sheet, k);
+    }
+    true
+}
+
+// Whether a test holds for the constants of the element whose first record is k, one for each of so many parameters: it
+// takes the parameter's number and the constant's node.
+pub fn every_constant<F: Fn(usize, usize) -> bool>(
+    sheet: &Reader,
+    k: usize,
+    parameters: u16,
+    fits: F,
+) -> bool
+    requires near { k ≤ 131072 }
+    requires asked { AskedBoth (F.pre fits) }
+    ensures { (p : ℕ → ℕ → Bool) → TestsBoth (F.post fits) p → result ≡ all_below parameters (λ j. holds (constant_binding sheet.now k j) (λ b. p j (constant_of b j))) }
+{
+    let count = parameters as usize;
+    for j in 0..count {
+        let Some(b) = sheet.record(BINDINGS, constant_record(k, j)) else {
+            return false;
+        };
+        let n = sheet_fields::field(b, constant_field(j));
+        if !fits(j, n) {
+            return false;
+        }
+    }
+    true
 }

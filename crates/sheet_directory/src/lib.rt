@@ -4,18 +4,12 @@
 ghost use Rattle.std.specs.Prelude.{◌≡◌, ◌+◌, ◌*◌, ◌<◌, length};
 ghost use Rattle.sheet.specs.Sheet.{word_at, directory_right};
 
-fn join(low: u8, high: u8) -> u16
-    ensures { result ≡ low + 256 * high }
-{
-    low as u16 + 256 * (high as u16)
-}
-
 // The 16-bit number at an offset.
 pub fn word_at(sheet: &[u8], at: usize) -> u16
     requires { at + 1 < length sheet.now }
     ensures { result ≡ word_at sheet.now at }
 {
-    join(sheet[at], sheet[at + 1])
+    u16::from_le_bytes([sheet[at], sheet[at + 1]])
 }
 
 // The same as a number to count and to index with.
@@ -37,8 +31,7 @@ pub fn directory_right(sheet: &[u8]) -> bool
         return false;
     }
     let mut start: usize = 32;
-    let mut k: usize = 0;
-    while k < 8 {
+    for k in 0..8 {
         let offset = number_at(sheet, 4 * k);
         let size = number_at(sheet, 4 * k + 2);
         if offset != start {
@@ -48,7 +41,6 @@ pub fn directory_right(sheet: &[u8]) -> bool
             return false;
         }
         start = offset + size;
-        k += 1;
     }
     start == sheet.len()
 }

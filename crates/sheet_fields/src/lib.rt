@@ -3,12 +3,12 @@
 
 ghost use Rattle.std.specs.Prelude.{◌≡◌, ◌+◌, ◌<◌};
 ghost use Rattle.sheet.specs.Names.{range};
-ghost use Rattle.sheet.specs.Sheet.{directory_of};
 ghost use Rattle.sheet_rules.specs.Fields.{field_of, zero_from, field_at, in_section};
 ghost use Rattle.sheet_fields.specs.Small.{Small};
 ghost use Rattle.sheet_rules.specs.Forms.{call_data, operands_of, operand_at};
 
-use sheet::{BODIES, Directory, Found, NAMES, Record};
+use sheet::{BODIES, NAMES, Record};
+use sheet_opened::Reader;
 use sheet_rules::Operands;
 
 pub fn field(r: Record, i: usize) -> usize
@@ -34,61 +34,43 @@ pub fn zero_from(r: Record, n: usize) -> bool
     if 8 <= n {
         return true;
     }
-    let mut i: usize = 0;
-    while i < 8 - n {
+    for i in 0..8 - n {
         if field(r, n + i) != 0 {
             return false;
         }
-        i += 1;
     }
     true
 }
 
 // A field of a record, 0 where there is none.
-pub fn field_at(
-    sheet: &[u8],
-    directory: &Directory,
-    section: usize,
-    number: usize,
-    i: usize,
-) -> usize
-    requires { directory.now ≡ directory_of sheet.now }
+pub fn field_at(sheet: &Reader, section: usize, number: usize, i: usize) -> usize
     ensures { (result ≡ field_at sheet.now section number i) × (result < 65536) }
 {
-    let Found::Present(r) = sheet_reader::read(sheet, directory, section, number) else {
+    let Some(r) = sheet.record(section, number) else {
         return 0;
     };
     field(r, i)
 }
 
 // Whether a range of records ends within its section.
-pub fn in_section(
-    sheet: &[u8],
-    directory: &Directory,
-    section: usize,
-    first: u16,
-    count: u16,
-) -> bool
-    requires { directory.now ≡ directory_of sheet.now }
+pub fn in_section(sheet: &Reader, section: usize, first: u16, count: u16) -> bool
     ensures { result ≡ in_section sheet.now section (range first count) }
 {
-    first as usize + count as usize <= sheet_reader::count_in(directory, section)
+    first as usize + count as usize <= sheet.count(section)
 }
 
 // How many data fields a call in chart c uses.
-pub fn call_data(sheet: &[u8], directory: &Directory, c: Record, r: Record) -> usize
-    requires { directory.now ≡ directory_of sheet.now }
+pub fn call_data(sheet: &Reader, c: Record, r: Record) -> usize
     ensures { (result ≡ call_data sheet.now c r) × (result < 65536) }
 {
     if c.f5 <= r.f1 {
         return 0;
     }
-    field_at(sheet, directory, BODIES, c.f4 as usize + r.f1 as usize, 4)
+    field_at(sheet, BODIES, c.f4 as usize + r.f1 as usize, 4)
 }
 
 // Where the operands of a node of chart c stand.
-pub fn operands(sheet: &[u8], directory: &Directory, c: Record, r: Record) -> Operands
-    requires { directory.now ≡ directory_of sheet.now }
+pub fn operands(sheet: &Reader, c: Record, r: Record) -> Operands
     ensures { (result ≡ operands_of sheet.now c r) × Small result }
 {
     let op = r.f0;
@@ -114,7 +96,7 @@ pub fn operands(sheet: &[u8], directory: &Directory, c: Record, r: Record) -> Op
             tail: 0,
         },
         34 => {
-            let tail = field_at(sheet, directory, NAMES, r.f3 as usize, 1);
+            let tail = field_at(sheet, NAMES, r.f3 as usize, 1);
             Operands {
                 first: 1,
                 count: 2,
@@ -122,7 +104,7 @@ pub fn operands(sheet: &[u8], directory: &Directory, c: Record, r: Record) -> Op
             }
         }
         35 => {
-            let tail = field_at(sheet, directory, NAMES, r.f3 as usize, 1);
+            let tail = field_at(sheet, NAMES, r.f3 as usize, 1);
             Operands {
                 first: 1,
                 count: 0,
@@ -130,7 +112,7 @@ pub fn operands(sheet: &[u8], directory: &Directory, c: Record, r: Record) -> Op
             }
         }
         36..=37 => {
-            let tail = field_at(sheet, directory, NAMES, r.f3 as usize, 1);
+            let tail = field_at(sheet, NAMES, r.f3 as usize, 1);
             Operands {
                 first: 2,
                 count: 1,
@@ -138,7 +120,7 @@ pub fn operands(sheet: &[u8], directory: &Directory, c: Record, r: Record) -> Op
             }
         }
         40 => {
-            let tail = call_data(sheet, directory, c, r);
+            let tail = call_data(sheet, c, r);
             Operands {
                 first: 1,
                 count: 0,

@@ -1,4 +1,5 @@
 -- Which numbers are which index, and the index of a declaration.
+use Rattle.std.specs.Prelude.{Some, None}
 use Prim.Native.Nat.{ℕ, zero, suc, ◌-◌, ◌≤◌, ◌<◌}
 use mathlib.Core.Path.{◌≡◌, refl, sym, ap, ◌∙◌}
 use mathlib.Core.List.{List}
@@ -8,7 +9,6 @@ use lib.ListN.{drop}
 use lib.Dec.{T, ltb, eqb}
 use borrow.Author.Tests.{ne_eqb, le-leb, lt-leb}
 use Rattle.sheet.specs.declared.Record.{Record}
-use Rattle.sheet.specs.declared.Found.TheVariants.{Present, Absent}
 use Rattle.sheet.specs.Table.{look_up}
 use Rattle.sheet.specs.Sheet.{count_of, record_of}
 use Rattle.sheet.proofs.All.{true-and}
@@ -63,10 +63,10 @@ type_there s t h = rw (type_exists, lt-leb t 6 (omega arith)) (true-and _ _ (le-
 
 -- ---- declarations
 
-pub index_present : (s : List ℕ) (d : ℕ) (r : Record) → record_of s 2 d ≡ Present r → index_at s d ≡ index_of s r.f1
+pub index_present : (s : List ℕ) (d : ℕ) (r : Record) → record_of s 2 d ≡ Some r → index_at s d ≡ index_of s r.f1
 unfolding index_at
 index_present s d r e = rw (index_at, e) refl
 
-pub index-absent : (s : List ℕ) (d : ℕ) → record_of s 2 d ≡ Absent → index_at s d ≡ no_index
+pub index-absent : (s : List ℕ) (d : ℕ) → record_of s 2 d ≡ None → index_at s d ≡ no_index
 unfolding index_at
 index-absent s d e = rw (index_at, e) refl

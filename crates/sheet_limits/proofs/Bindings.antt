@@ -1,9 +1,9 @@
 -- Which records bind an element.
+use Rattle.std.specs.Prelude.{Some, None}
 use Prim.Native.Nat.{ℕ, zero, suc, ◌+◌}
 use mathlib.Core.List.{List}
 use mathlib.Core.Path.{◌≡◌, refl}
 use lib.Dec.{ltb}
-use Rattle.sheet.specs.declared.Found.TheVariants.{Present, Absent}
 use Rattle.sheet.specs.Names.{bindings, chart_parameters, bound_chart}
 use Rattle.sheet_rules.specs.Fields.{number_or0, count_below}
 use Rattle.sheet_rules.specs.Bindings.{records_for, chart_bound, behind, first_binding, elements_bound_in, constant_record, constant_binding}
@@ -13,7 +13,7 @@ use Rattle.sheet_limits.proofs.Records.{same_bindings, same_charts, same_count_o
 module _ {s s' : List ℕ} (h : ButLimit s s') where
   pub same_chart_bound : chart_bound s ≡ chart_bound s'
   unfolding chart_bound
-  same_chart_bound = λ q k. elim (same_bindings h q k) [ Present b ↦ same_charts h q (bound_chart b) | Absent ↦ Absent ]
+  same_chart_bound = λ q k. elim (same_bindings h q k) [ Some b ↦ same_charts h q (bound_chart b) | None ↦ None ]
 
   pub same_behind_lem : behind s ≡ behind s'
   unfolding behind

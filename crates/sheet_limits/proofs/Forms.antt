@@ -1,11 +1,11 @@
 -- Operands.
+use Rattle.std.specs.Prelude.{None}
 use Prim.Native.Nat.{ℕ, ◌+◌}
 use mathlib.Core.List.{List}
 use mathlib.Core.Bool.{true, false}
 use mathlib.Core.Path.{◌≡◌, refl}
 use lib.Dec.{ltb}
 use Rattle.sheet.specs.declared.Record.{Record}
-use Rattle.sheet.specs.declared.Found.TheVariants.{Absent}
 use Rattle.sheet.specs.Names.{operator, data_of, chart_bodies, body_parameters}
 use Rattle.sheet_rules.specs.Fields.{number_or0}
 use Rattle.sheet_rules.specs.Forms.{form_of, operands, name_data, called_body, call_data, operands_in, operands_of, Form, literal, read, unary, binary, clock, read_element, skip, assign, external_send, internal_send, arm, clock_act, call, choice, loop, sequence, assign_element, unknown}
@@ -19,7 +19,7 @@ module _ {s s' : List ℕ} (h : ButLimit s s') where
 
   pub same_called_body : called_body s ≡ called_body s'
   unfolding called_body
-  same_called_body = λ q c r. elim (ltb r.f1 (chart_bodies c).count) [ true ↦ same_bodies h q ((chart_bodies c).first + r.f1) | false ↦ Absent ]
+  same_called_body = λ q c r. elim (ltb r.f1 (chart_bodies c).count) [ true ↦ same_bodies h q ((chart_bodies c).first + r.f1) | false ↦ None ]
 
   pub same_call_data : call_data s ≡ call_data s'
   unfolding call_data

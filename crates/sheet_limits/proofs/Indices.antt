@@ -1,8 +1,8 @@
 -- Arrays and their cells.
+use Rattle.std.specs.Prelude.{Some, None}
 use Prim.Native.Nat.{ℕ, ◌+◌, ◌-◌}
 use mathlib.Core.List.{List, [], ◌∷◌}
 use mathlib.Core.Path.{◌≡◌}
-use Rattle.sheet.specs.declared.Found.TheVariants.{Present, Absent}
 use Rattle.sheet.specs.Table.{up_to, look_up}
 use Rattle.sheet.specs.Names.{declared_index, chart_variables, bool_type, int_type, component_type, port_type}
 use Rattle.sheet_rules.specs.Fields.{sum_below}
@@ -29,7 +29,7 @@ module _ {s s' : List ℕ} (h : ButLimit s s') where
 
   pub same_index_at : index_at s ≡ index_at s'
   unfolding index_at
-  same_index_at = λ q d. elim (same_declarations h q d) [ Present r ↦ same_index_of q (declared_index r) | Absent ↦ no_index ]
+  same_index_at = λ q d. elim (same_declarations h q d) [ Some r ↦ same_index_of q (declared_index r) | None ↦ no_index ]
 
   pub same_cells_taken : cells_taken s ≡ cells_taken s'
   unfolding cells_taken

@@ -1,26 +1,25 @@
 -- What two sheets that agree but for the limit have in common: counts, the records of every section but the head, and of the head all but the limit.
+use Rattle.std.specs.Prelude.{Option, Some, None}
 use Prim.Native.Nat.{ℕ, suc}
 use mathlib.Core.Path.{◌≡◌, refl, sym, ap, ◌∙◌}
 use mathlib.Core.List.{List}
 use mathlib.Core.Bool.{Bool}
 use Rattle.sheet.specs.declared.Record.{Record}
-use Rattle.sheet.specs.declared.Found.{Found}
-use Rattle.sheet.specs.declared.Found.TheVariants.{Present, Absent}
 use Rattle.sheet.specs.Names.{head, enumerated_types, declarations, names, charts, bodies, nodes, bindings}
 use Rattle.sheet.specs.Sheet.{directory_right, count_of, record_of}
 use Rattle.sheet_rules.specs.Fields.{holds, number_or0}
 use Rattle.sheet_limits.specs.ButLimit.{no_limit, compared, ButLimit}
 
 -- a number, or a test, that doesn't look at the limit
-head-number : (f : Record → ℕ) → ((r : Record) → f (no_limit r) ≡ f r) → (x : Found) → number_or0 (compared head x) f ≡ number_or0 x f
+head-number : (f : Record → ℕ) → ((r : Record) → f (no_limit r) ≡ f r) → (x : Option Record) → number_or0 (compared head x) f ≡ number_or0 x f
 unfolding number_or0 compared
-head-number f e (Present r) = e r
-head-number f e Absent = refl
+head-number f e (Some r) = e r
+head-number f e None = refl
 
-head_test : (p : Record → Bool) → ((r : Record) → p (no_limit r) ≡ p r) → (x : Found) → holds (compared head x) p ≡ holds x p
+head_test : (p : Record → Bool) → ((r : Record) → p (no_limit r) ≡ p r) → (x : Option Record) → holds (compared head x) p ≡ holds x p
 unfolding holds compared
-head_test p e (Present r) = e r
-head_test p e Absent = refl
+head_test p e (Some r) = e r
+head_test p e None = refl
 
 -- a sheet agrees with itself
 pub itself : (s : List ℕ) → ButLimit s s

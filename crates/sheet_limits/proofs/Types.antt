@@ -1,11 +1,11 @@
 -- Types of expressions and statements.
+use Rattle.std.specs.Prelude.{Some, None}
 use Prim.Native.Nat.{ℕ, zero, suc, ◌+◌}
 use mathlib.Core.List.{List}
 use mathlib.Core.Bool.{true, false, not}
 use mathlib.Core.Path.{◌≡◌, refl}
 use lib.Dec.{eqb}
 use Rattle.sheet.specs.declared.Record.{Record}
-use Rattle.sheet.specs.declared.Found.TheVariants.{Present, Absent}
 use Rattle.sheet.specs.All.{◌and◌, all_below}
 use Rattle.sheet.specs.Names.{data_of, class, external, internal, chart_variables, chart_bodies, role, procedure, operator, bool_type, int_type, component_type, port_type, timer_type, is_clock}
 use Rattle.sheet.specs.Names
@@ -36,7 +36,7 @@ module _ {s s' : List ℕ} (h : ButLimit s s') where
 
   pub same_name_range : name_range s ≡ name_range s'
   unfolding name_range
-  same_name_range = λ q n. elim (same_names h q n) [ Present r ↦ data_of r | Absent ↦ Names.range 0 0 ]
+  same_name_range = λ q n. elim (same_names h q n) [ Some r ↦ data_of r | None ↦ Names.range 0 0 ]
 
   pub same_chart_variable_type : chart_variable_type s ≡ chart_variable_type s'
   same_chart_variable_type = λ q c n. same_type_at h q ((chart_variables c).first + n)
@@ -114,7 +114,7 @@ module _ {s s' : List ℕ} (h : ButLimit s s') where
 
   pub same_type_step : type_step s ≡ type_step s'
   unfolding type_step
-  same_type_step = λ q c b f n. elim (same_nodes h q n) [ Present r ↦ same_type_in q c b f r (form_of (operator r)) | Absent ↦ Wrong ]
+  same_type_step = λ q c b f n. elim (same_nodes h q n) [ Some r ↦ same_type_in q c b f r (form_of (operator r)) | None ↦ Wrong ]
 
   type_f_at : (c b : Record) (a : ℕ) → type_f s c b a ≡ type_f s' c b a
   unfolding type_f

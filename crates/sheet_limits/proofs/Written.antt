@@ -1,4 +1,5 @@
 -- A sheet with another limit written into its bytes: it agrees with the first in every record but the head's limit, and has that limit.
+use Rattle.std.specs.Prelude.{Option, Some, None}
 use Prim.Native.Nat.{ℕ, zero, suc, ◌+◌, ◌*◌, ◌/◌, ◌%◌, ◌<◌, ◌≤◌}
 use mathlib.Core.Path.{◌≡◌, refl, sym, ap, ◌∙◌}
 use mathlib.Core.List.{List}
@@ -9,8 +10,6 @@ use lib.ListN.{length, get_or, set, length-set}
 use lib.Seq.{get_or-set_same, get_or-set_other}
 use lib.Dec.{leb, eqb, ltb}
 use Rattle.sheet.specs.declared.Record.{Record}
-use Rattle.sheet.specs.declared.Found.{Found}
-use Rattle.sheet.specs.declared.Found.TheVariants.{Present, Absent}
 use Rattle.sheet.specs.All.{◌and◌}
 use Rattle.sheet.specs.Names.{head, step_limit}
 use Rattle.sheet.specs.Sheet.{word_at, offset_of, length_of, start_of, pair_right, directory_right, count_of, record_at, record_of}
@@ -76,19 +75,19 @@ module _ (s t : List ℕ) (long : length t ≡ length s) (bytes : (i : ℕ) → 
   record_behind at l = λ q. record { f0 = behind at l q; f1 = behind (at + 2) (omega arith) q; f2 = behind (at + 4) (omega arith) q; f3 = behind (at + 6) (omega arith) q; f4 = behind (at + 8) (omega arith) q; f5 = behind (at + 10) (omega arith) q; f6 = behind (at + 12) (omega arith) q; f7 = behind (at + 14) (omega arith) q }
 
   -- the head but for its limit
-  head_same : (at : ℕ) → at ≡ 32 → compared head (Present (record_at t at)) ≡ compared head (Present (record_at s at))
+  head_same : (at : ℕ) → at ≡ 32 → compared head (Some (record_at t at)) ≡ compared head (Some (record_at s at))
   unfolding compared record_at
-  head_same at e = λ q. Present (record { f0 = before at (omega arith) q; f1 = before (at + 2) (omega arith) q; f2 = before (at + 4) (omega arith) q; f3 = 0; f4 = behind (at + 8) (omega arith) q; f5 = behind (at + 10) (omega arith) q; f6 = behind (at + 12) (omega arith) q; f7 = behind (at + 14) (omega arith) q })
+  head_same at e = λ q. Some (record { f0 = before at (omega arith) q; f1 = before (at + 2) (omega arith) q; f2 = before (at + 4) (omega arith) q; f3 = 0; f4 = behind (at + 8) (omega arith) q; f5 = behind (at + 10) (omega arith) q; f6 = behind (at + 12) (omega arith) q; f7 = behind (at + 14) (omega arith) q })
 
-  place_same : (k n : ℕ) → k < 8 → compared k (Present (record_at t (offset_of s k + 16 * n))) ≡ compared k (Present (record_at s (offset_of s k + 16 * n)))
+  place_same : (k n : ℕ) → k < 8 → compared k (Some (record_at t (offset_of s k + 16 * n))) ≡ compared k (Some (record_at s (offset_of s k + 16 * n)))
   place_same zero zero l = head_same _ (omega (arith, head_offset s right))
-  place_same zero (suc n) l = ap (λ r. compared head (Present r)) (record_behind _ (omega (arith, head_offset s right)))
-  place_same (suc k) n l = ap (λ r. compared (suc k) (Present r)) (record_behind _ (omega (arith, behind-head s right one k l)))
+  place_same zero (suc n) l = ap (λ r. compared head (Some r)) (record_behind _ (omega (arith, head_offset s right)))
+  place_same (suc k) n l = ap (λ r. compared (suc k) (Some r)) (record_behind _ (omega (arith, behind-head s right one k l)))
 
   record_same : (k n : ℕ) → compared k (record_of t k n) ≡ compared k (record_of s k n)
   record_same k n = elim (dec_lt n (count_of s k)) [
     | yes l ↦ (let k8 : k < 8 = (count_some s k n l).1 in
-        ap (compared k) (record_present t k n (rw (count_same k) l)) ∙ ap (λ o. compared k (Present (record_at t (o + 16 * n)))) (offset_same k k8) ∙ place_same k n k8 ∙ ap (compared k) (sym (record_present s k n l)))
+        ap (compared k) (record_present t k n (rw (count_same k) l)) ∙ ap (λ o. compared k (Some (record_at t (o + 16 * n)))) (offset_same k k8) ∙ place_same k n k8 ∙ ap (compared k) (sym (record_present s k n l)))
     | no l ↦ ap (compared k) (record_absent t k n (rw (count_same k) (omega arith)) ∙ sym (record_absent s k n (omega arith)))
   ]
 
@@ -139,10 +138,10 @@ module _ (n : ℕ) (s : List ℕ) where
   unfolding with_limit
   with_limit_lem = go (record_of s head 0) refl
     where
-      go : (f : Found) → record_of s head 0 ≡ f → ButLimit s (elim f [ Present r ↦ put_number s (limit_place s) n | Absent ↦ s ])
-      go (Present r) e = (let one : 0 < count_of s head = present-below s head 0 r e in rw (at_head s one) (put_alike s one n))
-      go Absent e = itself s
+      go : (f : Option Record) → record_of s head 0 ≡ f → ButLimit s (elim f [ Some r ↦ put_number s (limit_place s) n | None ↦ s ])
+      go (Some r) e = (let one : 0 < count_of s head = present-below s head 0 r e in rw (at_head s one) (put_alike s one n))
+      go None e = itself s
 
-  pub has_limit : (r : Record) → record_of s head 0 ≡ Present r → number_or0 (record_of (with_limit n s) head 0) step_limit ≡ n
+  pub has_limit : (r : Record) → record_of s head 0 ≡ Some r → number_or0 (record_of (with_limit n s) head 0) step_limit ≡ n
   unfolding with_limit
   has_limit r e = let one : 0 < count_of s head = present-below s head 0 r e in rw (with_limit, e, at_head s one) (put_limit s one n)

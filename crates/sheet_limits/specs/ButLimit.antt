@@ -1,8 +1,6 @@
 -- Two sheets that agree in every record but the head's step limit.
-use Rattle.std.specs.Prelude.{ℕ, zero, suc, ◌+◌, ◌/◌, ◌%◌, ◌≡◌, List, set}
+use Rattle.std.specs.Prelude.{ℕ, zero, suc, ◌+◌, ◌/◌, ◌%◌, ◌≡◌, List, set, Option, Some, None}
 use Rattle.sheet.specs.declared.Record.{Record}
-use Rattle.sheet.specs.declared.Found.{Found}
-use Rattle.sheet.specs.declared.Found.TheVariants.{Present, Absent}
 use Rattle.sheet.specs.Names.{head}
 use Rattle.sheet.specs.Sheet.{offset_of, directory_right, count_of, record_of}
 
@@ -11,9 +9,9 @@ abbrev pub no_limit : Record → Record
 no_limit r = record { f0 = r.f0; f1 = r.f1; f2 = r.f2; f3 = 0; f4 = r.f4; f5 = r.f5; f6 = r.f6; f7 = r.f7 }
 
 -- what is compared of a record of section k: of the head, section 0, all but the limit
-unfoldable pub compared : ℕ → Found → Found
-compared zero (Present r) = Present (no_limit r)
-compared zero Absent = Absent
+unfoldable pub compared : ℕ → Option Record → Option Record
+compared zero (Some r) = Some (no_limit r)
+compared zero None = None
 compared (suc k) f = f
 
 pub record ButLimit (s s' : List ℕ) : Type 0 where
@@ -33,4 +31,4 @@ limit_place s = offset_of s head + 6
 
 -- "rewrite them with f3 = ..": the same bytes but for these two; where no head is there, nothing is written
 unfoldable pub with_limit : ℕ → List ℕ → List ℕ
-with_limit n s = elim (record_of s head 0) [ Present r ↦ put_number s (limit_place s) n | Absent ↦ s ]
+with_limit n s = elim (record_of s head 0) [ Some r ↦ put_number s (limit_place s) n | None ↦ s ]

@@ -1,37 +1,59 @@
-// A reader opened on a lent sheet: the bytes and the directory that was tested once, held together. Each of the three
-// functions leaves the work to those of `sheet_reader`.
+// A reader opened on a lent sheet: the bytes and the directory that was tested once, held together. Whoever has one
+// asks for records and counts and needs to show nothing; each of its functions leaves the work to those of
+// `sheet_reader`.
 #![tactic(auto)]
 
-ghost use Rattle.std.specs.Prelude.{◌≡◌};
-ghost use Rattle.sheet.specs.Sheet.{directory_of, record_of};
+ghost use Rattle.std.specs.Prelude.{◌≡◌, List, ℕ};
+ghost use Rattle.sheet.specs.Sheet.{count_of, directory_of, record_of};
 
-use sheet::{Directory, Found};
+use sheet::{Directory, Record};
+use std::marker::Model;
 
-#[derive(Clone, Copy)]
+#[derive(Drop)]
 pub struct Reader<'a> {
-    pub sheet: &'a [u8],
-    pub directory: Directory,
+    bytes: &'a [u8],
+    directory: Directory,
 }
 
-// The directory is tested once, here.
-pub fn new<'a>(sheet: &'a [u8]) -> Reader<'a>
-    ensures { (result.sheet ≡ sheet.entry) × (result.directory ≡ directory_of sheet.now) }
-{
-    let directory = sheet_reader::directory(sheet);
-    Reader { sheet, directory }
+// A contract sees the sheet's bytes; the directory is theirs.
+impl<'a> Model for Reader<'a> {
+    ghost Value = { List ℕ };
+
+    ghost view = { λ r. r.bytes.now };
+
+    ghost invariant = { λ r. r.directory ≡ directory_of r.bytes.now };
 }
 
-// Any record by section and number, of a reader that was opened on its sheet.
-pub fn record_of<'a>(r: Reader<'a>, section: usize, number: usize) -> Found
-    requires { r.directory ≡ directory_of r.sheet.now }
-    ensures { result ≡ record_of r.entry.sheet.now section number }
-{
-    sheet_reader::read(r.sheet, &r.directory, section, number)
+impl<'a> Reader<'a> {
+    // The directory is tested once, here.
+    pub fn new(sheet: &'a [u8]) -> Self
+        ensures { result ≡ sheet.now }
+    {
+        let directory = sheet_reader::directory(sheet);
+        Reader {
+            bytes: sheet,
+            directory,
+        }
+    }
+
+    // Any record by section and number.
+    pub fn record(&self, section: usize, number: usize) -> Option<Record>
+        ensures { result ≡ record_of self.now section number }
+    {
+        sheet_reader::read(self.bytes, &self.directory, section, number)
+    }
+
+    // How many records a section has.
+    pub fn count(&self, section: usize) -> usize
+        ensures { result ≡ count_of self.now section }
+    {
+        sheet_reader::count_in(&self.directory, section)
+    }
 }
 
 // A reader is opened and asked once.
-pub fn record(sheet: &[u8], section: usize, number: usize) -> Found
+pub fn record(sheet: &[u8], section: usize, number: usize) -> Option<Record>
     ensures { result ≡ record_of sheet.now section number }
 {
-    record_of(new(sheet), section, number)
+    Reader::new(sheet).record(section, number)
 }

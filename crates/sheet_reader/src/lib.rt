@@ -4,7 +4,7 @@
 ghost use Rattle.std.specs.Prelude.{◌≡◌, ◌+◌, ◌*◌, ◌<◌, ◌≤◌, length};
 ghost use Rattle.sheet.specs.Sheet.{count_of, count_in, record_at, record_of, directory_of};
 
-use sheet::{DIRECTORY, Directory, Found, Record};
+use sheet::{DIRECTORY, Directory, Record};
 
 // Where the offset of a section stands in the opened directory.
 fn offset_place(section: usize) -> usize
@@ -29,13 +29,11 @@ pub fn directory(sheet: &[u8]) -> Directory
 {
     let mut sections = [0usize; DIRECTORY];
     if sheet_directory::directory_right(sheet) {
-        let mut k: usize = 0;
-        while k < 8 {
+        for k in 0..8 {
             let offset = offset_place(k);
             let count = count_place(k);
             sections[offset] = sheet_directory::number_at(sheet, 4 * k);
             sections[count] = sheet_directory::number_at(sheet, 4 * k + 2) / 16;
-            k += 1;
         }
     }
     sections
@@ -69,24 +67,24 @@ fn fields_at(sheet: &[u8], at: usize) -> Record
 }
 
 // A record by the opened directory: the sixteen bytes and one bound.
-pub fn read(sheet: &[u8], directory: &Directory, section: usize, number: usize) -> Found
+pub fn read(sheet: &[u8], directory: &Directory, section: usize, number: usize) -> Option<Record>
     requires { directory.now ≡ directory_of sheet.now }
     ensures { result ≡ record_of sheet.now section number }
 {
     if 8 <= section {
-        return Found::Absent;
+        return None;
     }
     let count = count_place(section);
     if directory[count] <= number {
-        return Found::Absent;
+        return None;
     }
     let offset = offset_place(section);
     let at = directory[offset] + 16 * number;
-    Found::Present(fields_at(sheet, at))
+    Some(fields_at(sheet, at))
 }
 
 // A record by section and number, for a caller who has only the bytes.
-pub fn record(sheet: &[u8], section: usize, number: usize) -> Found
+pub fn record(sheet: &[u8], section: usize, number: usize) -> Option<Record>
     ensures { result ≡ record_of sheet.now section number }
 {
     let opened = directory(sheet);

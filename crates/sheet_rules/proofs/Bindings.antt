@@ -1,4 +1,5 @@
 -- Where the records that bind elements stand, and the constants in them.
+use Rattle.std.specs.Prelude.{Option, Some, None}
 use Prim.Native.Nat.{ℕ, zero, suc, ◌+◌, ◌*◌, ◌-◌, ◌≤◌, ◌<◌}
 use mathlib.Core.Path.{◌≡◌, refl, sym, ap, ◌∙◌}
 use mathlib.Core.List.{List}
@@ -9,8 +10,6 @@ use native.Mathlib.Decide.{dec_lt}
 use lib.Dec.{ltb, leb}
 use borrow.Author.Tests.{lt-ltb, le-ltb, le-leb, lt-leb}
 use Rattle.sheet.specs.declared.Record.{Record}
-use Rattle.sheet.specs.declared.Found.{Found}
-use Rattle.sheet.specs.declared.Found.TheVariants.{Present, Absent}
 use Rattle.sheet.specs.All.{all_below}
 use Rattle.sheet.specs.Names.{charts, bindings, chart_parameters, bound_chart}
 use Rattle.sheet.specs.Sheet.{count_of, record_of}
@@ -56,28 +55,28 @@ count_to p (suc n) h = omega (arith, count_to p n (λ j l. h j (omega arith)), a
 module _ (s : List ℕ) where
   -- ---- the chart that a record names
 
-  pub bound-chart : (k : ℕ) (b : Record) → record_of s bindings k ≡ Present b → chart_bound s k ≡ record_of s charts (bound_chart b)
+  pub bound-chart : (k : ℕ) (b : Record) → record_of s bindings k ≡ Some b → chart_bound s k ≡ record_of s charts (bound_chart b)
   unfolding chart_bound
   bound-chart k b e = rw (chart_bound, e) refl
 
-  pub bound-none : (k : ℕ) → record_of s bindings k ≡ Absent → chart_bound s k ≡ Absent
+  pub bound-none : (k : ℕ) → record_of s bindings k ≡ None → chart_bound s k ≡ None
   unfolding chart_bound
   bound-none k e = rw (chart_bound, e) refl
 
-  pub chart-bound : (k : ℕ) (c : Record) → chart_bound s k ≡ Present c → (b : Record) × (record_of s bindings k ≡ Present b) × (record_of s charts (bound_chart b) ≡ Present c)
+  pub chart-bound : (k : ℕ) (c : Record) → chart_bound s k ≡ Some c → (b : Record) × (record_of s bindings k ≡ Some b) × (record_of s charts (bound_chart b) ≡ Some c)
   chart-bound k c = go (record_of s bindings k) refl
     where
-      go : (f : Found) → record_of s bindings k ≡ f → chart_bound s k ≡ Present c → (b : Record) × (record_of s bindings k ≡ Present b) × (record_of s charts (bound_chart b) ≡ Present c)
-      go (Present b) e h = (b, e, sym (bound-chart k b e) ∙ h)
-      go Absent e h = absurd (true_false (holds-present _ c (λ r. true) h) (holds_absent _ (λ r. true) (bound-none k e)))
+      go : (f : Option Record) → record_of s bindings k ≡ f → chart_bound s k ≡ Some c → (b : Record) × (record_of s bindings k ≡ Some b) × (record_of s charts (bound_chart b) ≡ Some c)
+      go (Some b) e h = (b, e, sym (bound-chart k b e) ∙ h)
+      go None e h = absurd (true_false (holds-present _ c (λ r. true) h) (holds_absent _ (λ r. true) (bound-none k e)))
 
   -- ---- the record behind an element's
 
-  pub behind-chart : (k : ℕ) (c : Record) → chart_bound s k ≡ Present c → behind s k ≡ k + records_for (chart_parameters c).count
+  pub behind-chart : (k : ℕ) (c : Record) → chart_bound s k ≡ Some c → behind s k ≡ k + records_for (chart_parameters c).count
   unfolding behind
   behind-chart k c e = ap (λ (n : ℕ). k + records_for n) (number-present _ c _ e)
 
-  pub behind-none : (k : ℕ) → chart_bound s k ≡ Absent → behind s k ≡ k + 1
+  pub behind-none : (k : ℕ) → chart_bound s k ≡ None → behind s k ≡ k + 1
   unfolding behind
   behind-none k e = ap (λ (n : ℕ). k + records_for n) (number_absent _ _ e) ∙ ap (λ (n : ℕ). k + n) (one_record 0 (omega arith))
 
@@ -189,8 +188,8 @@ constant_inside j l = elim (dec_lt j constants_in_record) [
 
 -- the record with a constant, by its number, and a test of the constant in it
 module _ (s : List ℕ) (k j m : ℕ) (at : m ≡ constant_record k j) where
-  pub constant_absent : (q : Record → Bool) → record_of s bindings m ≡ Absent → holds (constant_binding s k j) q ≡ false
+  pub constant_absent : (q : Record → Bool) → record_of s bindings m ≡ None → holds (constant_binding s k j) q ≡ false
   constant_absent q e = holds_absent _ q (ap (record_of s bindings) (sym at) ∙ e)
 
-  pub constant_present : (p : ℕ → Bool) (b : Record) (f n : ℕ) (x : Bool) → record_of s bindings m ≡ Present b → f ≡ constant_field j → n ≡ field_of b f → x ≡ p n → holds (constant_binding s k j) (λ b. p (constant_of b j)) ≡ x
+  pub constant_present : (p : ℕ → Bool) (b : Record) (f n : ℕ) (x : Bool) → record_of s bindings m ≡ Some b → f ≡ constant_field j → n ≡ field_of b f → x ≡ p n → holds (constant_binding s k j) (λ b. p (constant_of b j)) ≡ x
   constant_present p b f n x e field node is = holds-present _ b _ (ap (record_of s bindings) (sym at) ∙ e) ∙ ap p (sym (node ∙ ap (field_of b) field)) ∙ sym is

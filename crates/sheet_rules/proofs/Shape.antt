@@ -1,4 +1,5 @@
 -- The records of a sheet whose sections have their shape and keep the static rules.
+use Rattle.std.specs.Prelude.{Some}
 use Prim.Native.Nat.{ℕ, ◌+◌, ◌<◌}
 use mathlib.Core.Path.{◌≡◌, refl, sym, ap, ◌∙◌}
 use mathlib.Core.List.{List}
@@ -6,7 +7,6 @@ use mathlib.Core.Bool.{Bool, true, false}
 use native.Mathlib.Omega.{arith}
 use borrow.Author.Tests.{eq-eqb, ne_eqb, eqb-true}
 use Rattle.sheet.specs.declared.Record.{Record}
-use Rattle.sheet.specs.declared.Found.TheVariants.{Present}
 use Rattle.sheet.specs.Names.{bindings}
 use Rattle.sheet.specs.Sheet.{count_of, record_of}
 use Rattle.sheet.proofs.All.{and_first, and_second, all-at}
@@ -40,7 +40,7 @@ module _ (s : List ℕ) (k : ℕ) where
 -- ---- a record, or an element's records, of a sheet whose sections have their shape
 
 module _ (s : List ℕ) (h : sections_shape s ≡ true) where
-  pub record_shaped : (k n : ℕ) (r : Record) → k < bindings → record_of s k n ≡ Present r → record_shape s k n r ≡ true
+  pub record_shaped : (k n : ℕ) (r : Record) → k < bindings → record_of s k n ≡ Some r → record_shape s k n r ≡ true
   unfolding sections_shape each_shape
   record_shaped k n r below e = sym (holds-present (record_of s k n) r (record_shape s k n) e) ∙ all-at (count_of s k) _ (sym (section-each s k (λ q. omega arith)) ∙ all-at 8 (section_shape s) h k (omega arith)) n (present-below s k n r e)
 
@@ -50,7 +50,7 @@ module _ (s : List ℕ) (h : sections_shape s ≡ true) where
 
 -- the same of the static rules
 module _ (s : List ℕ) (h : static s ≡ true) where
-  pub record_ruled : (k n : ℕ) (r : Record) → k < bindings → record_of s k n ≡ Present r → record_static s k r ≡ true
+  pub record_ruled : (k n : ℕ) (r : Record) → k < bindings → record_of s k n ≡ Some r → record_static s k r ≡ true
   unfolding static each_static
   record_ruled k n r below e = sym (holds-present (record_of s k n) r (record_static s k) e) ∙ all-at (count_of s k) _ (sym (static-each s k (λ q. omega arith)) ∙ all-at 8 (section_static s) h k (omega arith)) n (present-below s k n r e)
 

@@ -1,8 +1,6 @@
 -- Which records bind an element, and where in them the constant for a parameter stands. "An element whose chart has eight or more is bound by two successive records: the first as today, the second with f0 = 65,535 and the eighth parameter onward in f1 to f7."
-use Rattle.std.specs.Prelude.{ℕ, zero, suc, ◌+◌, ◌-◌, List, true, false, ltb, leb}
+use Rattle.std.specs.Prelude.{ℕ, zero, suc, ◌+◌, ◌-◌, List, true, false, ltb, leb, Option, Some, None}
 use Rattle.sheet.specs.declared.Record.{Record}
-use Rattle.sheet.specs.declared.Found.{Found}
-use Rattle.sheet.specs.declared.Found.TheVariants.{Present, Absent}
 use Rattle.sheet.specs.Names.{charts, bindings, chart_parameters, bound_chart}
 use Rattle.sheet.specs.Sheet.{count_of, record_of}
 use Rattle.sheet_rules.specs.Fields.{field_of, number_or0, count_below}
@@ -18,8 +16,8 @@ unfoldable pub records_for : ℕ → ℕ
 records_for n = elim (leb n constants_in_record) [ true ↦ 1 | false ↦ 2 ]
 
 -- the chart that record k names
-unfoldable pub chart_bound : List ℕ → ℕ → Found
-chart_bound s k = elim (record_of s bindings k) [ Present b ↦ record_of s charts (bound_chart b) | Absent ↦ Absent ]
+unfoldable pub chart_bound : List ℕ → ℕ → Option Record
+chart_bound s k = elim (record_of s bindings k) [ Some b ↦ record_of s charts (bound_chart b) | None ↦ None ]
 
 -- the number of the record behind those of the element whose first one is k; one that names no chart stands alone
 unfoldable pub behind : List ℕ → ℕ → ℕ
@@ -40,7 +38,7 @@ elements_bound_in s = count_below (count_of s bindings) (λ i. ltb (first_bindin
 unfoldable pub constant_record : ℕ → ℕ → ℕ
 constant_record k j = elim (ltb j constants_in_record) [ true ↦ k | false ↦ k + 1 ]
 
-abbrev pub constant_binding : List ℕ → ℕ → ℕ → Found
+abbrev pub constant_binding : List ℕ → ℕ → ℕ → Option Record
 constant_binding s k j = record_of s bindings (constant_record k j)
 
 -- the constant's field in that record, from f1 on

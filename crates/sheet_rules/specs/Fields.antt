@@ -1,9 +1,7 @@
 -- Fields by number, records that a test asks for, ranges, sums.
-use Rattle.std.specs.Prelude.{ℕ, zero, suc, ◌+◌, ◌-◌, List, [], ◌∷◌, Bool, true, false, get_or, ltb, leb, eqb}
+use Rattle.std.specs.Prelude.{ℕ, zero, suc, ◌+◌, ◌-◌, List, [], ◌∷◌, Bool, true, false, get_or, ltb, leb, eqb, Option, Some, None}
 use Rattle.sheet.specs.declared.Record.{Record}
 use Rattle.sheet.specs.declared.Range.{Range}
-use Rattle.sheet.specs.declared.Found.{Found}
-use Rattle.sheet.specs.declared.Found.TheVariants.{Present, Absent}
 use Rattle.sheet.specs.All.{all_below}
 use Rattle.sheet.specs.Names.{head, enumerated_types, declarations, components, externals, ports, size, declared_type}
 use Rattle.sheet.specs.Sheet.{count_of, record_of}
@@ -20,14 +18,14 @@ unfoldable pub zero_from : ℕ → Record → Bool
 zero_from n r = all_below (8 - n) (λ i. eqb (field_of r (n + i)) 0)
 
 -- a record that is there and meets a test
-unfoldable pub holds : Found → (Record → Bool) → Bool
-holds (Present r) p = p r
-holds Absent p = false
+unfoldable pub holds : Option Record → (Record → Bool) → Bool
+holds (Some r) p = p r
+holds None p = false
 
 -- a number of a record, 0 where there is none
-unfoldable pub number_or0 : Found → (Record → ℕ) → ℕ
-number_or0 (Present r) f = f r
-number_or0 Absent f = 0
+unfoldable pub number_or0 : Option Record → (Record → ℕ) → ℕ
+number_or0 (Some r) f = f r
+number_or0 None f = 0
 
 -- field i of record n of section k, 0 where there is none
 unfoldable pub field_at : List ℕ → ℕ → ℕ → ℕ → ℕ

@@ -1,8 +1,6 @@
 -- The forms of a node by its operator, which literal or operator on two values it is, and its operands.
-use Rattle.std.specs.Prelude.{ℕ, ◌+◌, ◌-◌, List, [], ◌∷◌, true, false, ltb}
+use Rattle.std.specs.Prelude.{ℕ, ◌+◌, ◌-◌, List, [], ◌∷◌, true, false, ltb, Option, None}
 use Rattle.sheet.specs.declared.Record.{Record}
-use Rattle.sheet.specs.declared.Found.{Found}
-use Rattle.sheet.specs.declared.Found.TheVariants.{Absent}
 use Rattle.sheet.specs.Table.{Line, up_to, look_up}
 use Rattle.sheet.specs.Names.{names, bodies, operator, data_of, chart_bodies, body_parameters}
 use Rattle.sheet.specs.Sheet.{record_of}
@@ -91,8 +89,8 @@ unfoldable pub name_data : List ℕ → Record → ℕ
 name_data s r = number_or0 (record_of s names r.f3) (λ n. (data_of n).count)
 
 -- the body that a call in chart c names: "body counted from the chart's first"
-unfoldable pub called_body : List ℕ → Record → Record → Found
-called_body s c r = elim (ltb r.f1 (chart_bodies c).count) [ true ↦ record_of s bodies ((chart_bodies c).first + r.f1) | false ↦ Absent ]
+unfoldable pub called_body : List ℕ → Record → Record → Option Record
+called_body s c r = elim (ltb r.f1 (chart_bodies c).count) [ true ↦ record_of s bodies ((chart_bodies c).first + r.f1) | false ↦ None ]
 
 unfoldable pub call_data : List ℕ → Record → Record → ℕ
 call_data s c r = number_or0 (called_body s c r) (λ b. (body_parameters b).count)

@@ -1,7 +1,6 @@
 -- Array variables: the index of a declaration, the cells that it takes, and where the cells of a chart's variables begin.
-use Rattle.std.specs.Prelude.{ℕ, ◌+◌, ◌-◌, List, [], ◌∷◌, Bool, true, false}
+use Rattle.std.specs.Prelude.{ℕ, ◌+◌, ◌-◌, List, [], ◌∷◌, Bool, true, false, Some, None}
 use Rattle.sheet.specs.declared.Record.{Record}
-use Rattle.sheet.specs.declared.Found.TheVariants.{Present, Absent}
 use Rattle.sheet.specs.Table.{Line, up_to, look_up}
 use Rattle.sheet.specs.Names.{declarations, declared_index, chart_variables, bool_type, int_type, component_type, port_type}
 use Rattle.sheet.specs.Sheet.{record_of}
@@ -30,7 +29,7 @@ index_of s i = look_up (index_table s i) no_index i
 
 -- the index of declaration d
 unfoldable pub index_at : List ℕ → ℕ → Index
-index_at s d = elim (record_of s declarations d) [ Present r ↦ index_of s (declared_index r) | Absent ↦ no_index ]
+index_at s d = elim (record_of s declarations d) [ Some r ↦ index_of s (declared_index r) | None ↦ no_index ]
 
 unfoldable pub is_plain : Index → Bool
 is_plain plain = true

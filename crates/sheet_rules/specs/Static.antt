@@ -1,8 +1,7 @@
 -- The static rules (4.38 to 4.40 of LARIS 1.0) beside those of `Types`. Failing any gives 2.
-use Rattle.std.specs.Prelude.{ℕ, ◌+◌, List, [], ◌∷◌, Bool, true, false, not, leb, eqb}
+use Rattle.std.specs.Prelude.{ℕ, ◌+◌, List, [], ◌∷◌, Bool, true, false, not, leb, eqb, Option}
 use Rattle.sheet.specs.declared.Record.{Record}
 use Rattle.sheet.specs.declared.Range.{Range}
-use Rattle.sheet.specs.declared.Found.{Found}
 use Rattle.sheet.specs.All.{◌and◌, all_below}
 use Rattle.sheet.specs.Table.{Line, up_to, look_up}
 use Rattle.sheet.specs.Names.{enumerated_types, declarations, names, charts, bodies, nodes, bindings, declared_type, declared_index, data_of, external, internal, chart_parameters, chart_bodies, role, initial, panic, external_reaction, reaction_port, reaction_name, body_parameters, body_locals, root, is_clock}
@@ -45,7 +44,7 @@ body_static s c b = plain_data s (body_parameters b) and plain_data s (body_loca
 -- ---- charts
 
 -- the body numbered j in chart c
-abbrev pub body_of : List ℕ → Record → ℕ → Found
+abbrev pub body_of : List ℕ → Record → ℕ → Option Record
 body_of s c j = record_of s bodies ((chart_bodies c).first + j)
 
 unfoldable pub has_role : List ℕ → ℕ → ℕ → Bool

@@ -1,9 +1,7 @@
 -- The type of an expression, and what is a statement, by the static rules. It goes by the same cases as a node's meaning.
-use Rattle.std.specs.Prelude.{ℕ, zero, suc, ◌+◌, ◌-◌, List, Bool, true, false, not, ltb, eqb}
+use Rattle.std.specs.Prelude.{ℕ, zero, suc, ◌+◌, ◌-◌, List, Bool, true, false, not, ltb, eqb, Option, Some, None}
 use Rattle.sheet.specs.declared.Record.{Record}
 use Rattle.sheet.specs.declared.Range.{Range}
-use Rattle.sheet.specs.declared.Found.{Found}
-use Rattle.sheet.specs.declared.Found.TheVariants.{Present, Absent}
 use Rattle.sheet.specs.All.{◌and◌, all_below}
 use Rattle.sheet.specs.Names
 use Rattle.sheet.specs.Names.{names, bodies, nodes, data_of, class, external, internal, chart_parameters, chart_variables, chart_bodies, role, internal_reaction, procedure, reaction_name, body_parameters, body_locals, operator, bool_type, int_type, component_type, port_type, timer_type, timeout_type, cycler_type, enumerated, is_clock}
@@ -98,12 +96,12 @@ internal_name s c n = has_class s n internal and has_reaction s c n
 
 -- the data of name n
 unfoldable pub name_range : List ℕ → ℕ → Range
-name_range s n = elim (record_of s names n) [ Present r ↦ data_of r | Absent ↦ Names.range 0 0 ]
+name_range s n = elim (record_of s names n) [ Some r ↦ data_of r | None ↦ Names.range 0 0 ]
 
 -- the parameters of a body
-unfoldable pub parameters_of : Found → Range
-parameters_of (Present b) = body_parameters b
-parameters_of Absent = Names.range 0 0
+unfoldable pub parameters_of : Option Record → Range
+parameters_of (Some b) = body_parameters b
+parameters_of None = Names.range 0 0
 
 -- "clocks are only armed or started each by its own operator, stopped, or read": 36 arms a Timeout, 37 a Cycler; 38 starts a Timer
 unfoldable pub clock_of : ℕ → ℕ
@@ -207,7 +205,7 @@ module _ (s : List ℕ) (c b : Record) where
   type_in f r unknown = Wrong
 
   unfoldable pub type_step : (ℕ → Typed) → ℕ → Typed
-  type_step f n = elim (record_of s nodes n) [ Present r ↦ type_in f r (form_of (operator r)) | Absent ↦ Wrong ]
+  type_step f n = elim (record_of s nodes n) [ Some r ↦ type_in f r (form_of (operator r)) | None ↦ Wrong ]
 
   unfoldable pub type_f : ℕ → ℕ → Typed
   type_f zero n = Wrong

@@ -1,8 +1,6 @@
 -- "Each node is used exactly once, as operand, root or binding constant."
-use Rattle.std.specs.Prelude.{ℕ, zero, suc, ◌+◌, List, Bool, true, false, ltb, eqb}
+use Rattle.std.specs.Prelude.{ℕ, zero, suc, ◌+◌, List, Bool, true, false, ltb, eqb, Option, Some, None}
 use Rattle.sheet.specs.declared.Record.{Record}
-use Rattle.sheet.specs.declared.Found.{Found}
-use Rattle.sheet.specs.declared.Found.TheVariants.{Present, Absent}
 use Rattle.sheet.specs.All.{all_below}
 use Rattle.sheet.specs.Names.{charts, bodies, nodes, bindings, chart_parameters, chart_bodies, root, operator}
 use Rattle.sheet.specs.Sheet.{count_of, record_of}
@@ -56,9 +54,9 @@ home_of s n = home_below s n (count_of s charts)
 abbrev pub no_chart : Record
 no_chart = record { f0 = 0; f1 = 0; f2 = 0; f3 = 0; f4 = 0; f5 = 0; f6 = 0; f7 = 0 }
 
-unfoldable pub chart_or : Record → Found → Record
-chart_or d (Present c) = c
-chart_or d Absent = d
+unfoldable pub chart_or : Record → Option Record → Record
+chart_or d (Some c) = c
+chart_or d None = d
 
 unfoldable pub home_chart : List ℕ → ℕ → Record
 home_chart s zero = no_chart

@@ -1,7 +1,8 @@
 // The types that the definitions in specs/ speak of. There is no code here.
 #![tactic(auto)]
 
-// What a node is by the static rules: an expression of a type, a statement, or neither.
+// What a node is by the static rules: an expression of a type, a statement, or neither. An enum of three cases, as the
+// paper tells them apart, and no option of an option.
 #[derive(Clone, Copy)]
 pub enum Typed {
     Expression(usize),
@@ -9,7 +10,8 @@ pub enum Typed {
     Wrong,
 }
 
-// What check answers: passed, a fault of shape, a broken static rule.
+// What check answers: passed, a fault of shape, a broken static rule. An enum of three cases, which the paper numbers
+// 0, 1 and 2: every theorem about passed sheets names the first.
 #[derive(Clone, Copy)]
 pub enum Checked {
     Passed,

@@ -1,4 +1,5 @@
 -- On a sheet none of whose charts has more than seven parameters each definition that changed with M-105 gives what its text of before gives.
+use Rattle.std.specs.Prelude.{Option, Some, None}
 use Prim.Native.Nat.{ℕ, zero, suc, ◌+◌, ◌-◌, ◌≤◌, ◌<◌}
 use mathlib.Core.Path.{◌≡◌, refl, sym, ap, ◌∙◌}
 use mathlib.Core.List.{List}
@@ -8,8 +9,6 @@ use native.Mathlib.Decide.{dec_lt, ℕ_discrete}
 use lib.Dec.{eqb}
 use borrow.Author.Tests.{leb-true, le-leb}
 use Rattle.sheet.specs.declared.Record.{Record}
-use Rattle.sheet.specs.declared.Found.{Found}
-use Rattle.sheet.specs.declared.Found.TheVariants.{Present, Absent}
 use Rattle.sheet.specs.All.{◌and◌, all_below}
 use Rattle.sheet.specs.Table.{look_up}
 use Rattle.sheet.specs.Names.{charts, bindings, chart_parameters, chart_variables, bound_chart}
@@ -38,7 +37,7 @@ and_true_last true = refl
 and_true_last false = refl
 
 module _ (s : List ℕ) (h : up_to_seven s ≡ true) where
-  pub few : (k : ℕ) (c : Record) → record_of s charts k ≡ Present c → (chart_parameters c).count ≤ 7
+  pub few : (k : ℕ) (c : Record) → record_of s charts k ≡ Some c → (chart_parameters c).count ≤ 7
   unfolding up_to_seven
   few k c e = leb-true _ _ (sym (holds-present _ c _ e) ∙ all-at (count_of s charts) _ h k (present-below s charts k c e))
 
@@ -47,9 +46,9 @@ module _ (s : List ℕ) (h : up_to_seven s ≡ true) where
   next : (k : ℕ) → behind s k ≡ k + 1
   next k = go (chart_bound s k) refl
     where
-      go : (f : Found) → chart_bound s k ≡ f → behind s k ≡ k + 1
-      go (Present c) e = let x = chart-bound s k c e in behind-chart s k c e ∙ ap (λ (n : ℕ). k + n) (one_record (chart_parameters c).count (few (bound_chart x.0) c x.2))
-      go Absent e = behind-none s k e
+      go : (f : Option Record) → chart_bound s k ≡ f → behind s k ≡ k + 1
+      go (Some c) e = let x = chart-bound s k c e in behind-chart s k c e ∙ ap (λ (n : ℕ). k + n) (one_record (chart_parameters c).count (few (bound_chart x.0) c x.2))
+      go None e = behind-none s k e
 
   kept-first : (i : ℕ) → first_binding s i ≡ i
   unfolding first_binding
@@ -67,16 +66,16 @@ module _ (s : List ℕ) (h : up_to_seven s ≡ true) where
 
   -- ---- a chart, a binding
 
-  kept-chart : (k : ℕ) (c : Record) → record_of s charts k ≡ Present c → chart_shape s k c ≡ before.chart_shape s k c
+  kept-chart : (k : ℕ) (c : Record) → record_of s charts k ≡ Some c → chart_shape s k c ≡ before.chart_shape s k c
   unfolding chart_shape before.chart_shape
   kept-chart k c e = let l = few k c e in rw (le-leb (chart_parameters c).count 14 (omega arith), le-leb (chart_parameters c).count 7 l) refl
 
-  module _ (k : ℕ) (b : Record) (e : record_of s bindings k ≡ Present b) where
+  module _ (k : ℕ) (b : Record) (e : record_of s bindings k ≡ Some b) where
     -- a constant of a parameter of its chart
-    here : (c : Record) → record_of s charts (bound_chart b) ≡ Present c → (p : ℕ → Bool) (j : ℕ) → j < (chart_parameters c).count → holds (constant_binding s k j) (λ b. p (constant_of b j)) ≡ p (before.constant_of b j)
+    here : (c : Record) → record_of s charts (bound_chart b) ≡ Some c → (p : ℕ → Bool) (j : ℕ) → j < (chart_parameters c).count → holds (constant_binding s k j) (λ b. p (constant_of b j)) ≡ p (before.constant_of b j)
     here c f p j l = let z = constant_first k j (omega (arith, few (bound_chart b) c f)) in holds-present _ b _ (ap (record_of s bindings) z.0 ∙ e) ∙ ap (λ (i : ℕ). p (field_of b i)) z.1
 
-    shape_of : (c : Record) → record_of s charts (bound_chart b) ≡ Present c → records_shape s k b c ≡ before.constants_shape s b c
+    shape_of : (c : Record) → record_of s charts (bound_chart b) ≡ Some c → records_shape s k b c ≡ before.constants_shape s b c
     unfolding records_shape constants_shape before.constants_shape
     shape_of c f =
         ap (λ (x : Bool). constants_shape s k c and zero_from (1 + (chart_parameters c).count) b and elim x as (λ x. Bool) [ true ↦ true | false ↦ second_shape s (k + 1) ((chart_parameters c).count - constants_in_record) ]) (le-leb _ _ (few (bound_chart b) c f))
@@ -87,36 +86,36 @@ module _ (s : List ℕ) (h : up_to_seven s ≡ true) where
     unfolding binding_shape before.binding_shape holds
     kept-binding = holds-present _ b (λ r. holds (record_of s charts (bound_chart r)) (records_shape s k r)) e ∙ go (record_of s charts (bound_chart b)) refl
       where
-        go : (f : Found) → record_of s charts (bound_chart b) ≡ f → holds f (records_shape s k b) ≡ holds f (before.constants_shape s b)
-        go (Present c) f = shape_of c f
-        go Absent f = refl
+        go : (f : Option Record) → record_of s charts (bound_chart b) ≡ f → holds f (records_shape s k b) ≡ holds f (before.constants_shape s b)
+        go (Some c) f = shape_of c f
+        go None f = refl
 
     kept_rule : binding_static s k ≡ before.binding_static s b
     unfolding binding_static before.binding_static constants_static before.constants_static holds
-    kept_rule = ap (λ (f : Found). holds f (constants_static s k)) (bound-chart s k b e) ∙ go (record_of s charts (bound_chart b)) refl
+    kept_rule = ap (λ (f : Option Record). holds f (constants_static s k)) (bound-chart s k b e) ∙ go (record_of s charts (bound_chart b)) refl
       where
-        go : (f : Found) → record_of s charts (bound_chart b) ≡ f → holds f (constants_static s k) ≡ holds f (before.constants_static s b)
-        go (Present c) f = all_same (chart_parameters c).count _ _ (λ j l. here c f (λ n. constant_static s n (type_at s ((chart_parameters c).first + j))) j l)
-        go Absent f = refl
+        go : (f : Option Record) → record_of s charts (bound_chart b) ≡ f → holds f (constants_static s k) ≡ holds f (before.constants_static s b)
+        go (Some c) f = all_same (chart_parameters c).count _ _ (λ j l. here c f (λ n. constant_static s n (type_at s ((chart_parameters c).first + j))) j l)
+        go None f = refl
 
     kept-constants : (n : ℕ) → constant_uses s n k ≡ before.constant_uses s n b
     unfolding constant_uses before.constant_uses count_below number_or0
-    kept-constants n = ap (λ (f : Found). number_or0 f named) (bound-chart s k b e) ∙ go (record_of s charts (bound_chart b)) refl
+    kept-constants n = ap (λ (f : Option Record). number_or0 f named) (bound-chart s k b e) ∙ go (record_of s charts (bound_chart b)) refl
       where
         named : Record → ℕ
         named c = sum_below (chart_parameters c).count (λ j. one_if (holds (constant_binding s k j) (λ b. eqb (constant_of b j) n)))
 
-        go : (f : Found) → record_of s charts (bound_chart b) ≡ f → number_or0 f (λ c. sum_below (chart_parameters c).count (λ j. one_if (holds (constant_binding s k j) (λ b. eqb (constant_of b j) n)))) ≡ number_or0 f (λ c. sum_below (chart_parameters c).count (λ j. one_if (eqb (before.constant_of b j) n)))
-        go (Present c) f = sum_same (chart_parameters c).count _ _ (λ j l. ap one_if (here c f (λ m. eqb m n) j l))
-        go Absent f = refl
+        go : (f : Option Record) → record_of s charts (bound_chart b) ≡ f → number_or0 f (λ c. sum_below (chart_parameters c).count (λ j. one_if (holds (constant_binding s k j) (λ b. eqb (constant_of b j) n)))) ≡ number_or0 f (λ c. sum_below (chart_parameters c).count (λ j. one_if (eqb (before.constant_of b j) n)))
+        go (Some c) f = sum_same (chart_parameters c).count _ _ (λ j l. ap one_if (here c f (λ m. eqb m n) j l))
+        go None f = refl
 
   -- ---- the section
 
   -- a test, or a number, for each element is one for each record
-  kept-each : (p : ℕ → Bool) (q : Record → Bool) → ((k : ℕ) (b : Record) → record_of s bindings k ≡ Present b → p k ≡ q b) → all_below (elements_bound_in s) (λ i. p (first_binding s i)) ≡ all_below (count_of s bindings) (λ i. holds (record_of s bindings i) q)
+  kept-each : (p : ℕ → Bool) (q : Record → Bool) → ((k : ℕ) (b : Record) → record_of s bindings k ≡ Some b → p k ≡ q b) → all_below (elements_bound_in s) (λ i. p (first_binding s i)) ≡ all_below (count_of s bindings) (λ i. holds (record_of s bindings i) q)
   kept-each p q same = ap (λ (n : ℕ). all_below n (λ i. p (first_binding s i))) kept-elements ∙ all_same (count_of s bindings) _ _ (λ i l. let e = record_present s bindings i l in ap p (kept-first i) ∙ same i _ e ∙ sym (holds-present _ _ q e))
 
-  kept_sum : (f : ℕ → ℕ) (g : Record → ℕ) → ((k : ℕ) (b : Record) → record_of s bindings k ≡ Present b → f k ≡ g b) → sum_below (elements_bound_in s) (λ i. f (first_binding s i)) ≡ before.over_bindings s g
+  kept_sum : (f : ℕ → ℕ) (g : Record → ℕ) → ((k : ℕ) (b : Record) → record_of s bindings k ≡ Some b → f k ≡ g b) → sum_below (elements_bound_in s) (λ i. f (first_binding s i)) ≡ before.over_bindings s g
   kept_sum f g same = ap (λ (n : ℕ). sum_below n (λ i. f (first_binding s i))) kept-elements ∙ sum_same (count_of s bindings) _ _ (λ i l. let e = record_present s bindings i l in ap f (kept-first i) ∙ same i _ e ∙ sym (number-present _ _ g e))
 
   kept-bound : elements_bound s ≡ before.elements_bound s
@@ -127,9 +126,9 @@ module _ (s : List ℕ) (h : up_to_seven s ≡ true) where
   unfolding cells_bound before.cells_bound chart_bound number_or0
   kept-cells_of i = ap (λ (k : ℕ). number_or0 (chart_bound s k) (λ c. cells_before s c (chart_variables c).count)) (kept-first i) ∙ go (record_of s bindings i)
     where
-      go : (f : Found) → number_or0 (elim f as (λ f. Found) [ Present b ↦ record_of s charts (bound_chart b) | Absent ↦ Absent ]) (λ c. cells_before s c (chart_variables c).count) ≡ number_or0 f (λ b. number_or0 (record_of s charts (bound_chart b)) (λ c. cells_before s c (chart_variables c).count))
-      go (Present b) = refl
-      go Absent = refl
+      go : (f : Option Record) → number_or0 (elim f as (λ f. Option Record) [ Some b ↦ record_of s charts (bound_chart b) | None ↦ None ]) (λ c. cells_before s c (chart_variables c).count) ≡ number_or0 f (λ b. number_or0 (record_of s charts (bound_chart b)) (λ c. cells_before s c (chart_variables c).count))
+      go (Some b) = refl
+      go None = refl
 
   kept-cells : cells_of s ≡ before.cells_of s
   unfolding cells_of before.cells_of
@@ -138,11 +137,11 @@ module _ (s : List ℕ) (h : up_to_seven s ≡ true) where
   -- ---- sections, and the whole
 
   -- "Section numbers above 7 have no records"
-  no_section_lem : (k i : ℕ) (r : Record) → 8 ≤ k → record_of s k i ≡ Present r → ⊥
+  no_section_lem : (k i : ℕ) (r : Record) → 8 ≤ k → record_of s k i ≡ Some r → ⊥
   no_section_lem k i r l e = omega (arith, present-below s k i r e, count_none s k l)
 
   -- charts apart, a record's rule stayed
-  kept_record : (k i : ℕ) (r : Record) → (k ≡ bindings → ⊥) → record_of s k i ≡ Present r → record_shape s k i r ≡ before.record_shape s k i r
+  kept_record : (k i : ℕ) (r : Record) → (k ≡ bindings → ⊥) → record_of s k i ≡ Some r → record_shape s k i r ≡ before.record_shape s k i r
   unfolding record_shape before.record_shape look_up
   kept_record zero i r n e = refl
   kept_record (suc zero) i r n e = refl
@@ -172,7 +171,7 @@ module _ (s : List ℕ) (h : up_to_seven s ≡ true) where
       by_bindings : k ≡ bindings → all_below (count_of s bindings) (λ i. holds (record_of s bindings i) (before.binding_shape s)) ≡ before.section_shape s k
       by_bindings q = by_records ∙ sym (ap (before.section_shape s) q)
 
-  kept_record_rule : (k i : ℕ) (r : Record) → (k ≡ bindings → ⊥) → record_of s k i ≡ Present r → record_static s k r ≡ before.record_static s k r
+  kept_record_rule : (k i : ℕ) (r : Record) → (k ≡ bindings → ⊥) → record_of s k i ≡ Some r → record_static s k r ≡ before.record_static s k r
   unfolding record_static before.record_static look_up
   kept_record_rule zero i r n e = refl
   kept_record_rule (suc zero) i r n e = refl

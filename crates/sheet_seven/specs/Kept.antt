@@ -1,7 +1,6 @@
 -- "Stored sheets keep their bytes and meaning": what is compared of shape, uses, static rules and check, definition by definition.
-use Rattle.std.specs.Prelude.{ℕ, ◌≡◌, List, Bool, leb}
+use Rattle.std.specs.Prelude.{ℕ, ◌≡◌, List, Bool, leb, Some}
 use Rattle.sheet.specs.declared.Record.{Record}
-use Rattle.sheet.specs.declared.Found.TheVariants.{Present}
 use Rattle.sheet.specs.All.{all_below}
 use Rattle.sheet.specs.Names.{charts, bindings, chart_parameters}
 use Rattle.sheet.specs.Sheet.{count_of, record_of}
@@ -23,10 +22,10 @@ pub record SheetKept (s : List ℕ) : Type 0 where
   pub first : (i : ℕ) → first_binding s i ≡ i
   pub elements : elements_bound_in s ≡ count_of s bindings
   -- of a chart and of a binding that are there
-  pub chart : (k : ℕ) (c : Record) → record_of s charts k ≡ Present c → chart_shape s k c ≡ before.chart_shape s k c
-  pub binding : (k : ℕ) (b : Record) → record_of s bindings k ≡ Present b → binding_shape s k ≡ before.binding_shape s b
-  pub binding_rule : (k : ℕ) (b : Record) → record_of s bindings k ≡ Present b → binding_static s k ≡ before.binding_static s b
-  pub constants : (n k : ℕ) (b : Record) → record_of s bindings k ≡ Present b → constant_uses s n k ≡ before.constant_uses s n b
+  pub chart : (k : ℕ) (c : Record) → record_of s charts k ≡ Some c → chart_shape s k c ≡ before.chart_shape s k c
+  pub binding : (k : ℕ) (b : Record) → record_of s bindings k ≡ Some b → binding_shape s k ≡ before.binding_shape s b
+  pub binding_rule : (k : ℕ) (b : Record) → record_of s bindings k ≡ Some b → binding_static s k ≡ before.binding_static s b
+  pub constants : (n k : ℕ) (b : Record) → record_of s bindings k ≡ Some b → constant_uses s n k ≡ before.constant_uses s n b
   -- of the sheet: the sums, sections and lists of rules over these
   pub bound : elements_bound s ≡ before.elements_bound s
   pub cells_of_one : (i : ℕ) → cells_bound s i ≡ before.cells_bound s i

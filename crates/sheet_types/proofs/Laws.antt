@@ -1,4 +1,5 @@
 -- Laws of tests and of types, one for a path of the code.
+use Rattle.std.specs.Prelude.{Option, Some, None}
 use Prim.Native.Nat.{ℕ, ◌+◌, ◌-◌, ◌≤◌, ◌<◌}
 use mathlib.Core.Path.{◌≡◌, refl, sym, ap, ◌∙◌}
 use mathlib.Core.List.{List}
@@ -6,8 +7,6 @@ use mathlib.Core.Bool.{Bool, true, false, not}
 use native.Mathlib.Omega.{arith}
 use borrow.Author.Tests.{lt-ltb, le-ltb, eq-eqb, ne_eqb, not-true, not-false}
 use Rattle.sheet.specs.declared.Record.{Record}
-use Rattle.sheet.specs.declared.Found.{Found}
-use Rattle.sheet.specs.declared.Found.TheVariants.{Present, Absent}
 use Rattle.sheet.specs.Table.{look_up}
 use Rattle.sheet.specs.Names.{range}
 use Rattle.sheet.specs.Sheet.{record_of}
@@ -65,23 +64,23 @@ module _ (c b : Record) (place n : ℕ) where
   unfolding variable_at
   variable_local h k l = rw (variable_at, ne_eqb _ _ h, ne_eqb _ _ k, le-ltb _ _ l) refl
 
-pub range-present : (s : List ℕ) (n : ℕ) (r : Record) → record_of s 3 n ≡ Present r → range r.f0 r.f1 ≡ name_range s n
+pub range-present : (s : List ℕ) (n : ℕ) (r : Record) → record_of s 3 n ≡ Some r → range r.f0 r.f1 ≡ name_range s n
 unfolding name_range
 range-present s n r e = rw (name_range, e) refl
 
-pub range_absent : (s : List ℕ) (n : ℕ) → record_of s 3 n ≡ Absent → range 0 0 ≡ name_range s n
+pub range_absent : (s : List ℕ) (n : ℕ) → record_of s 3 n ≡ None → range 0 0 ≡ name_range s n
 unfolding name_range
 range_absent s n e = rw (name_range, e) refl
 
-pub parameters-present : (f : Found) (b : Record) → f ≡ Present b → range b.f3 b.f4 ≡ parameters_of f
+pub parameters-present : (f : Option Record) (b : Record) → f ≡ Some b → range b.f3 b.f4 ≡ parameters_of f
 unfolding parameters_of
 parameters-present f b e = rw e refl
 
-pub parameters_absent : (f : Found) → f ≡ Absent → range 0 0 ≡ parameters_of f
+pub parameters_absent : (f : Option Record) → f ≡ None → range 0 0 ≡ parameters_of f
 unfolding parameters_of
 parameters_absent f e = rw e refl
 
-pub called_past : (s : List ℕ) (c r : Record) → c.f5 ≤ r.f1 → Absent ≡ called_body s c r
+pub called_past : (s : List ℕ) (c r : Record) → c.f5 ≤ r.f1 → None ≡ called_body s c r
 unfolding called_body
 called_past s c r h = rw (called_body, le-ltb r.f1 c.f5 h) refl
 

@@ -3,19 +3,18 @@
 
 ghost use Rattle.std.specs.Prelude.{◌≡◌, ◌+◌, ◌<◌};
 ghost use Rattle.sheet.specs.Names.{is_clock};
-ghost use Rattle.sheet.specs.Sheet.{directory_of};
 ghost use Rattle.sheet_rules.specs.Fields.{type_at};
 ghost use Rattle.sheet_rules.specs.Forms.{called_body};
 ghost use Rattle.sheet_rules.specs.Types.{is_of, is_statement, literal_type, variable_at, has_class, name_range, parameters_of};
 
-use sheet::{BODIES, DECLARATIONS, Directory, Found, NAMES, Range, Record};
+use sheet::{BODIES, DECLARATIONS, NAMES, Range, Record};
+use sheet_opened::Reader;
 use sheet_rules::Typed;
 
-pub fn type_at(sheet: &[u8], directory: &Directory, d: usize) -> usize
-    requires { directory.now ≡ directory_of sheet.now }
+pub fn type_at(sheet: &Reader, d: usize) -> usize
     ensures { result ≡ type_at sheet.now d }
 {
-    sheet_fields::field_at(sheet, directory, DECLARATIONS, d, 0)
+    sheet_fields::field_at(sheet, DECLARATIONS, d, 0)
 }
 
 pub fn is_clock(t: usize) -> bool
@@ -78,30 +77,27 @@ pub fn variable_at(c: Record, b: Record, place: u16, n: u16) -> usize
 }
 
 // The type of variable n of chart c.
-pub fn chart_variable_type(sheet: &[u8], directory: &Directory, c: Record, n: u16) -> usize
-    requires { directory.now ≡ directory_of sheet.now }
+pub fn chart_variable_type(sheet: &Reader, c: Record, n: u16) -> usize
     ensures { result ≡ type_at sheet.now (c.f2 + n) }
 {
-    type_at(sheet, directory, c.f2 as usize + n as usize)
+    type_at(sheet, c.f2 as usize + n as usize)
 }
 
 // Whether name n is of a class.
-pub fn has_class(sheet: &[u8], directory: &Directory, n: usize, kind: u16) -> bool
-    requires { directory.now ≡ directory_of sheet.now }
+pub fn has_class(sheet: &Reader, n: usize, kind: u16) -> bool
     ensures { result ≡ has_class sheet.now n kind }
 {
-    let Found::Present(r) = sheet_reader::read(sheet, directory, NAMES, n) else {
+    let Some(r) = sheet.record(NAMES, n) else {
         return false;
     };
     r.f2 == kind
 }
 
 // The data of name n.
-pub fn name_range(sheet: &[u8], directory: &Directory, n: usize) -> Range
-    requires { directory.now ≡ directory_of sheet.now }
+pub fn name_range(sheet: &Reader, n: usize) -> Range
     ensures { (result ≡ name_range sheet.now n) × (result.first < 65536) × (result.count < 65536) }
 {
-    let Found::Present(r) = sheet_reader::read(sheet, directory, NAMES, n) else {
+    let Some(r) = sheet.record(NAMES, n) else {
         return Range { first: 0, count: 0 };
     };
     Range {
@@ -111,22 +107,20 @@ pub fn name_range(sheet: &[u8], directory: &Directory, n: usize) -> Range
 }
 
 // The body that a call in chart c names.
-pub fn called_body(sheet: &[u8], directory: &Directory, c: Record, r: Record) -> Found
-    requires { directory.now ≡ directory_of sheet.now }
+pub fn called_body(sheet: &Reader, c: Record, r: Record) -> Option<Record>
     ensures { result ≡ called_body sheet.now c r }
 {
     if c.f5 <= r.f1 {
-        return Found::Absent;
+        return None;
     }
-    sheet_reader::read(sheet, directory, BODIES, c.f4 as usize + r.f1 as usize)
+    sheet.record(BODIES, c.f4 as usize + r.f1 as usize)
 }
 
 // Its parameters.
-pub fn called_range(sheet: &[u8], directory: &Directory, c: Record, r: Record) -> Range
-    requires { directory.now ≡ directory_of sheet.now }
+pub fn called_range(sheet: &Reader, c: Record, r: Record) -> Range
     ensures { (result ≡ parameters_of (called_body sheet.now c r)) × (result.first < 65536) × (result.count < 65536) }
 {
-    let Found::Present(b) = called_body(sheet, directory, c, r) else {
+    let Some(b) = called_body(sheet, c, r) else {
         return Range { first: 0, count: 0 };
     };
     Range {

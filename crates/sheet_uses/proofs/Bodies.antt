@@ -1,4 +1,5 @@
 -- A sheet otherwise in shape: its charts have each body once, and its constants are literals.
+use Rattle.std.specs.Prelude.{Some}
 use Prim.Native.Nat.{ℕ, zero, suc, ◌+◌, ◌≤◌}
 use mathlib.Core.Path.{◌≡◌, refl, sym, ap, ◌∙◌}
 use mathlib.Core.List.{List}
@@ -6,7 +7,6 @@ use mathlib.Core.Bool.{true}
 use native.Mathlib.Omega.{arith}
 use borrow.Author.Tests.{eqb-true}
 use Rattle.sheet.specs.declared.Record.{Record}
-use Rattle.sheet.specs.declared.Found.TheVariants.{Present}
 use Rattle.sheet.specs.Table.{look_up}
 use Rattle.sheet.specs.Names.{charts, bodies, nodes, bindings, chart_bodies}
 use Rattle.sheet.specs.Sheet.{count_of, record_of}
@@ -29,16 +29,16 @@ module _ (s : List ℕ) (ok : otherwise_in_shape s ≡ true) where
   unfolding otherwise_in_shape shape_with bodies_covered
   covered = eqb-true _ _ (and_first _ _ (and_second _ _ (and_second _ _ (and_second _ _ ok))))
 
-  chart_shaped : (n : ℕ) (r : Record) → record_of s charts n ≡ Present r → chart_shape s n r ≡ true
+  chart_shaped : (n : ℕ) (r : Record) → record_of s charts n ≡ Some r → chart_shape s n r ≡ true
   unfolding record_shape look_up
   chart_shaped n r e = record_shaped s sections 4 n r (omega arith) e
 
   -- "Body ranges follow each other"
-  follows : (k : ℕ) (c : Record) → record_of s charts k ≡ Present c → (chart_bodies c).first ≡ bodies_up_to s k
+  follows : (k : ℕ) (c : Record) → record_of s charts k ≡ Some c → (chart_bodies c).first ≡ bodies_up_to s k
   unfolding chart_shape
   follows k c e = eqb-true _ _ (and_first _ _ (and_second _ _ (and_second _ _ (and_second _ _ (and_second _ _ (chart_shaped k c e))))))
 
-  up_to : (k : ℕ) (c : Record) → record_of s charts k ≡ Present c → bodies_up_to s (suc k) ≡ (chart_bodies c).first + (chart_bodies c).count
+  up_to : (k : ℕ) (c : Record) → record_of s charts k ≡ Some c → bodies_up_to s (suc k) ≡ (chart_bodies c).first + (chart_bodies c).count
   unfolding bodies_up_to
   up_to k c e = number-present _ c _ e
 
@@ -47,7 +47,7 @@ module _ (s : List ℕ) (ok : otherwise_in_shape s ≡ true) where
   ranges f zero l = refl
   ranges f (suc k) l = go (ranges f k (omega arith)) _ (record_present s charts k l)
     where
-      go : sum_below k (λ k. number_or0 (record_of s charts k) (over_bodies s f)) ≡ sum_below (bodies_up_to s k) (λ i. number_or0 (record_of s bodies i) f) → (c : Record) → record_of s charts k ≡ Present c → sum_below (suc k) (λ k. number_or0 (record_of s charts k) (over_bodies s f)) ≡ sum_below (bodies_up_to s (suc k)) (λ i. number_or0 (record_of s bodies i) f)
+      go : sum_below k (λ k. number_or0 (record_of s charts k) (over_bodies s f)) ≡ sum_below (bodies_up_to s k) (λ i. number_or0 (record_of s bodies i) f) → (c : Record) → record_of s charts k ≡ Some c → sum_below (suc k) (λ k. number_or0 (record_of s charts k) (over_bodies s f)) ≡ sum_below (bodies_up_to s (suc k)) (λ i. number_or0 (record_of s bodies i) f)
       go before c e =
           ap (λ (x : ℕ). sum_below k (λ k. number_or0 (record_of s charts k) (over_bodies s f)) + x) (number-present _ c (over_bodies s f) e)
           ∙ ap (λ (x : ℕ). x + over_bodies s f c) (before ∙ ap (λ (x : ℕ). sum_below x (λ i. number_or0 (record_of s bodies i) f)) (sym (follows k c e)))

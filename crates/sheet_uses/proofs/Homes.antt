@@ -1,4 +1,5 @@
 -- The chart that a node stands in, and how often it stands in bodies, told by the nodes that have it as an operand.
+use Rattle.std.specs.Prelude.{Option, Some, None}
 use Prim.Native.Nat.{ℕ, zero, suc, ◌+◌, ◌*◌, ◌≤◌, ◌<◌}
 use mathlib.Core.Path.{◌≡◌, refl, sym, ap, ◌∙◌}
 use mathlib.Core.List.{List}
@@ -9,8 +10,6 @@ use native.Mathlib.Nat.{zero-mul, mul-zero, one-mul}
 use lib.Dec.{ltb, eqb}
 use borrow.Author.Tests.{lt-ltb, le-ltb, eqb-true}
 use Rattle.sheet.specs.declared.Record.{Record}
-use Rattle.sheet.specs.declared.Found.{Found}
-use Rattle.sheet.specs.declared.Found.TheVariants.{Present, Absent}
 use Rattle.sheet.specs.Names.{charts, bodies, nodes, chart_bodies, root}
 use Rattle.sheet.specs.Sheet.{count_of, record_of}
 use Rattle.sheet.proofs.All.{all-at}
@@ -38,12 +37,12 @@ module _ (s : List ℕ) where
   weights : (f : ℕ → ℕ) → sum_below (count_of s nodes) (λ m. 0 * f m) ≡ 0
   weights f = sum-zero _ _ (λ m l. zero-mul (f m))
 
-  body_above : (c : Record) (n : ℕ) (f : Found) → number_or0 f (λ b. stands_in s c n (root b)) ≡ number_or0 f (λ b. one_if (eqb (root b) n)) + sum_below (count_of s nodes) (λ m. number_or0 f (λ b. stands_in s c m (root b)) * operand_uses s c m n)
+  body_above : (c : Record) (n : ℕ) (f : Option Record) → number_or0 f (λ b. stands_in s c n (root b)) ≡ number_or0 f (λ b. one_if (eqb (root b) n)) + sum_below (count_of s nodes) (λ m. number_or0 f (λ b. stands_in s c m (root b)) * operand_uses s c m n)
   unfolding number_or0 FromAbove
-  body_above c n (Present b) = from_above s c (root b) n
-  body_above c n Absent = omega (arith, weights (λ m. operand_uses s c m n))
+  body_above c n (Some b) = from_above s c (root b) n
+  body_above c n None = omega (arith, weights (λ m. operand_uses s c m n))
 
-  chart-there : (k : ℕ) (c : Record) → record_of s charts k ≡ Present c → home_chart s (suc k) ≡ c
+  chart-there : (k : ℕ) (c : Record) → record_of s charts k ≡ Some c → home_chart s (suc k) ≡ c
   unfolding home_chart chart_or
   chart-there k c p = rw p refl
 
@@ -51,16 +50,16 @@ module _ (s : List ℕ) where
   unfolding stands_in_bodies root_uses over_bodies
   chart_above k n = go (record_of s charts k) refl
     where
-      here : (c : Record) → record_of s charts k ≡ Present c → (m : ℕ) → in_chart k m ≡ sum_below (chart_bodies c).count (λ j. number_or0 (record_of s bodies ((chart_bodies c).first + j)) (λ b. stands_in s c m (root b)))
+      here : (c : Record) → record_of s charts k ≡ Some c → (m : ℕ) → in_chart k m ≡ sum_below (chart_bodies c).count (λ j. number_or0 (record_of s bodies ((chart_bodies c).first + j)) (λ b. stands_in s c m (root b)))
       here c p m = number-present _ c (stands_in_bodies s m) p
 
-      go : (f : Found) → record_of s charts k ≡ f → in_chart k n ≡ number_or0 (record_of s charts k) (root_uses s n) + sum_below (count_of s nodes) (λ m. in_chart k m * operand_uses s (home_chart s (suc k)) m n)
-      go (Present c) p =
+      go : (f : Option Record) → record_of s charts k ≡ f → in_chart k n ≡ number_or0 (record_of s charts k) (root_uses s n) + sum_below (count_of s nodes) (λ m. in_chart k m * operand_uses s (home_chart s (suc k)) m n)
+      go (Some c) p =
           here c p n
           ∙ sum_both (chart_bodies c).count (count_of s nodes) _ (λ j. number_or0 (record_of s bodies ((chart_bodies c).first + j)) (λ b. one_if (eqb (root b) n))) (λ j m. number_or0 (record_of s bodies ((chart_bodies c).first + j)) (λ b. stands_in s c m (root b))) (λ m. operand_uses s c m n) (λ j. body_above c n (record_of s bodies ((chart_bodies c).first + j)))
           ∙ ap (λ (x : ℕ). x + sum_below (count_of s nodes) (λ m. sum_below (chart_bodies c).count (λ j. number_or0 (record_of s bodies ((chart_bodies c).first + j)) (λ b. stands_in s c m (root b))) * operand_uses s c m n)) (sym (number-present _ c (root_uses s n) p))
           ∙ ap (λ (x : ℕ). number_or0 (record_of s charts k) (root_uses s n) + x) (sum_same _ _ _ (λ m _. ap (λ (x : ℕ). x * operand_uses s c m n) (sym (here c p m)) ∙ ap (λ (c : Record). in_chart k m * operand_uses s c m n) (sym (chart-there k c p))))
-      go Absent p = omega (arith, number_absent _ (stands_in_bodies s n) p, number_absent _ (root_uses s n) p, sum-zero (count_of s nodes) (λ m. in_chart k m * operand_uses s (home_chart s (suc k)) m n) (λ m _. ap (λ (x : ℕ). x * operand_uses s (home_chart s (suc k)) m n) (number_absent _ (stands_in_bodies s m) p) ∙ zero-mul _))
+      go None p = omega (arith, number_absent _ (stands_in_bodies s n) p, number_absent _ (root_uses s n) p, sum-zero (count_of s nodes) (λ m. in_chart k m * operand_uses s (home_chart s (suc k)) m n) (λ m _. ap (λ (x : ℕ). x * operand_uses s (home_chart s (suc k)) m n) (number_absent _ (stands_in_bodies s m) p) ∙ zero-mul _))
 
   -- ---- all charts
 
@@ -148,19 +147,19 @@ module _ (s : List ℕ) where
   unfolding number_or0 stands_in_bodies over_bodies
   held m k = go (record_of s charts k)
     where
-      one : (c : Record) (f : Found) → 1 ≤ number_or0 f (λ b. stands_in s c m (root b)) → 1 ≤ number_or0 f (λ b. one_if (ltb 0 (stands_in s c m (root b))))
-      one c (Present b) l = rw (lt-ltb 0 (stands_in s c m (root b)) l) (omega arith)
-      one c Absent l = absurd (omega arith)
+      one : (c : Record) (f : Option Record) → 1 ≤ number_or0 f (λ b. stands_in s c m (root b)) → 1 ≤ number_or0 f (λ b. one_if (ltb 0 (stands_in s c m (root b))))
+      one c (Some b) l = rw (lt-ltb 0 (stands_in s c m (root b)) l) (omega arith)
+      one c None l = absurd (omega arith)
 
-      go : (f : Found) → 1 ≤ number_or0 f (stands_in_bodies s m) → 1 ≤ number_or0 f (λ c. over_bodies s (λ b. one_if (ltb 0 (stands_in s c m (root b)))) c)
-      go (Present c) l = let j = sum_some (chart_bodies c).count (λ j. number_or0 (record_of s bodies ((chart_bodies c).first + j)) (λ b. stands_in s c m (root b))) l in omega (arith, one c (record_of s bodies ((chart_bodies c).first + j.0)) j.2, sum_at (chart_bodies c).count (λ j. number_or0 (record_of s bodies ((chart_bodies c).first + j)) (λ b. one_if (ltb 0 (stands_in s c m (root b))))) j.0 j.1)
-      go Absent l = absurd (omega arith)
+      go : (f : Option Record) → 1 ≤ number_or0 f (stands_in_bodies s m) → 1 ≤ number_or0 f (λ c. over_bodies s (λ b. one_if (ltb 0 (stands_in s c m (root b)))) c)
+      go (Some c) l = let j = sum_some (chart_bodies c).count (λ j. number_or0 (record_of s bodies ((chart_bodies c).first + j)) (λ b. stands_in s c m (root b))) l in omega (arith, one c (record_of s bodies ((chart_bodies c).first + j.0)) j.2, sum_at (chart_bodies c).count (λ j. number_or0 (record_of s bodies ((chart_bodies c).first + j)) (λ b. one_if (ltb 0 (stands_in s c m (root b))))) j.0 j.1)
+      go None l = absurd (omega arith)
 
   agree_held : (m : ℕ) → bodies_holding s m ≡ 1 → Agree m
   unfolding bodies_holding over_charts
   agree_held m e = agree_only m (λ k. number_or0 (record_of s charts k) (λ c. over_bodies s (λ b. one_if (ltb 0 (stands_in s c m (root b)))) c)) (held m) (omega (arith, e))
 
-  agree_plain : (m : ℕ) (r : Record) → record_of s nodes m ≡ Present r → is_call r ≡ false → Agree m
+  agree_plain : (m : ℕ) (r : Record) → record_of s nodes m ≡ Some r → is_call r ≡ false → Agree m
   unfolding Agree
   agree_plain m r p q k l n = plain_uses s _ _ m n r p q
 
@@ -168,9 +167,9 @@ module _ (s : List ℕ) where
   unfolding calls_in_one_body
   calls_agree_lem h m l = go _ (record_present s nodes m l)
     where
-      choose : (r : Record) → record_of s nodes m ≡ Present r → (b : Bool) → is_call r ≡ b → ◌≡◌ {A = Bool} (elim b [ true ↦ eqb (bodies_holding s m) 1 | false ↦ true ]) true → Agree m
+      choose : (r : Record) → record_of s nodes m ≡ Some r → (b : Bool) → is_call r ≡ b → ◌≡◌ {A = Bool} (elim b [ true ↦ eqb (bodies_holding s m) 1 | false ↦ true ]) true → Agree m
       choose r p true e q = agree_held m (eqb-true _ _ q)
       choose r p false e q = agree_plain m r p e
 
-      go : (r : Record) → record_of s nodes m ≡ Present r → Agree m
+      go : (r : Record) → record_of s nodes m ≡ Some r → Agree m
       go r p = choose r p (is_call r) refl (sym (holds-present _ r _ p) ∙ all-at (count_of s nodes) _ h m l)

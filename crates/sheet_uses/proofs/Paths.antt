@@ -1,4 +1,5 @@
 -- That "each exactly once" passes the same sheets, counted by fields or along paths.
+use Rattle.std.specs.Prelude.{Option, Some, None}
 use Prim.Native.Nat.{ℕ, zero, suc, ◌+◌, ◌*◌, ◌≤◌, ◌<◌}
 use mathlib.Core.Path.{◌≡◌, refl, sym, ap, ◌∙◌}
 use mathlib.Core.List.{List}
@@ -9,8 +10,6 @@ use native.Mathlib.Nat.{mul-zero, one-mul}
 use lib.Dec.{eqb}
 use borrow.Author.Tests.{eqb-true, eq-eqb, leb-true}
 use Rattle.sheet.specs.declared.Record.{Record}
-use Rattle.sheet.specs.declared.Found.{Found}
-use Rattle.sheet.specs.declared.Found.TheVariants.{Present, Absent}
 use Rattle.sheet.specs.All.{◌and◌}
 use Rattle.sheet.specs.Names.{charts, nodes, chart_parameters, bound_chart, operator, is_literal}
 use Rattle.sheet.specs.Sheet.{count_of, record_of}
@@ -38,16 +37,16 @@ module _ (s : List ℕ) (ok : otherwise_in_shape s ≡ true) where
   unfolding operands_of operands_in is_literal
   leaf c r q = ap (operands_in s c r) (form-literal (operator r) (leb-true _ _ (and_first _ _ q)) (leb-true _ _ (and_second _ _ q)))
 
-  constant_leaf : (m : ℕ) → constant_shape s m ≡ true → (r : Record) × (record_of s nodes m ≡ Present r) × (is_literal (operator r) ≡ true)
+  constant_leaf : (m : ℕ) → constant_shape s m ≡ true → (r : Record) × (record_of s nodes m ≡ Some r) × (is_literal (operator r) ≡ true)
   unfolding constant_shape holds
   constant_leaf m = go (record_of s nodes m) refl
     where
-      go : (f : Found) → record_of s nodes m ≡ f → holds f (λ r. is_literal (operator r) and literal_shape s r) ≡ true → (r : Record) × (record_of s nodes m ≡ Present r) × (is_literal (operator r) ≡ true)
-      go (Present r) p q = (r, p, and_first _ _ q)
-      go Absent p q = absurd (true_false refl (sym q))
+      go : (f : Option Record) → record_of s nodes m ≡ f → holds f (λ r. is_literal (operator r) and literal_shape s r) ≡ true → (r : Record) × (record_of s nodes m ≡ Some r) × (is_literal (operator r) ≡ true)
+      go (Some r) p q = (r, p, and_first _ _ q)
+      go None p q = absurd (true_false refl (sym q))
 
-  module _ (k : ℕ) (c : Record) (shaped : binding_shape s k ≡ true) (chart : chart_bound s k ≡ Present c) where
-    constant_shaped : (j : ℕ) → j < (chart_parameters c).count → (b : Record) → constant_binding s k j ≡ Present b → constant_shape s (constant_of b j) ≡ true
+  module _ (k : ℕ) (c : Record) (shaped : binding_shape s k ≡ true) (chart : chart_bound s k ≡ Some c) where
+    constant_shaped : (j : ℕ) → j < (chart_parameters c).count → (b : Record) → constant_binding s k j ≡ Some b → constant_shape s (constant_of b j) ≡ true
     unfolding binding_shape records_shape constants_shape
     constant_shaped j l b e = let x = chart-bound s k c chart in sym (holds-present _ b _ e) ∙ all-at (chart_parameters c).count _ (and_first _ _ (sym (holds-present _ c (records_shape s k x.0) x.2) ∙ sym (holds-present _ x.0 (λ r. holds (record_of s charts (bound_chart r)) (records_shape s k r)) x.1) ∙ shaped)) j l
 
@@ -56,13 +55,13 @@ module _ (s : List ℕ) (ok : otherwise_in_shape s ≡ true) where
   unfolding stands_in_binding constant_uses count_below number_or0 holds
   same_constants n k shaped = go (chart_bound s k) refl
     where
-      one : (c : Record) → chart_bound s k ≡ Present c → (j : ℕ) → j < (chart_parameters c).count → (f : Found) → constant_binding s k j ≡ f → number_or0 f (λ b. stands_in s c n (constant_of b j)) ≡ one_if (holds f (λ b. eqb (constant_of b j) n))
-      one c p j l (Present b) e = let r = constant_leaf (constant_of b j) (constant_shaped k c shaped p j l b e) in leaf_stands s c n (constant_of b j) r.0 r.1 (leaf c r.0 r.2)
-      one c p j l Absent e = refl
+      one : (c : Record) → chart_bound s k ≡ Some c → (j : ℕ) → j < (chart_parameters c).count → (f : Option Record) → constant_binding s k j ≡ f → number_or0 f (λ b. stands_in s c n (constant_of b j)) ≡ one_if (holds f (λ b. eqb (constant_of b j) n))
+      one c p j l (Some b) e = let r = constant_leaf (constant_of b j) (constant_shaped k c shaped p j l b e) in leaf_stands s c n (constant_of b j) r.0 r.1 (leaf c r.0 r.2)
+      one c p j l None e = refl
 
-      go : (f : Found) → chart_bound s k ≡ f → number_or0 f (λ c. sum_below (chart_parameters c).count (λ j. number_or0 (constant_binding s k j) (λ b. stands_in s c n (constant_of b j)))) ≡ number_or0 f (λ c. sum_below (chart_parameters c).count (λ j. one_if (holds (constant_binding s k j) (λ b. eqb (constant_of b j) n))))
-      go (Present c) p = sum_same _ _ _ (λ j l. one c p j l (constant_binding s k j) refl)
-      go Absent p = refl
+      go : (f : Option Record) → chart_bound s k ≡ f → number_or0 f (λ c. sum_below (chart_parameters c).count (λ j. number_or0 (constant_binding s k j) (λ b. stands_in s c n (constant_of b j)))) ≡ number_or0 f (λ c. sum_below (chart_parameters c).count (λ j. one_if (holds (constant_binding s k j) (λ b. eqb (constant_of b j) n))))
+      go (Some c) p = sum_same _ _ _ (λ j l. one c p j l (constant_binding s k j) refl)
+      go None p = refl
 
   -- a constant has no operands
   constant_here : (m k : ℕ) → binding_shape s k ≡ true → 1 ≤ constant_uses s m k → constant_shape s m ≡ true
@@ -73,13 +72,13 @@ module _ (s : List ℕ) (ok : otherwise_in_shape s ≡ true) where
       named x true e l = eqb-true x m e
       named x false e l = absurd (omega arith)
 
-      one : (c : Record) → chart_bound s k ≡ Present c → (j : ℕ) → j < (chart_parameters c).count → (f : Found) → constant_binding s k j ≡ f → 1 ≤ one_if (holds f (λ b. eqb (constant_of b j) m)) → constant_shape s m ≡ true
-      one c p j l (Present b) e h = rw (← named (constant_of b j) _ refl h) (constant_shaped k c shaped p j l b e)
-      one c p j l Absent e h = absurd (omega arith)
+      one : (c : Record) → chart_bound s k ≡ Some c → (j : ℕ) → j < (chart_parameters c).count → (f : Option Record) → constant_binding s k j ≡ f → 1 ≤ one_if (holds f (λ b. eqb (constant_of b j) m)) → constant_shape s m ≡ true
+      one c p j l (Some b) e h = rw (← named (constant_of b j) _ refl h) (constant_shaped k c shaped p j l b e)
+      one c p j l None e h = absurd (omega arith)
 
-      go : (f : Found) → chart_bound s k ≡ f → 1 ≤ number_or0 f (λ c. sum_below (chart_parameters c).count (λ j. one_if (holds (constant_binding s k j) (λ b. eqb (constant_of b j) m)))) → constant_shape s m ≡ true
-      go (Present c) p l = let j = sum_some (chart_parameters c).count (λ j. one_if (holds (constant_binding s k j) (λ b. eqb (constant_of b j) m))) l in one c p j.0 j.1 (constant_binding s k j.0) refl j.2
-      go Absent p l = absurd (omega arith)
+      go : (f : Option Record) → chart_bound s k ≡ f → 1 ≤ number_or0 f (λ c. sum_below (chart_parameters c).count (λ j. one_if (holds (constant_binding s k j) (λ b. eqb (constant_of b j) m)))) → constant_shape s m ≡ true
+      go (Some c) p l = let j = sum_some (chart_parameters c).count (λ j. one_if (holds (constant_binding s k j) (λ b. eqb (constant_of b j) m))) l in one c p j.0 j.1 (constant_binding s k j.0) refl j.2
+      go None p l = absurd (omega arith)
 
   constants_same : (n : ℕ) → over_bindings s (stands_in_binding s n) ≡ over_bindings s (constant_uses s n)
   constants_same n = sum_same _ _ _ (λ i l. same_constants n (first_binding s i) (binding_shaped s (sections s ok) i l))

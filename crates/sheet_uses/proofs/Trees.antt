@@ -1,4 +1,5 @@
 -- Where a node stands: the recursion from a tree's root down, and from a node to those that have it as an operand.
+use Rattle.std.specs.Prelude.{Option, Some, None}
 use Prim.Native.Nat.{ℕ, zero, suc, ◌+◌, ◌*◌, ◌≤◌, ◌<◌}
 use mathlib.Core.Path.{◌≡◌, refl, sym, ap, ◌∙◌, fun_ext}
 use mathlib.Core.List.{List}
@@ -9,8 +10,6 @@ use native.Mathlib.Nat.{zero-mul, add-mul}
 use lib.Dec.{ltb, eqb}
 use borrow.Author.Tests.{ltb-true, lt-ltb, le-ltb, eq-eqb}
 use Rattle.sheet.specs.declared.Record.{Record}
-use Rattle.sheet.specs.declared.Found.{Found}
-use Rattle.sheet.specs.declared.Found.TheVariants.{Present, Absent}
 use Rattle.sheet.specs.Names.{nodes}
 use Rattle.sheet.specs.Sheet.{count_of, record_of}
 use Rattle.sheet.proofs.All.{true_false}
@@ -56,7 +55,7 @@ module _ (s : List ℕ) (c : Record) where
 
   -- ---- the operands of one node
 
-  pub no_operands : (m n : ℕ) → record_of s nodes m ≡ Absent → operand_uses s c m n ≡ 0
+  pub no_operands : (m n : ℕ) → record_of s nodes m ≡ None → operand_uses s c m n ≡ 0
   unfolding operand_fields operand_uses
   no_operands m n p = elim (dec_lt n m) [
     | yes l ↦ lower_is m n _ l ∙ number_absent _ _ p
@@ -75,12 +74,12 @@ module _ (s : List ℕ) (c : Record) where
     | no l ↦ not_lower m n _ (omega arith) ∙ sym (h (omega arith))
   ]
 
-  pub uses-are : (m n : ℕ) (r : Record) → record_of s nodes m ≡ Present r → n < m → operand_uses s c m n ≡ count_below (operand_count (operands_of s c r)) (λ j. eqb (operand_at r (operands_of s c r) j) n)
+  pub uses-are : (m n : ℕ) (r : Record) → record_of s nodes m ≡ Some r → n < m → operand_uses s c m n ≡ count_below (operand_count (operands_of s c r)) (λ j. eqb (operand_at r (operands_of s c r) j) n)
   unfolding operand_fields operand_uses
   uses-are m n r p l = lower_is m n _ l ∙ number-present _ r _ p
 
   -- operand fields that name node n and are lower
-  lower_uses : (m n : ℕ) (r : Record) → record_of s nodes m ≡ Present r → sum_below (operand_count (operands_of s c r)) (λ j. lower_only m (λ o. one_if (eqb o n)) (operand_at r (operands_of s c r) j)) ≡ operand_uses s c m n
+  lower_uses : (m n : ℕ) (r : Record) → record_of s nodes m ≡ Some r → sum_below (operand_count (operands_of s c r)) (λ j. lower_only m (λ o. one_if (eqb o n)) (operand_at r (operands_of s c r) j)) ≡ operand_uses s c m n
   unfolding count_below
   lower_uses m n r p = elim (dec_lt n m) [
     | yes l ↦ sum_same _ _ _ (λ j _. inside l (operand_at r (operands_of s c r) j)) ∙ sym (uses-are m n r p l)
@@ -108,7 +107,7 @@ module _ (s : List ℕ) (c : Record) where
   zeros : (f : ℕ → ℕ) → sum_below (count_of s nodes) (λ i. 0 * f i) ≡ 0
   zeros f = sum-zero _ _ (λ i l. zero-mul (f i))
 
-  below_absent : (m n : ℕ) → record_of s nodes m ≡ Absent → below_in_lem n m ≡ 0
+  below_absent : (m n : ℕ) → record_of s nodes m ≡ None → below_in_lem n m ≡ 0
   unfolding below_in_lem
   below_absent m n p = number_absent _ _ p
 
@@ -126,16 +125,16 @@ module _ (s : List ℕ) (c : Record) where
   unfolding below_in_lem
   below_above m n h = go (record_of s nodes m) refl
     where
-      present : (r : Record) → record_of s nodes m ≡ Present r → (n : ℕ) → below_in_lem n m ≡ sum_below (operand_count (operands_of s c r)) (λ j. lower_only m (stands_in s c n) (operand_at r (operands_of s c r) j))
+      present : (r : Record) → record_of s nodes m ≡ Some r → (n : ℕ) → below_in_lem n m ≡ sum_below (operand_count (operands_of s c r)) (λ j. lower_only m (stands_in s c n) (operand_at r (operands_of s c r) j))
       present r p n = number-present _ r (λ r. sum_below (operand_count (operands_of s c r)) (λ j. lower_only m (stands_in s c n) (operand_at r (operands_of s c r) j))) p
 
-      go : (f : Found) → record_of s nodes m ≡ f → below_in_lem n m ≡ operand_uses s c m n + sum_below (count_of s nodes) (λ i. below_in_lem i m * operand_uses s c i n)
-      go (Present r) p =
+      go : (f : Option Record) → record_of s nodes m ≡ f → below_in_lem n m ≡ operand_uses s c m n + sum_below (count_of s nodes) (λ i. below_in_lem i m * operand_uses s c i n)
+      go (Some r) p =
           present r p n
           ∙ sum_both (operand_count (operands_of s c r)) (count_of s nodes) _ (λ j. lower_only m (λ o. one_if (eqb o n)) (operand_at r (operands_of s c r) j)) (λ j i. lower_only m (stands_in s c i) (operand_at r (operands_of s c r) j)) (λ i. operand_uses s c i n) (λ j. lower_above_lem m n (operand_at r (operands_of s c r) j) (h (operand_at r (operands_of s c r) j)))
           ∙ ap (λ (x : ℕ). x + sum_below (count_of s nodes) (λ i. sum_below (operand_count (operands_of s c r)) (λ j. lower_only m (stands_in s c i) (operand_at r (operands_of s c r) j)) * operand_uses s c i n)) (lower_uses m n r p)
           ∙ ap (λ (x : ℕ). operand_uses s c m n + x) (sum_same _ _ _ (λ i _. ap (λ (x : ℕ). x * operand_uses s c i n) (sym (present r p i))))
-      go Absent p = omega (arith, below_absent m n p, no_operands m n p, sum-zero (count_of s nodes) (λ i. below_in_lem i m * operand_uses s c i n) (λ i _. ap (λ (x : ℕ). x * operand_uses s c i n) (below_absent m i p) ∙ zero-mul (operand_uses s c i n)))
+      go None p = omega (arith, below_absent m n p, no_operands m n p, sum-zero (count_of s nodes) (λ i. below_in_lem i m * operand_uses s c i n) (λ i _. ap (λ (x : ℕ). x * operand_uses s c i n) (below_absent m i p) ∙ zero-mul (operand_uses s c i n)))
 
   picked : (m n : ℕ) → sum_below (count_of s nodes) (λ i. one_if (eqb m i) * operand_uses s c i n) ≡ operand_uses s c m n
   picked m n = elim (dec_lt m (count_of s nodes)) [
@@ -158,7 +157,7 @@ module _ (s : List ℕ) (c : Record) where
   from_above m = above_below (suc m) m (omega arith)
 
 -- a node that is no call has the same operands in every chart
-pub plain_uses : (s : List ℕ) (c c' : Record) (m n : ℕ) (r : Record) → record_of s nodes m ≡ Present r → is_call r ≡ false → operand_uses s c m n ≡ operand_uses s c' m n
+pub plain_uses : (s : List ℕ) (c c' : Record) (m n : ℕ) (r : Record) → record_of s nodes m ≡ Some r → is_call r ≡ false → operand_uses s c m n ≡ operand_uses s c' m n
 plain_uses s c c' m n r p q = elim (dec_lt n m) [
   | yes l ↦ uses-are s c m n r p l ∙ ap (λ (o : Operands). count_below (operand_count o) (λ j. eqb (operand_at r o j) n)) (operands-plain s c c' r (λ e. true_false (eq-eqb _ _ e) q)) ∙ sym (uses-are s c' m n r p l)
   | no l ↦ higher_uses s c m n (omega arith) ∙ sym (higher_uses s c' m n (omega arith))
@@ -166,13 +165,13 @@ plain_uses s c c' m n r p q = elim (dec_lt n m) [
 
 -- a node without operands
 module _ (s : List ℕ) (c : Record) where
-  pub leaf_uses : (m n : ℕ) (r : Record) → record_of s nodes m ≡ Present r → operands_of s c r ≡ operands 1 0 0 → operand_uses s c m n ≡ 0
+  pub leaf_uses : (m n : ℕ) (r : Record) → record_of s nodes m ≡ Some r → operands_of s c r ≡ operands 1 0 0 → operand_uses s c m n ≡ 0
   unfolding count_below sum_below
   leaf_uses m n r p q = elim (dec_lt n m) [
     | yes l ↦ uses-are s c m n r p l ∙ ap (λ (o : Operands). count_below (operand_count o) (λ j. eqb (operand_at r o j) n)) q
     | no l ↦ higher_uses s c m n (omega arith)
   ]
 
-  pub leaf_stands : (n m : ℕ) (r : Record) → record_of s nodes m ≡ Present r → operands_of s c r ≡ operands 1 0 0 → stands_in s c n m ≡ one_if (eqb m n)
+  pub leaf_stands : (n m : ℕ) (r : Record) → record_of s nodes m ≡ Some r → operands_of s c r ≡ operands 1 0 0 → stands_in s c n m ≡ one_if (eqb m n)
   unfolding below_in_lem sum_below
   leaf_stands n m r p q = omega (arith, stands_step_lem s c n m, number-present _ r (λ r. sum_below (operand_count (operands_of s c r)) (λ j. lower_only m (stands_in s c n) (operand_at r (operands_of s c r) j))) p ∙ ap (λ (o : Operands). sum_below (operand_count o) (λ j. lower_only m (stands_in s c n) (operand_at r o j))) q)

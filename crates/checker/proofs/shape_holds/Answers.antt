@@ -6,7 +6,7 @@ use Prim.Native.Nat.{ℕ, ◌+◌, ◌-◌}
 use borrow.Author.Tests.{le-leb, lt-leb, eq-eqb, ne_eqb, not-true, not-false}
 use Rattle.sheet.proofs.All.{first_fails_lem, rest_fails, first_holds}
 use Rattle.sheet.specs.Sheet.{count_of, directory_right}
-use Rattle.sheet.proofs.Sheet.{count_some, count_opened}
+use Rattle.sheet.proofs.Sheet.{count_some}
 use Rattle.sheet_rules.specs.Fields.{field_of, field_at, components_of, externals_of}
 use Rattle.sheet_rules.specs.Bindings.{elements_bound_in}
 use Rattle.sheet_rules.specs.Shape.{elements_bound}
@@ -25,9 +25,9 @@ module _ (s : List ℕ) (x y n : ℕ) (p : x ≡ field_at s 0 0 1) (q : y ≡ fi
   unfolding externals_of components_of field_at field_of
   bound-back h = rw (p, q, e) h
 
-pub returns-then-count_in-ne1 : goal.returns-then-count_in-ne1
+pub returns-then-count-ne1 : goal.returns-then-count-ne1
 unfolding shape shape_with
-returns-then-count_in-ne1 c = rest_fails _ _ (first_fails_lem _ _ (ne_eqb _ _ (λ e. c.if-count_in-ne1.true (count_opened _ _ _ c.count_in.ensures _ c.requires.directory_value ∙ e))))
+returns-then-count-ne1 c = rest_fails _ _ (first_fails_lem _ _ (ne_eqb _ _ (λ e. c.if-count-ne1.true (c.count.ensures ∙ e))))
 
 pub returns-then-not-sections_fit : goal.returns-then-not-sections_fit
 unfolding shape shape_with
@@ -49,7 +49,7 @@ unfolding shape shape_with
 returns-then-cells-gt512 c = rest_fails _ _ (rest_fails _ _ (rest_fails _ _ (rest_fails _ _ (rest_fails _ _ (first_fails_lem _ _ (lt-leb _ _ (rw c.cells.ensures at c.if-cells-gt512.true)))))))
 
 pub used_once-tested-requires : goal.used_once-tested-requires
-used_once-tested-requires c = record { directory_value = c.requires.directory_value; nodes_in_bounds = c.requires.nodes_in_bounds }
+used_once-tested-requires c = record { nodes_in_bounds = c.requires.nodes_in_bounds }
 
 pub shape_of-marks-then-not-tested : goal.shape_of-marks-then-not-tested
 shape_of-marks-then-not-tested c = c.used_once-tested.ensures.long
@@ -67,9 +67,9 @@ returns c = let sections-fit-is = sym c.sections_fit.ensures ∙ c.if-not-sectio
     let bodies-covered-is = sym c.bodies_covered.ensures ∙ c.if-not-bodies_covered.false in
     let used-once-is = sym c.used_once-tested.ensures.once ∙ not-false _ c.if-not-tested.false in
     let bound-here = bound _ _ _ _ c.field_at-externals.ensures.0 c.field_at-components.ensures.0 c.elements_bound.ensures.0 c.if-externals-elements_bound.false in
-    let count-opened-here = count_opened _ _ _ c.count_in.ensures _ c.requires.directory_value in
-    let if1-is = sym count-opened-here ∙ c.if-count_in-ne1.false in
-    first_holds _ _ _ (right-with-head _ _ count-opened-here c.if-count_in-ne1.false)
+    let count-opened-here = c.count.ensures in
+    let if1-is = sym count-opened-here ∙ c.if-count-ne1.false in
+    first_holds _ _ _ (right-with-head _ _ count-opened-here c.if-count-ne1.false)
     (first_holds _ _ _ (eq-eqb _ _ if1-is)
     (first_holds _ _ _ sections-fit-is
     (first_holds _ _ _ bodies-covered-is

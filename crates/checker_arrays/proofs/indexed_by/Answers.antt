@@ -21,31 +21,31 @@ no-type s i x l n₁ n₂ n₃ = elim (dec_lt i 4) [
 ]
 
 pub returns-in_default : goal.returns-in_default
-returns-in_default c = indexed_absent _ _ _ (sym c.read.ensures ∙ c.in_default.is)
+returns-in_default c = indexed_absent _ _ _ (sym c.record.ensures ∙ c.in_default.is)
 
 pub returns-in-1 : goal.returns-in-1
 unfolding indexed_by index_of look_up
-returns-in-1 c = indexed _ _ _ _ (sym c.read.ensures ∙ c.in-Present.is) _ _ (ap (index_of _) c.in-1.is) c.is_of.ensures
+returns-in-1 c = indexed _ _ _ _ (sym c.record.ensures ∙ c.in-Some.is) _ _ (ap (index_of _) c.in-1.is) c.is_of.ensures
 
 pub returns-in-2 : goal.returns-in-2
 unfolding indexed_by index_of look_up
-returns-in-2 c = indexed _ _ _ _ (sym c.read.ensures ∙ c.in-Present.is) _ _ (ap (index_of _) c.in-2.is) c.is_of-in-2.ensures
+returns-in-2 c = indexed _ _ _ _ (sym c.record.ensures ∙ c.in-Some.is) _ _ (ap (index_of _) c.in-2.is) c.is_of-in-2.ensures
 
 pub returns-in-3 : goal.returns-in-3
 unfolding indexed_by index_of look_up
-returns-in-3 c = indexed _ _ _ _ (sym c.read.ensures ∙ c.in-Present.is) _ _ (ap (index_of _) c.in-3.is) c.is_of-in-3.ensures
+returns-in-3 c = indexed _ _ _ _ (sym c.record.ensures ∙ c.in-Some.is) _ _ (ap (index_of _) c.in-3.is) c.is_of-in-3.ensures
 
 pub returns-in-8-to-60000 : goal.returns-in-8-to-60000
 unfolding indexed_by
-returns-in-8-to-60000 c = indexed _ _ _ _ (sym c.read.ensures ∙ c.in-Present.is) _ _ (index_enumerated _ _ c.in-8-to-60000.if-i-lt8-own.false c.in-8-to-60000.if-i-lt60001-own.true) c.is_of-in-8-to-60000.ensures
+returns-in-8-to-60000 c = indexed _ _ _ _ (sym c.record.ensures ∙ c.in-Some.is) _ _ (index_enumerated _ _ c.in-8-to-60000.if-i-lt8-own.false c.in-8-to-60000.if-i-lt60001-own.true) c.is_of-in-8-to-60000.ensures
 
 pub returns-in-60001-to-60064 : goal.returns-in-60001-to-60064
 unfolding indexed_by
-returns-in-60001-to-60064 c = indexed _ _ _ _ (sym c.read.ensures ∙ c.in-Present.is) _ _ (index_number _ _ c.in-60001-to-60064.if-i-lt60001-own.false c.in-60001-to-60064.if-i-lt60065-own.true) c.is_of-in-60001-to-60064.ensures
+returns-in-60001-to-60064 c = indexed _ _ _ _ (sym c.record.ensures ∙ c.in-Some.is) _ _ (index_number _ _ c.in-60001-to-60064.if-i-lt60001-own.false c.in-60001-to-60064.if-i-lt60065-own.true) c.is_of-in-60001-to-60064.ensures
 
 pub returns-in_default-i : goal.returns-in_default-i
-returns-in_default-i c = indexed _ _ _ _ (sym c.read.ensures ∙ c.in-Present.is) _ _ refl (no-type _ _ _ c.in_default-i.if-i-lt8-own.true c.in_default-i.in_default-own.rest.0.0.1 c.in_default-i.in_default-own.rest.0.1 c.in_default-i.in_default-own.rest.1)
+returns-in_default-i c = indexed _ _ _ _ (sym c.record.ensures ∙ c.in-Some.is) _ _ refl (no-type _ _ _ c.in_default-i.if-i-lt8-own.true c.in_default-i.in_default-own.rest.0.0.1 c.in_default-i.in_default-own.rest.0.1 c.in_default-i.in_default-own.rest.1)
 
 pub returns-in_default-i-2 : goal.returns-in_default-i-2
 unfolding indexed_by
-returns-in_default-i-2 c = indexed _ _ _ _ (sym c.read.ensures ∙ c.in-Present.is) _ _ (index_past_lem _ _ c.in_default-i.if-i-lt60065-own.false) refl
+returns-in_default-i-2 c = indexed _ _ _ _ (sym c.record.ensures ∙ c.in-Some.is) _ _ (index_past_lem _ _ c.in_default-i.if-i-lt60065-own.false) refl

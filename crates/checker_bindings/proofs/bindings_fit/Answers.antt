@@ -1,36 +1,7 @@
-use native.Mathlib.Omega.{arith}
-use mathlib.Core.Path.{sym, ◌∙◌}
-use Prim.Native.Nat.{◌-◌}
-use Rattle.sheet.proofs.Sheet.{count_limit, count_opened}
-use Rattle.sheet_rules.specs.Shape.{bindings_shape}
-use Rattle.sheet_rules.proofs.Bindings.{walked_begins, walked_on, walked_fails, walked_ends, behind_near}
+use Rattle.sheet_rules.specs.Shape.{binding_shape, bindings_shape}
+use Rattle.std.proofs.Common.{rules}
 use Rattle.checker_bindings.proofs.bindings_fit.Goals as goal
-
-pub loop-k-init : goal.loop-k-init
-loop-k-init c = (count_opened _ _ _ c.count_in-count.ensures _ c.requires, walked_begins _ _)
-
-pub binding_fits-requires : goal.binding_fits-requires
-binding_fits-requires c = let l = c.loop-k-test.true in (c.requires, omega (arith, c.loop-k.invariant.0, count_limit c.args.sheet.now 7))
-
-pub returns-then-not-binding_fits : goal.returns-then-not-binding_fits
-unfolding bindings_shape
-returns-then-not-binding_fits c = let l = c.loop-k-test.true in
-    let e = c.loop-k.invariant.0 in
-    walked_fails _ _ _ c.loop-k.invariant.1 (omega arith) (sym c.binding_fits.ensures ∙ c.if-not-binding_fits.true)
-
-pub record_behind-k-requires : goal.record_behind-k-requires
-record_behind-k-requires c = let l = c.loop-k-test.true in (c.requires, omega (arith, c.loop-k.invariant.0, count_limit c.args.sheet.now 7))
-
-pub loop-k-smaller : goal.loop-k-smaller
-loop-k-smaller c = let l = c.loop-k-test.true in omega (arith, c.record_behind-k.ensures.0, (behind_near c.args.sheet.now c.loop-k.k).0)
-
-pub loop-k-preserved : goal.loop-k-preserved
-loop-k-preserved c = let l = c.loop-k-test.true in
-    let e = c.loop-k.invariant.0 in
-    (e, walked_on _ _ _ c.loop-k.invariant.1 _ c.record_behind-k.ensures.0 (omega arith) (sym c.binding_fits.ensures ∙ c.if-not-binding_fits.false))
 
 pub returns : goal.returns
 unfolding bindings_shape
-returns c = let l = c.loop-k-test.false in
-    let e = c.loop-k.invariant.0 in
-    walked_ends _ _ _ c.loop-k.invariant.1 (omega arith)
+returns c = c.every_element.ensures (binding_shape c.args.sheet.now) (λ k r l is. search rules)

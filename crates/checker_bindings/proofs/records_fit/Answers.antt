@@ -28,7 +28,7 @@ unfolding records_shape
 returns-then-count-le7 c = first_holds _ _ _ (sym c.constants_fit.ensures ∙ c.if-not-constants_fit.false) (first_holds _ _ _ (sym c.zero_from.ensures ∙ c.if-not-zero_from.false) (one _ _ c.if-count-le7.true))
 
 pub second_fits-requires : goal.second_fits-requires
-second_fits-requires c = (c.requires.0, search rules)
+second_fits-requires c = (search rules)
 
 pub returns : goal.returns
 unfolding records_shape

@@ -1,7 +1,6 @@
 use mathlib.Core.Path.{sym, ap, ◌∙◌}
 use borrow.Author.Tests.{le-leb, lt-leb}
 use lib.Dec.{ltb}
-use Rattle.sheet.proofs.Sheet.{count_opened}
 use Rattle.sheet.proofs.All.{first_fails_lem, rest_fails, first_holds}
 use Rattle.sheet_rules.specs.Shape.{body_shape}
 use Rattle.checker_bodies.proofs.body_fits.Goals as goal
@@ -39,4 +38,4 @@ returns c = let in-section-is = sym c.in_section.ensures ∙ c.if-not-in_section
     (first_holds _ _ _ reaction-fits-is
     (first_holds _ _ _ in-section-is
     (first_holds _ _ _ (le-leb _ _ c.if-r-gt4-2.false)
-    (first_holds _ _ _ in-section2-is (first_holds _ _ _ (le-leb _ _ c.if-r-gt16.false) (ap (ltb _) (count_opened _ _ _ c.count_in.ensures _ c.requires)))))))
+    (first_holds _ _ _ in-section2-is (first_holds _ _ _ (le-leb _ _ c.if-r-gt16.false) (ap (ltb _) c.count.ensures))))))

@@ -6,7 +6,6 @@ use mathlib.Core.List.{List}
 use Prim.Native.Nat.{ℕ}
 use lib.Dec.{ltb, leb, eqb}
 use native.Mathlib.Decide.{dec_lt}
-use Rattle.sheet.proofs.Sheet.{count_opened}
 use Rattle.sheet.proofs.All.{false-and, and-false, first_fails_lem, first_holds}
 use Rattle.sheet.specs.declared.Record.{Record}
 use Rattle.sheet.specs.All.{◌and◌}
@@ -42,10 +41,10 @@ pub returns-then-r-ne0-2 : goal.returns-then-r-ne0-2
 returns-then-r-ne0-2 c = first_fails_lem _ _ (ne_eqb _ _ c.if-r-ne0-2.true) ∙ sym (neither _ _ c.in_default.in_default-own.rest.0.1 c.in_default.in_default-own.rest.1)
 
 pub returns-else-ports-r : goal.returns-else-ports-r
-returns-else-ports-r c = first_holds _ _ _ (lt-ltb _ _ c.if-ports-r.false) (ap (ltb _) (count_opened _ _ _ c.count_in.ensures _ c.requires)) ∙ sym (external _ _ _ c.in-2.is c.field_at-ports.ensures.0)
+returns-else-ports-r c = first_holds _ _ _ (lt-ltb _ _ c.if-ports-r.false) (ap (ltb _) c.count.ensures) ∙ sym (external _ _ _ c.in-2.is c.field_at-ports.ensures.0)
 
 pub returns-else-r-ne0 : goal.returns-else-r-ne0
-returns-else-r-ne0 c = first_holds _ _ _ (eq-eqb _ _ c.if-r-ne0.false) (ap (ltb _) (count_opened _ _ _ c.count_in-in-3.ensures _ c.requires)) ∙ sym (internal _ _ c.in-3.is)
+returns-else-r-ne0 c = first_holds _ _ _ (eq-eqb _ _ c.if-r-ne0.false) (ap (ltb _) c.count-in-3.ensures) ∙ sym (internal _ _ c.in-3.is)
 
 pub returns-else-r-ne0-2 : goal.returns-else-r-ne0-2
 returns-else-r-ne0-2 c = first_holds _ _ _ (eq-eqb _ _ c.if-r-ne0-2.false) (refl) ∙ sym (neither _ _ c.in_default.in_default-own.rest.0.1 c.in_default.in_default-own.rest.1)

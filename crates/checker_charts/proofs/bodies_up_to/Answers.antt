@@ -21,7 +21,7 @@ pub returns-then-k-eq0 : goal.returns-then-k-eq0
 returns-then-k-eq0 c = first-chart _ _ c.if-k-eq0.true
 
 pub returns-in_default : goal.returns-in_default
-returns-in_default c = sym (later-chart _ _ c.if-k-eq0.false ∙ number_absent _ _ (sym c.read.ensures ∙ c.in_default.is))
+returns-in_default c = sym (later-chart _ _ c.if-k-eq0.false ∙ number_absent _ _ (sym c.record.ensures ∙ c.in_default.is))
 
 pub returns : goal.returns
-returns c = sym (later-chart _ _ c.if-k-eq0.false ∙ number-present _ _ _ (sym c.read.ensures ∙ c.in-Present.is))
+returns c = sym (later-chart _ _ c.if-k-eq0.false ∙ number-present _ _ _ (sym c.record.ensures ∙ c.in-Some.is))

@@ -6,6 +6,3 @@ use Rattle.checker_constant_marks.proofs.mark_constants.Given as goal
 
 abbrev pub invariant-loop-j : goal.invariant-loop-j
 invariant-loop-j l = (l.j ≤ l.n) × Marked l.count 0 l.initial.marks l.marks (λ m. sum_below l.j (constant_turn l.b m))
-
-abbrev pub decreases-loop-j : goal.decreases-loop-j
-decreases-loop-j l = l.n - l.j

@@ -9,4 +9,4 @@ returns-in_default c = sym (holds_absent _ _ (sym c.chart_bound.ensures ∙ c.in
 
 pub returns : goal.returns
 unfolding binding_static
-returns c = c.constants_static.ensures ∙ sym (holds-present _ _ _ (sym c.chart_bound.ensures ∙ c.in-Present.is))
+returns c = c.constants_static.ensures ∙ sym (holds-present _ _ _ (sym c.chart_bound.ensures ∙ c.in-Some.is))

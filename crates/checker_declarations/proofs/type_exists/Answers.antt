@@ -4,7 +4,6 @@ use mathlib.Core.Bool.{true, false}
 use mathlib.Core.List.{List}
 use Prim.Native.Nat.{ℕ, ◌≤◌, ◌<◌}
 use lib.Dec.{ltb}
-use Rattle.sheet.proofs.Sheet.{count_opened}
 use Rattle.sheet.proofs.All.{false-and}
 use Rattle.sheet_rules.specs.Shape.{type_exists}
 use Rattle.sheet_indices.proofs.Laws.{type_there}
@@ -25,4 +24,4 @@ pub returns-then-t-lt8 : goal.returns-then-t-lt8
 returns-then-t-lt8 c = sym (seven _ _ c.if-t-le6.false c.if-t-lt8.true)
 
 pub returns : goal.returns
-returns c = ap (ltb _) (count_opened _ _ _ c.count_in.ensures _ c.requires) ∙ sym (type_there _ _ c.if-t-lt8.false)
+returns c = ap (ltb _) c.count.ensures ∙ sym (type_there _ _ c.if-t-lt8.false)

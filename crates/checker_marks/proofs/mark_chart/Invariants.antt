@@ -7,6 +7,3 @@ use Rattle.checker_marks.proofs.mark_chart.Given as goal
 
 abbrev pub invariant-loop-j : goal.invariant-loop-j
 invariant-loop-j l = (l.j ≤ l.total) × (l.gone ≤ l.j) × (l.gone ≡ sum_below l.j (body_turn l.sheet l.first)) × Marked l.count l.k l.initial.marks l.marks (λ n. sum_below l.j (root_turn l.sheet l.first n))
-
-abbrev pub decreases-loop-j : goal.decreases-loop-j
-decreases-loop-j l = l.total - l.j

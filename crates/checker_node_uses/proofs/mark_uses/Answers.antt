@@ -1,20 +1,16 @@
 use mathlib.Core.Path.{refl}
 use native.Mathlib.Omega.{arith}
-use Rattle.sheet.proofs.Sheet.{count_opened}
 use Rattle.checker_node_uses.proofs.mark_uses.Goals as goal
 
-pub returns-then-marks-count_in : goal.returns-then-marks-count_in
-returns-then-marks-count_in c = let few = c.if-marks-count_in.true in
-    let nodes = count_opened _ _ _ c.count_in.ensures _ c.directory-directory.ensures in
+pub returns-then-marks-count : goal.returns-then-marks-count
+returns-then-marks-count c = let few = c.if-marks-count.true in
+    let nodes = rw c.new-opened.ensures at c.count.ensures in
     (omega (arith, nodes), refl)
 
-pub used_once-tested-requires : goal.used_once-tested-requires
-used_once-tested-requires c = let enough = c.if-marks-count_in.false in
-    let opened = c.directory-directory.ensures in
-    record { directory_value = opened; nodes_in_bounds = omega (arith, count_opened _ _ _ c.count_in.ensures _ opened) }
+pub used_once-requires : goal.used_once-requires
+used_once-requires c = let enough = c.if-marks-count.false in omega (arith, c.count.ensures)
 
 pub returns : goal.returns
-returns c = let enough = c.if-marks-count_in.false in
-    let opened = c.directory-directory.ensures in
-    let nodes = count_opened _ _ _ c.count_in.ensures _ opened in
-    (omega (arith, nodes), c.used_once-tested.ensures)
+returns c = let enough = c.if-marks-count.false in
+    let nodes = rw c.new-opened.ensures at c.count.ensures in
+    (omega (arith, nodes), rw c.new-opened.ensures at c.used_once.ensures)

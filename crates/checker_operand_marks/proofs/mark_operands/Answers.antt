@@ -8,7 +8,7 @@ use Rattle.checker_pass.proofs.Added.{operand_turn, operands_absent, operands_ad
 use Rattle.checker_operand_marks.proofs.mark_operands.Goals as goal
 
 pub returns-in_default : goal.returns-in_default
-returns-in_default c = operands_absent _ _ _ _ _ (sym c.read.ensures ∙ c.in_default.is)
+returns-in_default c = operands_absent _ _ _ _ _ (sym c.record.ensures ∙ c.in_default.is)
 
 pub overflow_add-total : goal.overflow_add-total
 overflow_add-total c = omega (arith, c.operands_at-o.ensures.1.count, c.operands_at-o.ensures.1.tail)
@@ -29,4 +29,4 @@ pub shape_of-marks : goal.shape_of-marks
 shape_of-marks c = c.loop-j.invariant.1.kept.long
 
 pub returns : goal.returns
-returns c = operands_added _ _ _ _ _ _ _ _ (sym c.read.ensures ∙ c.in-Present.is) c.operands_at-o.ensures.0 (loop-end _ _ _ _ (operand_turn _ _) c.loop-j.j _ (omega arith) c.loop-j.invariant.1)
+returns c = operands_added _ _ _ _ _ _ _ _ (sym c.record.ensures ∙ c.in-Some.is) c.operands_at-o.ensures.0 (loop-end _ _ _ _ (operand_turn _ _) c.loop-j.j _ (omega arith) c.loop-j.invariant.1)

@@ -6,6 +6,3 @@ use Rattle.checker_operand_marks.proofs.mark_operands.Given as goal
 
 abbrev pub invariant-loop-j : goal.invariant-loop-j
 invariant-loop-j l = (l.j ≤ l.total) × Marked l.m l.k l.initial.marks l.marks (λ n. sum_below l.j (operand_turn l.r l.o n))
-
-abbrev pub decreases-loop-j : goal.decreases-loop-j
-decreases-loop-j l = l.total - l.j

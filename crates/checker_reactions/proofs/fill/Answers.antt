@@ -7,7 +7,7 @@ pub loop-j-init : goal.loop-j-init
 loop-j-init c = (omega arith, c.requires.entries, filled_none _ _ _)
 
 pub enter-requires : goal.enter-requires
-enter-requires c = record { directory_value = c.requires.directory_value; table_len = c.loop-j.invariant.1.size }
+enter-requires c = record { table_len = c.loop-j.invariant.1.size }
 
 pub loop-j-preserved : goal.loop-j-preserved
 loop-j-preserved c = (omega arith, entered-entries _ _ _ _ _ c.loop-j.invariant.1 c.enter.ensures, filled_more _ _ _ _ _ c.loop-j.invariant.2 c.enter.ensures)

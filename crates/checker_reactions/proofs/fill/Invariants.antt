@@ -6,6 +6,3 @@ use Rattle.checker_reactions.proofs.fill.Given as goal
 
 abbrev pub invariant-loop-j : goal.invariant-loop-j
 invariant-loop-j l = (l.j ≤ l.count) × Entries l.sheet reacts_to l.table × Filled l.sheet l.first l.j l.table
-
-abbrev pub decreases-loop-j : goal.decreases-loop-j
-decreases-loop-j l = l.count - l.j

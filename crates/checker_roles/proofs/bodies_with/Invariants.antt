@@ -10,6 +10,3 @@ counts s first k j = one_if (has_role s (first + j) k)
 
 abbrev pub invariant-loop-j : goal.invariant-loop-j
 invariant-loop-j l = (l.j ≤ l.count) × (l.count < 65536) × (l.n ≤ l.j) × (l.n ≡ sum_below l.j (counts l.sheet l.first l.role))
-
-abbrev pub decreases-loop-j : goal.decreases-loop-j
-decreases-loop-j l = l.count - l.j

@@ -13,6 +13,3 @@ plainDatum s first j = not (is_clock (type_at s (first + j))) and is_plain (inde
 
 abbrev pub invariant-loop-j : goal.invariant-loop-j
 invariant-loop-j l = (l.j ≤ l.count) × (all_below l.j (plainDatum l.sheet l.first) ≡ true)
-
-abbrev pub decreases-loop-j : goal.decreases-loop-j
-decreases-loop-j l = l.count - l.j

@@ -12,6 +12,3 @@ same_type s a b j = eqb (type_at s (a + j)) (type_at s (b + j))
 
 abbrev pub invariant-loop-j : goal.invariant-loop-j
 invariant-loop-j l = (l.j ≤ l.count) × (all_below l.j (same_type l.sheet l.from l.with) ≡ true)
-
-abbrev pub decreases-loop-j : goal.decreases-loop-j
-decreases-loop-j l = l.count - l.j

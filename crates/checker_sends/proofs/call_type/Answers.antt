@@ -12,7 +12,7 @@ returns-in_default c = given_false _ _ (false-and _ _ (holds_absent _ _ (sym c.c
 
 pub returns-then-p-ne4 : goal.returns-then-p-ne4
 unfolding call_type
-returns-then-p-ne4 c = given_false _ _ (false-and _ _ (holds-present _ _ _ (sym c.called_body.ensures ∙ c.in-Present.is) ∙ ne_eqb _ 4 c.if-p-ne4.true))
+returns-then-p-ne4 c = given_false _ _ (false-and _ _ (holds-present _ _ _ (sym c.called_body.ensures ∙ c.in-Some.is) ∙ ne_eqb _ 4 c.if-p-ne4.true))
 
 pub returns-then-not-d : goal.returns-then-not-d
 unfolding call_type
@@ -20,4 +20,4 @@ returns-then-not-d c = given_false _ _ (and-false _ _ (c.if-not-d.true))
 
 pub returns : goal.returns
 unfolding call_type
-returns c = given_true_lem _ _ (and-true _ _ (holds-present _ _ _ (sym c.called_body.ensures ∙ c.in-Present.is) ∙ eq-eqb _ 4 c.if-p-ne4.false) (c.if-not-d.false))
+returns c = given_true_lem _ _ (and-true _ _ (holds-present _ _ _ (sym c.called_body.ensures ∙ c.in-Some.is) ∙ eq-eqb _ 4 c.if-p-ne4.false) (c.if-not-d.false))

@@ -13,6 +13,3 @@ fits s k i = holds (record_of s k i) (record_shape s k i)
 
 abbrev pub invariant-loop-i : goal.invariant-loop-i
 invariant-loop-i l = (l.i ≤ l.count) × (all_below l.i (fits l.sheet l.k) ≡ true)
-
-abbrev pub decreases-loop-i : goal.decreases-loop-i
-decreases-loop-i l = l.count - l.i

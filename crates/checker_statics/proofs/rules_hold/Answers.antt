@@ -12,7 +12,7 @@ unfolding all_below
 loop-k-init c = (omega arith, refl, ready-zeros _)
 
 pub section_static-requires : goal.section_static-requires
-section_static-requires c = record { directory_value = c.requires; ready = c.loop-k.invariant.2 }
+section_static-requires c = c.loop-k.invariant.2
 
 pub returns-then-not-section_static : goal.returns-then-not-section_static
 unfolding static

@@ -7,7 +7,4 @@ use Rattle.checker_reactions.specs.Entries.{Ready}
 use Rattle.checker_statics.proofs.rules_hold.Given as goal
 
 abbrev pub invariant-loop-k : goal.invariant-loop-k
-invariant-loop-k l = (l.k ≤ 8) × (all_below l.k (section_static l.sheet) ≡ true) × Ready l.sheet l.table l.last l.previous
-
-abbrev pub decreases-loop-k : goal.decreases-loop-k
-decreases-loop-k l = 8 - l.k
+invariant-loop-k l = (l.k ≤ 8) × (all_below l.k (section_static l.sheet) ≡ true) × Ready l.sheet l.tables

@@ -1,3 +1,4 @@
+use Rattle.std.specs.Prelude.{Some, None}
 use native.Mathlib.Omega.{arith}
 use mathlib.Core.Path.{◌≡◌, refl, sym, ap, ◌∙◌}
 use mathlib.Core.Bool.{Bool, true, false}
@@ -9,7 +10,6 @@ use mir.Val.{Fits}
 use Rattle.sheet.specs.All.{◌and◌, all_below}
 use Rattle.sheet.proofs.All.{first_fails_lem, rest_fails, first_holds, false-and, true-and, all_more, loop_fails, loop_ends}
 use Rattle.sheet.specs.declared.Record.{Record}
-use Rattle.sheet.specs.declared.Found.TheVariants.{Present, Absent}
 use Rattle.sheet.specs.Sheet.{record_of}
 use Rattle.sheet_rules.specs.declared.Operands.{Operands}
 use Rattle.sheet_rules.specs.Fields.{holds}
@@ -39,10 +39,10 @@ module _ (s : List ℕ) (c b : Record) (levels n : ℕ) (some : levels ≡ 0 →
       go : (k : ℕ) → levels ≡ suc k → tree_shape s c b levels n ≡ holds (record_of s 6 n) (λ r. fields_shape s c b r (form_of r.f0) and all_below (operand_count (operands_of s c r)) (operandFits s c b k n r))
       go k e = rw e refl
 
-  tree-absent : record_of s 6 n ≡ Absent → false ≡ tree_shape s c b levels n
+  tree-absent : record_of s 6 n ≡ None → false ≡ tree_shape s c b levels n
   tree-absent e = sym (tree-step ∙ holds_absent _ _ e)
 
-  module _ (r : Record) (here : record_of s 6 n ≡ Present r) where
+  module _ (r : Record) (here : record_of s 6 n ≡ Some r) where
     tree-at : tree_shape s c b levels n ≡ fields_shape s c b r (form_of r.f0) and all_below (operand_count (operands_of s c r)) (operandFits s c b (levels - 1) n r)
     tree-at = tree-step ∙ holds-present _ _ _ here
 
@@ -65,10 +65,10 @@ pub returns-then-levels-eq0 : goal.returns-then-levels-eq0
 returns-then-levels-eq0 t c = tree-none _ _ _ _ _ c.if-levels-eq0.true
 
 pub returns-in_default : goal.returns-in_default
-returns-in_default t c = tree-absent _ _ _ _ _ c.if-levels-eq0.false (sym c.read.ensures ∙ c.in_default.is)
+returns-in_default t c = tree-absent _ _ _ _ _ c.if-levels-eq0.false (sym c.record.ensures ∙ c.in_default.is)
 
 pub returns-then-not-fields_fit : goal.returns-then-not-fields_fit
-returns-then-not-fields_fit t c = first_fails_lem _ _ (sym c.fields_fit.ensures ∙ c.if-not-fields_fit.true) ∙ sym (tree-at _ _ _ _ _ c.if-levels-eq0.false _ (sym c.read.ensures ∙ c.in-Present.is))
+returns-then-not-fields_fit t c = first_fails_lem _ _ (sym c.fields_fit.ensures ∙ c.if-not-fields_fit.true) ∙ sym (tree-at _ _ _ _ _ c.if-levels-eq0.false _ (sym c.record.ensures ∙ c.in-Some.is))
 
 pub overflow_add-count : goal.overflow_add-count
 overflow_add-count t c = small-sum c.operands-o.result c.operands-o.ensures.1
@@ -81,7 +81,7 @@ pub operand-m-requires : goal.operand-m-requires
 operand-m-requires t c = (c.operands-o.ensures.1, small-index _ _ c.operands-o.ensures.1 c.loop-j-test.true)
 
 pub returns-then-n-m : goal.returns-then-n-m
-returns-then-n-m t c = let r-here-is = sym c.read.ensures ∙ c.in-Present.is in
+returns-then-n-m t c = let r-here-is = sym c.record.ensures ∙ c.in-Some.is in
     let operand-high-here = operand-high _ _ _ _ _ _ _ _ c.operands-o.ensures.0 c.operand-m.ensures.0 c.if-n-m.true in
     one-fails _ _ _ _ _ c.if-levels-eq0.false _ r-here-is _ c.operands-o.ensures.0 _ c.loop-j-test.true operand-high-here
 
@@ -89,7 +89,7 @@ pub tree_fits-requires : goal.tree_fits-requires
 tree_fits-requires t c = (omega arith, c.requires)
 
 pub returns-then-not-tree_fits : goal.returns-then-not-tree_fits
-returns-then-not-tree_fits t c = let r-here-is = sym c.read.ensures ∙ c.in-Present.is in
+returns-then-not-tree_fits t c = let r-here-is = sym c.record.ensures ∙ c.in-Some.is in
     one-fails _ _ _ _ _ c.if-levels-eq0.false _ r-here-is _ c.operands-o.ensures.0 _ c.loop-j-test.true
     (operand-tree _ _ _ _ _ _ _ _ _ c.operands-o.ensures.0 c.operand-m.ensures.0 c.if-n-m.false c.tree_fits.ensures
     ∙ c.if-not-tree_fits.true)
@@ -98,7 +98,7 @@ pub loop-j-preserved : goal.loop-j-preserved
 loop-j-preserved t c = (omega arith, all_more c.loop-j.j _ c.loop-j.invariant.1 (operand-tree _ _ _ _ _ _ _ _ _ c.operands-o.ensures.0 c.operand-m.ensures.0 c.if-n-m.false c.tree_fits.ensures ∙ c.if-not-tree_fits.false))
 
 pub returns : goal.returns
-returns t c = let r-here-is = sym c.read.ensures ∙ c.in-Present.is in
+returns t c = let r-here-is = sym c.record.ensures ∙ c.in-Some.is in
     let fields-fit-is = sym c.fields_fit.ensures ∙ c.if-not-fields_fit.false in
     all_fit _ _ _ _ _ c.if-levels-eq0.false _ r-here-is _ c.operands-o.ensures.0 _ fields-fit-is c.loop-j.invariant.0 c.loop-j-test.false
     c.loop-j.invariant.1

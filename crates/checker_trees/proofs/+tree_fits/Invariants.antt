@@ -17,6 +17,3 @@ decreases-tree_fits l = l.levels
 
 abbrev pub invariant-loop-j : goal.invariant-loop-j
 invariant-loop-j l = (l.j ≤ l.count) × (all_below l.j (operandFits l.sheet l.c l.b (l.levels - 1) l.n l.r) ≡ true)
-
-abbrev pub decreases-loop-j : goal.decreases-loop-j
-decreases-loop-j l = l.count - l.j

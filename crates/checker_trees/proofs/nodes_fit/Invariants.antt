@@ -13,6 +13,3 @@ chartFits s k = holds (record_of s 4 k) (trees_shape s)
 
 abbrev pub invariant-loop-k : goal.invariant-loop-k
 invariant-loop-k l = (l.k ≤ l.count) × (all_below l.k (chartFits l.sheet) ≡ true)
-
-abbrev pub decreases-loop-k : goal.decreases-loop-k
-decreases-loop-k l = l.count - l.k

@@ -13,14 +13,14 @@ loop-j-init c = (omega arith, omega arith, refl)
 
 pub returns-in_default : goal.returns-in_default
 unfolding trees_shape
-returns-in_default c = loop_fails _ _ _ _ refl c.loop-j-test.true (holds_absent _ _ (sym c.read.ensures ∙ c.in_default.is))
+returns-in_default c = loop_fails _ _ _ _ refl c.loop-j-test.true (holds_absent _ _ (sym c.record.ensures ∙ c.in_default.is))
 
 pub returns-then-not-tree_fits : goal.returns-then-not-tree_fits
 unfolding trees_shape
-returns-then-not-tree_fits c = loop_fails _ _ _ _ refl c.loop-j-test.true (holds-present _ _ _ (sym c.read.ensures ∙ c.in-Present.is) ∙ sym c.tree_fits.ensures ∙ c.if-not-tree_fits.true)
+returns-then-not-tree_fits c = loop_fails _ _ _ _ refl c.loop-j-test.true (holds-present _ _ _ (sym c.record.ensures ∙ c.in-Some.is) ∙ sym c.tree_fits.ensures ∙ c.if-not-tree_fits.true)
 
 pub loop-j-preserved : goal.loop-j-preserved
-loop-j-preserved c = (omega arith, c.loop-j.invariant.1, all_more c.loop-j.j _ c.loop-j.invariant.2 (holds-present _ _ _ (sym c.read.ensures ∙ c.in-Present.is) ∙ sym c.tree_fits.ensures ∙ c.if-not-tree_fits.false))
+loop-j-preserved c = (omega arith, c.loop-j.invariant.1, all_more c.loop-j.j _ c.loop-j.invariant.2 (holds-present _ _ _ (sym c.record.ensures ∙ c.in-Some.is) ∙ sym c.tree_fits.ensures ∙ c.if-not-tree_fits.false))
 
 pub returns : goal.returns
 unfolding trees_shape

@@ -14,6 +14,3 @@ bodyFits s c j = holds (record_of s 5 (c.f4 + j)) (λ b. tree_shape s c b 64 b.f
 
 abbrev pub invariant-loop-j : goal.invariant-loop-j
 invariant-loop-j l = (l.j ≤ l.count) × (l.count < 65536) × (all_below l.j (bodyFits l.sheet l.c) ≡ true)
-
-abbrev pub decreases-loop-j : goal.decreases-loop-j
-decreases-loop-j l = l.count - l.j

@@ -17,6 +17,3 @@ decreases-type_of l = 3 * l.n + 2
 
 abbrev pub invariant-data_match-loop-j : goal.invariant-data_match-loop-j
 invariant-data_match-loop-j l = (l.j ≤ l.count) × (all_below l.j (datum_matches l.sheet (lower_type l.n (type_of l.sheet l.c l.b)) l.first l.r) ≡ true)
-
-abbrev pub decreases-data_match-loop-j : goal.decreases-data_match-loop-j
-decreases-data_match-loop-j l = l.count - l.j

@@ -1,19 +1,19 @@
 use native.Mathlib.Omega.{arith}
 use Prim.Native.Nat.{◌+◌, ◌-◌}
 use mathlib.Core.Path.{sym, ap}
-use Rattle.sheet.proofs.Sheet.{count_limit, count_opened}
+use Rattle.sheet.proofs.Sheet.{count_limit}
 use Rattle.sheet_rules.specs.Uses.{constant_uses}
 use Rattle.checker_pass.proofs.Marking.{marked_as, loop-start, loop_more, loop-end}
 use Rattle.checker_pass.proofs.Added.{binding_turn, reached-first, reached_next}
 use Rattle.checker_uses.proofs.mark_bindings.Goals as goal
 
 pub loop-k-init : goal.loop-k-init
-loop-k-init c = (count_opened _ _ _ c.count_in-total.ensures _ c.requires.directory_value, (0, reached-first _, loop-start _ _ _ _))
+loop-k-init c = (c.count-total.ensures, (0, reached-first _, loop-start _ _ _ _))
 
 pub mark_binding-k-requires : goal.mark_binding-k-requires
 mark_binding-k-requires c = let x = c.loop-k.invariant in
     let l = c.loop-k-test.true in
-    record { directory_value = c.requires.directory_value; count_in_bounds = omega (arith, x.1.2.kept.long, c.requires.count_in_bounds); k_bound = omega (arith, x.0) }
+    record { count_in_bounds = omega (arith, x.1.2.kept.long, c.requires.count_in_bounds); k_bound = omega (arith, x.0) }
 
 pub overflow_add-k : goal.overflow_add-k
 overflow_add-k c = let sheet = c.args.sheet.now in

@@ -1,6 +1,6 @@
 use native.Mathlib.Omega.{arith}
 use Prim.Native.Nat.{◌-◌}
-use Rattle.sheet.proofs.Sheet.{count_limit, count_opened}
+use Rattle.sheet.proofs.Sheet.{count_limit}
 use Rattle.sheet_rules.specs.Uses.{over_charts}
 use Rattle.checker_pass.proofs.Marking.{count-start, count_more_lem, count-end}
 use Rattle.checker_pass.proofs.Seen.{roots_start, roots_more, roots_end}
@@ -10,7 +10,7 @@ pub loop-i-init : goal.loop-i-init
 loop-i-init c = (omega arith, omega arith, count-start _, roots_start _ _ _ c.requires.by_index)
 
 pub mark_chart-gone-requires : goal.mark_chart-gone-requires
-mark_chart-gone-requires c = record { directory_value = c.requires.directory_value; count_in_bounds = omega (arith, c.loop-i.invariant.3.kept.long, c.requires.count_in_bounds) }
+mark_chart-gone-requires c = record { count_in_bounds = omega (arith, c.loop-i.invariant.3.kept.long, c.requires.count_in_bounds) }
 
 pub overflow_add-gone : goal.overflow_add-gone
 overflow_add-gone c = let args = c.args in
@@ -19,7 +19,7 @@ overflow_add-gone c = let args = c.args in
       c.loop-i.invariant.1,
       c.mark_chart-gone.ensures.1,
       count_limit args.sheet.now 4,
-      count_opened _ _ _ c.count_in-total.ensures args.sheet.now c.requires.directory_value,
+      c.count-total.ensures,
     )
 
 pub loop-i-preserved : goal.loop-i-preserved
@@ -31,7 +31,7 @@ shape_of-marks c = c.loop-i.invariant.3.kept.long
 pub returns : goal.returns
 unfolding over_charts
 returns c = let args = c.args in
-    let count-opened-here = count_opened _ _ _ c.count_in-total.ensures args.sheet.now c.requires.directory_value in (
+    let count-opened-here = c.count-total.ensures in (
       count-end _ c.loop-i.i _ _ (omega (arith, count-opened-here)) c.loop-i.invariant.2,
       omega (arith, c.loop-i.invariant.1, count_limit args.sheet.now 4, count-opened-here),
       roots_end _ _ _ _ _ _ (omega (arith, count-opened-here)) c.loop-i.invariant.3,

@@ -7,6 +7,3 @@ use Rattle.checker_uses.proofs.mark_charts.Given as goal
 
 abbrev pub invariant-loop-i : goal.invariant-loop-i
 invariant-loop-i l = (l.i ≤ l.total) × (l.gone ≤ 65536 * l.i) × (l.gone ≡ sum_below l.i (chart_turn l.sheet)) × RootsMarked l.sheet l.i l.count l.initial.marks l.marks
-
-abbrev pub decreases-loop-i : goal.decreases-loop-i
-decreases-loop-i l = l.total - l.i

@@ -1,7 +1,7 @@
 use native.Mathlib.Omega.{arith}
 use Prim.Native.Nat.{◌-◌}
 use mathlib.Core.Path.{refl, ◌∙◌}
-use Rattle.sheet.proofs.Sheet.{count_limit, record_present, count_opened}
+use Rattle.sheet.proofs.Sheet.{count_limit, record_present}
 use Rattle.sheet_rules.specs.Uses.{gone_over}
 use Rattle.sheet_rules.proofs.Fields.{number-present}
 use Rattle.checker_pass.proofs.Marking.{kept-all, kept_set, kept_then, kept_lower, kept_at, room_set}
@@ -10,19 +10,18 @@ use Rattle.checker_pass.proofs.Going.{going_start, going_more, test_gives}
 use Rattle.checker_uses.proofs.used_once.Goals as goal
 
 pub clear-requires : goal.clear-requires
-clear-requires c = omega (arith, count_opened _ _ _ c.count_in-count.ensures c.args.sheet.now c.requires.directory_value, c.requires.nodes_in_bounds)
+clear-requires c = omega (arith, c.count-count.ensures, c.requires.nodes_in_bounds)
 
 pub mark_charts-bodies-requires : goal.mark_charts-bodies-requires
 mark_charts-bodies-requires c = let args = c.args in
-    record { directory_value = c.requires.directory_value; count_in_bounds = omega (arith, count_opened _ _ _ c.count_in-count.ensures args.sheet.now c.requires.directory_value, c.requires.nodes_in_bounds, c.clear.ensures.kept.long); by_index = c.clear.ensures.inside }
+    record { count_in_bounds = omega (arith, c.count-count.ensures, c.requires.nodes_in_bounds, c.clear.ensures.kept.long); by_index = c.clear.ensures.inside }
 
 pub mark_bindings-bindings-requires : goal.mark_bindings-bindings-requires
 mark_bindings-bindings-requires c = let args = c.args in
     record {
-      directory_value = c.requires.directory_value;
       count_in_bounds = omega (
         arith,
-        count_opened _ _ _ c.count_in-count.ensures args.sheet.now c.requires.directory_value,
+        c.count-count.ensures,
         c.requires.nodes_in_bounds,
         c.clear.ensures.kept.long,
         c.mark_charts-bodies.ensures.2.kept.long,
@@ -35,7 +34,7 @@ overflow_add-gone c = omega (arith, c.mark_charts-bodies.ensures.1, c.mark_bindi
 pub loop-n-init : goal.loop-n-init
 unfolding gone_over
 loop-n-init c = let args = c.args in
-    let count-opened-here = count_opened _ _ _ c.count_in-count.ensures args.sheet.now c.requires.directory_value in
+    let count-opened-here = c.count-count.ensures in
     let agreed-start-here = agreed_start _ _ _ _ _ _ count-opened-here refl c.mark_charts-bodies.ensures.2 c.mark_bindings-bindings.ensures.1 in (
       omega (arith, c.mark_charts-bodies.ensures.0, c.mark_bindings-bindings.ensures.0, count-opened-here),
       omega (arith, c.mark_charts-bodies.ensures.1, c.mark_bindings-bindings.ensures.0, count_limit args.sheet.now 7, count_limit args.sheet.now 6, count-opened-here),
@@ -57,7 +56,6 @@ bounds-marks-n-in-loop-n c = omega (arith, c.loop-n.invariant.2.long, c.loop-n.i
 
 pub mark_operands-gone-requires : goal.mark_operands-gone-requires
 mark_operands-gone-requires c = record {
-  directory_value = c.requires.directory_value;
   m_in_bounds = room_set c.loop-n.marks (c.loop-n.n - 1) _
       (omega (
         arith,
@@ -91,7 +89,7 @@ shape_of-marks c = c.loop-n.invariant.2.long ∙ c.mark_bindings-bindings.ensure
 
 pub returns : goal.returns
 returns c = let args = c.args in
-    let count-opened-here = count_opened _ _ _ c.count_in-count.ensures args.sheet.now c.requires.directory_value in
+    let count-opened-here = c.count-count.ensures in
     let kept-then-here = kept_then _ _ _ _ c.clear.ensures.kept (kept_then _ _ _ _ c.mark_charts-bodies.ensures.2.kept c.mark_bindings-bindings.ensures.1.kept) in
     let kept-then-here2 = kept_then _ _ _ _ (kept_at _ _ _ _ count-opened-here kept-then-here) c.loop-n.invariant.2 in
     test_gives _ _ _ _ _ _ (omega arith) kept-then-here2 c.loop-n.invariant.3 c.loop-n.invariant.0

@@ -8,6 +8,3 @@ use Rattle.checker_uses.proofs.used_once.Given as goal
 
 abbrev pub invariant-loop-n : goal.invariant-loop-n
 invariant-loop-n l = (l.gone + l.n ≡ gone_over l.sheet) × (l.gone + l.n ≤ 268378110) × Kept (count_of l.sheet 6) l.initial.marks l.marks × Going l.sheet l.n l.marks l.once
-
-abbrev pub decreases-loop-n : goal.decreases-loop-n
-decreases-loop-n l = l.n

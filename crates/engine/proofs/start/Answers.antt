@@ -1,18 +1,19 @@
 use mathlib.Core.Path.{sym, ap, ◌∙◌}
+use Rattle.sheet_rules.specs.Check.{check_of}
 use Rattle.machine.specs.declared.Answer.{Answer}
 use Rattle.machine.specs.Play.{ended}
 use Rattle.machine_events.proofs.Laws.{start-shape, start-static}
 use Rattle.engine.proofs.start.Goals as goal
 
-pub start_passed-requires : goal.start_passed-requires
-start_passed-requires c = (c.directory-directory.ensures, sym c.check_opened.ensures.0 ∙ c.in-Passed.is)
+pub new-requires : goal.new-requires
+new-requires c = sym c.check_opened.ensures.0 ∙ c.in-Passed.is
 
 pub returns-in-Shape : goal.returns-in-Shape
 returns-in-Shape c = let result = c.args.res.now in
-    let shape = sym c.check_opened.ensures.0 ∙ c.in-Shape.is in
+    let shape = ap check_of (sym c.new-opened.ensures) ∙ sym c.check_opened.ensures.0 ∙ c.in-Shape.is in
     ap (λ (a : Answer). ended a result) c.answered.ensures ∙ sym (start-shape _ _ shape)
 
 pub returns-in-Static : goal.returns-in-Static
 returns-in-Static c = let result = c.args.res.now in
-    let static = sym c.check_opened.ensures.0 ∙ c.in-Static.is in
+    let static = ap check_of (sym c.new-opened.ensures) ∙ sym c.check_opened.ensures.0 ∙ c.in-Static.is in
     ap (λ (a : Answer). ended a result) c.answered-in-Static.ensures ∙ sym (start-static _ _ static)

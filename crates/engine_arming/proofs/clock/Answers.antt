@@ -4,15 +4,7 @@ use Rattle.engine_ints.proofs.Words.{word_back}
 use Rattle.machine.specs.declared.Ran.TheVariants.{Done}
 use Rattle.machine.specs.Run.{world}
 use Rattle.engine_arming.proofs.Acts.{clock-runs}
-use native.Mathlib.Omega.{arith}
-use borrow.Author.Rules.{rules}
 use Rattle.engine_arming.proofs.clock.Goals as goal
-
-pub first_word-requires : goal.first_word-requires
-first_word-requires c = (c.requires.whole, c.requires.number, let h = c.requires.inside in let k = c.requires.short in omega arith)
-
-pub set_cell-requires : goal.set_cell-requires
-set_cell-requires c = let h = c.requires.inside in let e = c.first_word.ensures in omega arith
 
 pub returns : goal.returns
 returns c = λ s lo n depth v. ap (λ st. world (Done c.args.left) st lo) (rw (word_back _ (eqb c.args.r.f0 38) c.bool_word-running.ensures) at (rw c.first_word.ensures at c.set_cell.ensures)) ∙ clock-runs s _ _ lo n _ v depth _

@@ -3,37 +3,22 @@ use native.Mathlib.Omega.{arith}
 use Rattle.engine_bodies.proofs.Laws.{not_stuck, done_left, refused-left, refused_some, done_event, refused-event}
 use Rattle.engine_bodies.proofs.event_body.Goals as goal
 
-pub limit-limit-requires : goal.limit-limit-requires
-limit-limit-requires c = c.requires.0.playing.directory
-
-pub run_body-r-requires : goal.run_body-r-requires
-run_body-r-requires c = (c.requires.0, c.limit-limit.ensures.0)
-
 pub overflow_sub-limit : goal.overflow_sub-limit
 overflow_sub-limit c = let m = c.limit-limit.ensures.0 in
-    let h = c.requires.0 in
-    let l = done_left h _ (sym c.run_body-r.ensures.0 ∙ c.in-Done.is) in
+    let l = done_left c.args.yard.now.passed c.requires.0 _ (sym c.in-Ok.ensures.0) in
     omega arith
 
-pub overflow_sub-limit-in-Refused : goal.overflow_sub-limit-in-Refused
-overflow_sub-limit-in-Refused c = let m = c.limit-limit.ensures.0 in
-    let h = c.requires.0 in
-    let l = refused-left h _ _ (sym c.run_body-r.ensures.0 ∙ c.in-Refused.is) in
+pub overflow_sub-limit-in-Err-Refused : goal.overflow_sub-limit-in-Err-Refused
+overflow_sub-limit-in-Err-Refused c = let m = c.limit-limit.ensures.0 in
+    let l = refused-left c.args.yard.now.passed c.requires.0 _ _ (sym (rw c.in-Err-Refused.field-0-is at c.in-Err-Refused.ensures.0)) in
     omega arith
 
-pub never_taken-requires : goal.never_taken-requires
-never_taken-requires c = absurd
-    (not_stuck c.requires.0 (sym c.run_body-r.ensures.0 ∙ c.in-Stuck.is))
+pub unreachable-requires : goal.unreachable-requires
+unreachable-requires c = not_stuck c.args.yard.now.passed c.requires.0 (sym (rw c.in-Err-Stuck.field-0-is at c.in-Err-Stuck.ensures.0))
 
-pub returns-in-Done : goal.returns-in-Done
-returns-in-Done c = let h = c.requires.0 in
-    let ran = c.run_body-r.ensures in
-    let m = c.limit-limit.ensures.0 in
-    let end = sym ran.0 ∙ c.in-Done.is in
-    done_event h _ _ _ _ _ m c.answer.ensures.0 end (c.answer.ensures.1 refl ∙ ran.1)
+pub returns-in-Ok : goal.returns-in-Ok
+returns-in-Ok c = done_event c.args.yard.now.passed c.requires.0 _ _ _ _ _ c.limit-limit.ensures.0 c.answer.ensures.0 (sym c.in-Ok.ensures.0) (c.answer.ensures.1 refl ∙ c.run_body.ensures.1)
 
-pub returns-in-Refused : goal.returns-in-Refused
-returns-in-Refused c = let h = c.requires.0 in
-    let m = c.limit-limit.ensures.0 in
-    let ran = sym c.run_body-r.ensures.0 ∙ c.in-Refused.is in
-    refused-event h _ _ _ _ _ m _ c.answer-in-Refused.ensures.0 ran (c.answer-in-Refused.ensures.2 (refused_some h _ _ ran))
+pub returns-in-Err-Refused : goal.returns-in-Err-Refused
+returns-in-Err-Refused c = let ran = sym (rw c.in-Err-Refused.field-0-is at c.in-Err-Refused.ensures.0) in
+    refused-event c.args.yard.now.passed c.requires.0 _ _ _ _ _ c.limit-limit.ensures.0 _ c.answer-in-Err-Refused.ensures.0 ran (c.answer-in-Err-Refused.ensures.2 (refused_some c.args.yard.now.passed c.requires.0 _ _ ran))

@@ -10,11 +10,11 @@ use Rattle.engine_cells.proofs.fill.Goals as goal
 
 pub loop-i-init : goal.loop-i-init
 unfolding sum_below first_binding
-loop-i-init c = (omega arith, refl, refl, rows_none _ _ c.requires.2)
+loop-i-init c = (omega arith, refl, refl, rows_none _ _ c.requires.1)
 
-pub never_taken-requires : goal.never_taken-requires
-never_taken-requires c = absurd
-    (let ok = c.requires.1 in
+pub prove-unreachable-requires : goal.prove-unreachable-requires
+prove-unreachable-requires c = absurd
+    (let ok = c.requires.0 in
     let l = c.loop-i-test.true in
     let s = c.args.sheet.now in
     let j = c.loop-i.i in
@@ -26,17 +26,17 @@ overflow_mul-i c = let l = c.loop-i-test.true in
     record { fits = omega (arith, c.elements-count.ensures.1) }
 
 pub fill_row-cell-requires : goal.fill_row-cell-requires
-fill_row-cell-requires c = let ok = c.requires.1 in
+fill_row-cell-requires c = let ok = c.requires.0 in
     let l = c.loop-i-test.true in
     let n = c.elements-count.ensures in
     let i = c.loop-i.invariant in
-    let p = sym c.chart_bound.ensures ∙ c.in-Present.is in
+    let p = sym c.chart_bound.ensures ∙ c.in-Some.is in
     let s = c.args.sheet.now in
     let j = c.loop-i.i in
     let m : j < elements_of s = omega (arith, n.0) in
     let few = chart_variables_lem _ ok _ _ (bound-chart _ ok _ _ m i.2 _ p) in
     let inside = bound-inside _ ok _ _ m i.2 _ p _ i.1 in
-    (c.requires.0, i.3.size, few, omega (arith, n.1), omega (arith, inside, cells_limit _ ok))
+    (i.3.size, few, omega (arith, n.1), omega (arith, inside, cells_limit _ ok))
 
 pub overflow_mul-cells : goal.overflow_mul-cells
 overflow_mul-cells c = let l = c.loop-i-test.true in
@@ -60,10 +60,10 @@ overflow_add-k c = let l = c.loop-i-test.true in
     record { fits = omega (arith, c.loop-i.invariant.2, most, c.elements-count.ensures.1, c.records_for-k.ensures.1) }
 
 pub loop-i-preserved : goal.loop-i-preserved
-loop-i-preserved c = let ok = c.requires.1 in
+loop-i-preserved c = let ok = c.requires.0 in
     let l = c.loop-i-test.true in
     let i = c.loop-i.invariant in
-    let p = sym c.chart_bound.ensures ∙ c.in-Present.is in
+    let p = sym c.chart_bound.ensures ∙ c.in-Some.is in
     let s = c.args.sheet.now in
     let j = c.loop-i.i in
     let m : j < elements_of s = omega (arith, c.elements-count.ensures.0) in
@@ -72,7 +72,7 @@ loop-i-preserved c = let ok = c.requires.1 in
     (omega arith, cell, binding_next _ ok _ _ m i.2 _ p _ c.records_for-k.ensures.0, rows)
 
 pub returns : goal.returns
-returns c = let ok = c.requires.1 in
+returns c = let ok = c.requires.0 in
     let l = c.loop-i-test.false in
     let n = c.elements-count.ensures.0 in
     let i = c.loop-i.invariant in

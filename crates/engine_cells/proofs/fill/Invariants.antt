@@ -8,6 +8,3 @@ use Rattle.engine_cells.proofs.fill.Given as goal
 
 abbrev pub invariant-loop-i : goal.invariant-loop-i
 invariant-loop-i l = (l.i ≤ l.count) × (l.cell ≡ sum_below l.i (cells_bound l.sheet)) × (l.k ≡ first_binding l.sheet l.i) × Rows l.sheet l.i l.cells
-
-abbrev pub decreases-loop-i : goal.decreases-loop-i
-decreases-loop-i l = l.count - l.i

@@ -6,6 +6,3 @@ use Rattle.engine_cells.proofs.fill_row.Given as goal
 
 abbrev pub invariant-loop-n : goal.invariant-loop-n
 invariant-loop-n l = (l.n ≤ l.count) × (l.next ≡ l.cell + cells_before l.sheet l.c l.n) × Row l.sheet l.c l.at l.cell l.n l.initial.cells l.cells
-
-abbrev pub decreases-loop-n : goal.decreases-loop-n
-decreases-loop-n l = l.count - l.n

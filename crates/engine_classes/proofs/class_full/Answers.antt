@@ -1,7 +1,7 @@
-use Prim.Native.Nat.{◌+◌, ◌-◌}
+use Prim.Native.Nat.{◌+◌}
 use mathlib.Core.Path.{sym, subst, ◌∙◌}
 use native.Mathlib.Omega.{arith}
-use Rattle.engine_classes.proofs.Laws.{Looked, looked_none, end-inside, class-few, looked_few, looked_inside, looked_found, looked_full, looked_passed}
+use Rattle.engine_classes.proofs.Laws.{Looked, looked_none, class-few, looked_few, looked_found, looked_full, looked_passed}
 use Rattle.engine_classes.proofs.class_full.Goals as goal
 use Rattle.engine_classes.proofs.class_full.Goals.{then-same_class+else-last-end, else-same_class}
 
@@ -11,40 +11,10 @@ returns-then-n-lt-CLASS_LIMIT c = class-few _ _ c.requires.0 c.requires.1 c.requ
 pub loop-at-init : goal.loop-at-init
 loop-at-init c = looked_none _ _ c.requires.0 c.requires.1 c.requires.2 _ (let h = c.if-n-lt-CLASS_LIMIT.false in omega arith) _ _ c.place_at-last.ensures c.place_at-at.ensures
 
-pub same_class-requires : goal.same_class-requires
-same_class-requires c = let end = c.place_at-end.ensures in
-    let args = c.args in
-    omega (
-      arith,
-      looked_inside _ _ c.requires.0 c.requires.1 c.requires.2 _ _ _ c.loop-at.invariant c.loop-at-test.true,
-      end-inside _ _ c.requires.0 c.requires.1 c.requires.2 args.t,
-    )
-
-pub overflow_add-last : goal.overflow_add-last
-overflow_add-last c = let end = c.place_at-end.ensures in
-    let args = c.args in
-    record { fits = omega (arith, c.loop-at.invariant.some, c.loop-at.invariant.behind, end-inside _ _ c.requires.0 c.requires.1 c.requires.2 args.t) }
-
 pub returns-then-last-end : goal.returns-then-last-end
 returns-then-last-end c = let end = c.place_at-end.ensures in
     let args = c.args in
     looked_full _ _ c.requires.0 c.requires.1 c.requires.2 _ _ _ c.loop-at.invariant c.loop-at-test.true (sym c.same_class.ensures ∙ c.if-same_class.true) (c.if-last-end.true ∙ end)
-
-pub overflow_add-at : goal.overflow_add-at
-overflow_add-at c = let end = c.place_at-end.ensures in
-    let args = c.args in
-    record {
-      fits = omega (
-        arith,
-        looked_inside _ _ c.requires.0 c.requires.1 c.requires.2 _ _ _ c.loop-at.invariant c.loop-at-test.true,
-        end-inside _ _ c.requires.0 c.requires.1 c.requires.2 args.t,
-      );
-    }
-
-pub loop-at-smaller : goal.loop-at-smaller
-loop-at-smaller c = let end = c.place_at-end.ensures in
-    let args = c.args in
-    omega (arith, looked_inside _ _ c.requires.0 c.requires.1 c.requires.2 _ _ _ c.loop-at.invariant c.loop-at-test.true)
 
 pub loop-at-preserved : goal.loop-at-preserved
 loop-at-preserved c =

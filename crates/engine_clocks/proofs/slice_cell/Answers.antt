@@ -2,6 +2,7 @@ use native.Mathlib.Omega.{arith}
 use mathlib.Core.Path.{sym, ap, ◌∙◌}
 use lib.ListN.{get_or}
 use lib.IntN.{pos}
+use borrow.Author.Rules.{rules}
 use Rattle.machine.specs.State.{cell_at, place_at, state_length, word_of}
 use Rattle.machine.specs.Play.{ticks}
 use Rattle.engine_queue.specs.Changed.{changed_to}
@@ -11,69 +12,69 @@ use Rattle.engine_clocks.proofs.slice_cell.Goals as goal
 
 pub cell_at-at-requires : goal.cell_at-at-requires
 unfolding cell_at
-cell_at-at-requires c = let l = c.requires.2 in let i = c.requires.3.inside in omega arith
+cell_at-at-requires c = let l = c.requires.1 in let i = c.requires.2.inside in omega arith
 
 pub offset_bounds-st-at : goal.offset_bounds-st-at
 unfolding cell_at
-offset_bounds-st-at c = let e = c.cell_at-at.ensures in let l = c.requires.2 in let i = c.requires.3.inside in omega arith
+offset_bounds-st-at c = let e = c.cell_at-at.ensures in let l = c.requires.1 in let i = c.requires.2.inside in omega arith
 
-pub slice_copy_out-t-11 : goal.slice_copy_out-t-11
+pub slice_copy_out-t-9 : goal.slice_copy_out-t-9
 unfolding cell_at place_at state_length
-slice_copy_out-t-11 c = let e = c.cell_at-at.ensures in let i = c.requires.3.inside in let m = c.requires.3.whole in omega arith
+slice_copy_out-t-9 c = let e = c.cell_at-at.ensures in let i = c.requires.2.inside in let m = c.requires.2.whole in omega arith
 
 pub returns-then-st-at-eq0 : goal.returns-then-st-at-eq0
 unfolding changed_to word_of
 returns-then-st-at-eq0 c = let st = c.args.st.now in
-    rw (← c.cell_at-at.ensures) (cell_stopped _ _ _ _ _ (bits_zero (get_or st c.cell_at-at.result (pos 0)) c.t11-1.given c.if-st-at-eq0.true))
+    rw (← c.cell_at-at.ensures) (cell_stopped _ _ _ _ _ (bits_zero (get_or st c.cell_at-at.result (pos 0)) (search rules) c.if-st-at-eq0.true))
 
 pub tick_timer-requires : goal.tick_timer-requires
 unfolding word_of
 tick_timer-requires c = let args = c.args in
-    let some = bits_some (get_or args.st.now c.cell_at-at.result (pos 0)) c.t11-1.given c.if-st-at-eq0.false in
-    cell_runs _ _ _ _ _ _ c.cell_at-at.ensures c.requires.3 (is_clock_lem 4 _ c.type_at-t.ensures c.if-t-eq4.true (omega arith) (omega arith)) some
+    let some = bits_some (get_or args.st.now c.cell_at-at.result (pos 0)) (search rules) c.if-st-at-eq0.false in
+    cell_runs _ _ _ _ _ _ c.cell_at-at.ensures c.requires.2 (is_clock_lem 4 _ c.type_at.ensures c.in-4.is (omega arith) (omega arith)) some
 
-pub returns-then-t-eq4 : goal.returns-then-t-eq4
+pub returns-in-4 : goal.returns-in-4
 unfolding word_of
-returns-then-t-eq4 c = let args = c.args in
-    let some = bits_some (get_or args.st.now c.cell_at-at.result (pos 0)) c.t11-1.given c.if-st-at-eq0.false in
-    let clock = is_clock_lem 4 _ c.type_at-t.ensures c.if-t-eq4.true (omega arith) (omega arith) in
+returns-in-4 c = let args = c.args in
+    let some = bits_some (get_or args.st.now c.cell_at-at.result (pos 0)) (search rules) c.if-st-at-eq0.false in
+    let clock = is_clock_lem 4 _ c.type_at.ensures c.in-4.is (omega arith) (omega arith) in
     rw (← c.cell_at-at.ensures)
     (cell_ticks _ _ _ _ _ clock some
-    ∙ ap (λ k. ticks args.sheet.now args.e k c.cell_at-at.result args.st.now) (sym c.type_at-t.ensures ∙ c.if-t-eq4.true)
+    ∙ ap (λ k. ticks args.sheet.now args.e k c.cell_at-at.result args.st.now) (sym c.type_at.ensures ∙ c.in-4.is)
     ∙ c.tick_timer.ensures _ _)
 
 pub tick_timeout-requires : goal.tick_timeout-requires
 unfolding word_of
 tick_timeout-requires c = let args = c.args in
-    let some = bits_some (get_or args.st.now c.cell_at-at.result (pos 0)) c.t11-1.given c.if-st-at-eq0.false in
-    (cell_runs _ _ _ _ _ _ c.cell_at-at.ensures c.requires.3 (is_clock_lem 5 _ c.type_at-t.ensures c.if-t-eq5.true (omega arith) (omega arith)) some, c.requires.1)
+    let some = bits_some (get_or args.st.now c.cell_at-at.result (pos 0)) (search rules) c.if-st-at-eq0.false in
+    (cell_runs _ _ _ _ _ _ c.cell_at-at.ensures c.requires.2 (is_clock_lem 5 _ c.type_at.ensures c.in-5.is (omega arith) (omega arith)) some, c.requires.0)
 
-pub returns-then-t-eq5 : goal.returns-then-t-eq5
+pub returns-in-5 : goal.returns-in-5
 unfolding word_of
-returns-then-t-eq5 c = let args = c.args in
-    let some = bits_some (get_or args.st.now c.cell_at-at.result (pos 0)) c.t11-1.given c.if-st-at-eq0.false in
-    let clock = is_clock_lem 5 _ c.type_at-t.ensures c.if-t-eq5.true (omega arith) (omega arith) in
+returns-in-5 c = let args = c.args in
+    let some = bits_some (get_or args.st.now c.cell_at-at.result (pos 0)) (search rules) c.if-st-at-eq0.false in
+    let clock = is_clock_lem 5 _ c.type_at.ensures c.in-5.is (omega arith) (omega arith) in
     rw (← c.cell_at-at.ensures)
     (cell_ticks _ _ _ _ _ clock some
-    ∙ ap (λ k. ticks args.sheet.now args.e k c.cell_at-at.result args.st.now) (sym c.type_at-t.ensures ∙ c.if-t-eq5.true)
-    ∙ c.tick_timeout.ensures _ c.requires.3.whole (cell_named _ _ _ _ _ _ c.cell_at-at.ensures c.requires.3 clock some (not_timer 5 _ c.type_at-t.ensures c.if-t-eq5.true (omega arith))))
+    ∙ ap (λ k. ticks args.sheet.now args.e k c.cell_at-at.result args.st.now) (sym c.type_at.ensures ∙ c.in-5.is)
+    ∙ c.tick_timeout.ensures _ c.requires.2.whole (cell_named _ _ _ _ _ _ c.cell_at-at.ensures c.requires.2 clock some (not_timer 5 _ c.type_at.ensures c.in-5.is (omega arith))))
 
 pub tick_cycler-requires : goal.tick_cycler-requires
 unfolding word_of
 tick_cycler-requires c = let args = c.args in
-    let some = bits_some (get_or args.st.now c.cell_at-at.result (pos 0)) c.t11-1.given c.if-st-at-eq0.false in
-    (cell_runs _ _ _ _ _ _ c.cell_at-at.ensures c.requires.3 (is_clock_lem 6 _ c.type_at-t.ensures c.if-t-eq6.true (omega arith) (omega arith)) some, c.requires.1)
+    let some = bits_some (get_or args.st.now c.cell_at-at.result (pos 0)) (search rules) c.if-st-at-eq0.false in
+    (cell_runs _ _ _ _ _ _ c.cell_at-at.ensures c.requires.2 (is_clock_lem 6 _ c.type_at.ensures c.in-6.is (omega arith) (omega arith)) some, c.requires.0)
 
-pub returns-then-t-eq6 : goal.returns-then-t-eq6
+pub returns-in-6 : goal.returns-in-6
 unfolding word_of
-returns-then-t-eq6 c = let args = c.args in
-    let some = bits_some (get_or args.st.now c.cell_at-at.result (pos 0)) c.t11-1.given c.if-st-at-eq0.false in
-    let clock = is_clock_lem 6 _ c.type_at-t.ensures c.if-t-eq6.true (omega arith) (omega arith) in
+returns-in-6 c = let args = c.args in
+    let some = bits_some (get_or args.st.now c.cell_at-at.result (pos 0)) (search rules) c.if-st-at-eq0.false in
+    let clock = is_clock_lem 6 _ c.type_at.ensures c.in-6.is (omega arith) (omega arith) in
     rw (← c.cell_at-at.ensures)
     (cell_ticks _ _ _ _ _ clock some
-    ∙ ap (λ k. ticks args.sheet.now args.e k c.cell_at-at.result args.st.now) (sym c.type_at-t.ensures ∙ c.if-t-eq6.true)
-    ∙ c.tick_cycler.ensures _ c.requires.3.whole (cell_named _ _ _ _ _ _ c.cell_at-at.ensures c.requires.3 clock some (not_timer 6 _ c.type_at-t.ensures c.if-t-eq6.true (omega arith))))
+    ∙ ap (λ k. ticks args.sheet.now args.e k c.cell_at-at.result args.st.now) (sym c.type_at.ensures ∙ c.in-6.is)
+    ∙ c.tick_cycler.ensures _ c.requires.2.whole (cell_named _ _ _ _ _ _ c.cell_at-at.ensures c.requires.2 clock some (not_timer 6 _ c.type_at.ensures c.in-6.is (omega arith))))
 
-pub returns : goal.returns
+pub returns-in_default : goal.returns-in_default
 unfolding changed_to
-returns c = cell_data _ _ _ _ _ (no_clock_lem _ (λ q. c.if-t-eq4.false (c.type_at-t.ensures ∙ q)) (λ q. c.if-t-eq5.false (c.type_at-t.ensures ∙ q)) (λ q. c.if-t-eq6.false (c.type_at-t.ensures ∙ q)))
+returns-in_default c = cell_data _ _ _ _ _ (no_clock_lem _ (λ q. omega arith) (λ q. omega arith) (λ q. omega arith))

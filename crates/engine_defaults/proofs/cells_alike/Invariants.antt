@@ -8,6 +8,3 @@ use Rattle.engine_defaults.proofs.cells_alike.Given as goal
 
 abbrev pub invariant-loop-k : goal.invariant-loop-k
 invariant-loop-k l = (l.k ≤ l.n) × (length l.st ≡ length l.initial.st) × (l.st ≡ put_words l.initial.st (cell_at l.cell) (alike l.k (cell_of_word l.z)))
-
-abbrev pub decreases-loop-k : goal.decreases-loop-k
-decreases-loop-k l = l.n - l.k

@@ -18,15 +18,15 @@ cells_alike-requires c = let l = c.loop-j-test.true in
     let e = c.loop-j.invariant.2 in
     let h = c.loop-j.invariant.1 in
     let x = c.cells_taken-taken.ensures.0 in
-    let w = c.requires.1.few in
-    let k = c.requires.1.inside in
+    let w = c.requires.few in
+    let k = c.requires.inside in
     record { few = omega arith; inside = omega arith }
 
 pub overflow_add-next : goal.overflow_add-next
 overflow_add-next c = let l = c.loop-j-test.true in
     let e = c.loop-j.invariant.2 in
     let v = variable-cells c.args.sheet.now c.args.c c.loop-j.j _ l in
-    let w = c.requires.1.few in
+    let w = c.requires.few in
     let x = c.cells_taken-taken.ensures.0 in
     record { fits = omega arith }
 
@@ -36,7 +36,7 @@ loop-j-preserved c = let l = c.loop-j-test.true in
     let args = c.args in
     let e = c.loop-j.invariant.2 in
     let v = variable-cells args.sheet.now args.c c.loop-j.j _ l in
-    let w = c.requires.1.inside in
+    let w = c.requires.inside in
     let x = c.cells_taken-taken.ensures.0 in
     let z = given c.default_of-z.result c.default_of-z.type_inv ∙ c.default_of-z.ensures in (
       omega arith,

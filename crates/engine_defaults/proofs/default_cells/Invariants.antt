@@ -7,6 +7,3 @@ use Rattle.engine_defaults.proofs.default_cells.Given as goal
 
 abbrev pub invariant-loop-j : goal.invariant-loop-j
 invariant-loop-j l = (l.j ≤ l.count) × (length l.st ≡ length l.initial.st) × (l.next ≡ l.cell + cells_before l.sheet l.c l.j) × Written l.sheet l.c l.initial.st l.cell l.st l.j
-
-abbrev pub decreases-loop-j : goal.decreases-loop-j
-decreases-loop-j l = l.count - l.j

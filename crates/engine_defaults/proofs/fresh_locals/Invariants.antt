@@ -4,6 +4,3 @@ use Rattle.engine_defaults.proofs.fresh_locals.Given as goal
 
 abbrev pub invariant-loop-i : goal.invariant-loop-i
 invariant-loop-i l = (l.i ≤ l.count) × Begun l.sheet l.b l.d l.i l.locals
-
-abbrev pub decreases-loop-i : goal.decreases-loop-i
-decreases-loop-i l = l.count - l.i

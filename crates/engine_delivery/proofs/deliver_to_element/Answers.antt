@@ -8,34 +8,28 @@ use Rattle.engine_delivery.proofs.Laws.{number_read, data_read}
 use Rattle.engine_delivery.proofs.deliver_to_element.Goals as goal
 
 pub number-e-requires : goal.number-e-requires
-number-e-requires c = ap (le_z (pos 0)) (given c.args.t.receiver c.struct_told-1.given.1.0.1) ∙ receiver-number _ c.requires.0.beside.playing.passed _ c.requires.0.fits
+number-e-requires c = ap (le_z (pos 0)) (given c.args.t.receiver c.struct_told-1.given.1.0.1) ∙ receiver-number _ c.args.yard.now.passed _ c.requires.0.fits
 
 pub chart_number-n-requires : goal.chart_number-n-requires
 chart_number-n-requires c = let word = c.args.t.receiver in
     let receiver = number_read word c.struct_told-1.given.1.0.1 _ c.number-e.ensures in
-    (c.requires.0.beside.playing.directory, c.requires.0.beside.playing.passed, c.requires.0.beside.playing.cells, receiver-bound _ c.requires.0.beside.playing.passed _ c.requires.0.fits c.requires.0.class c.requires.1 _ receiver)
+    receiver-bound _ c.args.yard.now.passed _ c.requires.0.fits c.requires.0.class c.requires.1 _ receiver
 
-pub read-requires : goal.read-requires
-read-requires c = c.requires.0.beside.playing.directory
-
-pub never_taken-requires : goal.never_taken-requires
-never_taken-requires c = absurd
+pub prove-unreachable-requires : goal.prove-unreachable-requires
+prove-unreachable-requires c = absurd
     (let word = c.args.t.receiver in
     let receiver = number_read word c.struct_told-1.given.1.0.1 _ c.number-e.ensures in
-    let bound = receiver-bound _ c.requires.0.beside.playing.passed _ c.requires.0.fits c.requires.0.class c.requires.1 _ receiver in
-    let none = sym c.read.ensures ∙ c.in_default.is in
-    has_chart _ c.requires.0.beside.playing.passed _ bound (sym c.chart_number-n.ensures ∙ none))
+    let bound = receiver-bound _ c.args.yard.now.passed _ c.requires.0.fits c.requires.0.class c.requires.1 _ receiver in
+    let none = sym c.record.ensures ∙ c.in_default.is in
+    has_chart _ c.args.yard.now.passed _ bound (sym c.chart_number-n.ensures ∙ none))
 
 pub number-requires : goal.number-requires
 number-requires c = let read = given c.args.t.port c.struct_told-2-1.given.1.1.0.1 in
-    ap (le_z (pos 0)) read ∙ port-number _ c.requires.0.beside.playing.passed _ c.requires.0.fits c.requires.0.class
+    ap (le_z (pos 0)) read ∙ port-number _ c.args.yard.now.passed _ c.requires.0.fits c.requires.0.class
 
 pub number-requires-2 : goal.number-requires-2
 number-requires-2 c = let read = given c.args.t.name c.struct_told-3-1.given.1.1.1.0.1 in
-    ap (le_z (pos 0)) read ∙ name-number _ c.requires.0.beside.playing.passed _ c.requires.0.fits c.requires.0.class
-
-pub reaction_on-j-requires : goal.reaction_on-j-requires
-reaction_on-j-requires c = c.requires.0.beside.playing.directory
+    ap (le_z (pos 0)) read ∙ name-number _ c.args.yard.now.passed _ c.requires.0.fits c.requires.0.class
 
 pub event_body-requires : goal.event_body-requires
 event_body-requires c = let t = c.args.t in
@@ -46,13 +40,13 @@ event_body-requires c = let t = c.args.t in
     let name = number_read t.name told.1.1.0.1 _ c.number-2.ensures in
     let words = told.1.1.1 in
     let brought = data_read t words.0.1 words.1.0.1 words.1.1.0.1 words.1.1.1.0.1 in
-    let is = c.in-Present.is in
-    let there = sym c.read.ensures ∙ is in
+    let is = c.in-Some.is in
+    let there = sym c.record.ensures ∙ is in
     let bound = sym c.chart_number-n.ensures ∙ there in
     let found = c.reaction_on-j.ensures in
-    let ok = c.requires.0.beside.playing.passed in
+    let ok = c.args.yard.now.passed in
     let called = reaction_called _ ok t c.requires.0.fits c.requires.0.class c.requires.1 _ receiver _ bound _ _ _ port name found c.if-j-c.true _ brought in
-    (record { playing = c.requires.0.beside.playing; chart = record { there = there; bound = bound }; called = called }, c.requires.0.beside.long)
+    (record { state = c.requires.0.beside.state; chart = record { there = there; bound = bound }; called = called }, c.requires.0.beside.long)
 
 pub returns-then-j-c : goal.returns-then-j-c
 returns-then-j-c c = let t = c.args.t in
@@ -63,17 +57,17 @@ returns-then-j-c c = let t = c.args.t in
     let name = number_read t.name told.1.1.0.1 _ c.number-2.ensures in
     let words = told.1.1.1 in
     let brought = data_read t words.0.1 words.1.0.1 words.1.1.0.1 words.1.1.1.0.1 in
-    let is = c.in-Present.is in
-    let there = sym c.read.ensures ∙ is in
+    let is = c.in-Some.is in
+    let there = sym c.record.ensures ∙ is in
     let bound = sym c.chart_number-n.ensures ∙ there in
     let found = c.reaction_on-j.ensures in
     let below = c.if-j-c.true in
-    let ok = c.requires.0.beside.playing.passed in
+    let ok = c.args.yard.now.passed in
     as_delivered _ ok t c.requires.0.fits c.requires.0.class c.requires.1 _ receiver _ bound _ _ _ port name found below _ brought _ _ _ c.event_body.ensures
 
 pub run_panic_body-requires : goal.run_panic_body-requires
-run_panic_body-requires c = let is = c.in-Present.is in
-    let there = sym c.read.ensures ∙ is in
+run_panic_body-requires c = let is = c.in-Some.is in
+    let there = sym c.record.ensures ∙ is in
     let bound = sym c.chart_number-n.ensures ∙ there in
     (c.requires.0.beside, record { there = there; bound = bound })
 
@@ -84,9 +78,9 @@ returns c = let t = c.args.t in
     let receiver = number_read t.receiver told.0.1 _ number in
     let port = number_read t.port told.1.0.1 _ c.number.ensures in
     let name = number_read t.name told.1.1.0.1 _ c.number-2.ensures in
-    let is = c.in-Present.is in
-    let there = sym c.read.ensures ∙ is in
+    let is = c.in-Some.is in
+    let there = sym c.record.ensures ∙ is in
     let bound = sym c.chart_number-n.ensures ∙ there in
     let found = c.reaction_on-j.ensures in
-    let ok = c.requires.0.beside.playing.passed in
+    let ok = c.args.yard.now.passed in
     none-delivered _ ok t c.requires.0.fits c.requires.0.class c.requires.1 _ receiver _ bound _ _ _ port name found c.if-j-c.false _ _ _ c.run_panic_body.ensures

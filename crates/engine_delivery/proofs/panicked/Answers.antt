@@ -3,17 +3,14 @@ use Rattle.machine_events.proofs.Called.{has_chart}
 use Rattle.engine_delivery.proofs.panicked.Goals as goal
 
 pub chart_number-n-requires : goal.chart_number-n-requires
-chart_number-n-requires c = (c.requires.0.playing.directory, c.requires.0.playing.passed, c.requires.0.playing.cells, c.requires.1)
+chart_number-n-requires c = c.requires.1
 
-pub read-requires : goal.read-requires
-read-requires c = c.requires.0.playing.directory
-
-pub never_taken-requires : goal.never_taken-requires
-never_taken-requires c = absurd
-    (has_chart _ c.requires.0.playing.passed _ c.requires.1 (sym c.chart_number-n.ensures ∙ sym c.read.ensures ∙ c.in_default.is))
+pub prove-unreachable-requires : goal.prove-unreachable-requires
+prove-unreachable-requires c = absurd
+    (has_chart _ c.args.yard.now.passed _ c.requires.1 (sym c.chart_number-n.ensures ∙ sym c.record.ensures ∙ c.in_default.is))
 
 pub run_panic_body-requires : goal.run_panic_body-requires
-run_panic_body-requires c = let there = sym c.read.ensures ∙ c.in-Present.is in
+run_panic_body-requires c = let there = sym c.record.ensures ∙ c.in-Some.is in
     (c.requires.0, record { there = there; bound = sym c.chart_number-n.ensures ∙ there })
 
 pub returns : goal.returns

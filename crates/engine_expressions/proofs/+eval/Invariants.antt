@@ -1,4 +1,3 @@
-use Prim.Native.Nat.{◌-◌}
 use Rattle.engine_expressions.proofs.+eval.Given as goal
 
 abbrev pub decreases-eval : goal.decreases-eval

@@ -1,16 +1,8 @@
-use mathlib.Core.Path.{refl, sym, ◌∙◌}
-use Prim.Native.Nat.{◌-◌}
-use Rattle.engine_finders.proofs.Laws.{none_yet, misses, hits, no_body}
+use Rattle.std.proofs.Common.{rules}
+use Rattle.sheet.specs.All.{◌and◌}
+use Rattle.engine_finders.proofs.Laws.{stands}
 use Rattle.engine_finders.proofs.reaction_to.Goals as goal
 
-pub loop-j-init : goal.loop-j-init
-loop-j-init c = none_yet _ _ _ _
-
-pub returns-then-reacts_to : goal.returns-then-reacts_to
-returns-then-reacts_to c = hits _ _ _ _ _ refl refl _ c.loop-j.invariant c.loop-j-test.true (sym c.reacts_to.ensures ∙ c.if-reacts_to.true)
-
-pub loop-j-preserved : goal.loop-j-preserved
-loop-j-preserved c = misses _ _ _ _ _ c.loop-j.invariant c.loop-j-test.true (sym c.reacts_to.ensures ∙ c.if-reacts_to.false)
-
 pub returns : goal.returns
-returns c = no_body _ _ _ _ _ refl refl _ c.loop-j.invariant c.loop-j-test.false
+unfolding ◌and◌
+returns c = stands _ _ _ _ (c.first_body.ensures _ (λ i b r there is. search rules))

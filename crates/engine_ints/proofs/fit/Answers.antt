@@ -12,8 +12,5 @@ returns-then-z-ltminus2147483648 c = too_low _ _ (rw (back64 c.ranges.z) at c.if
 pub returns-then-z-gt2147483647 : goal.returns-then-z-gt2147483647
 returns-then-z-gt2147483647 c = too_high _ _ (rw (back64 c.ranges.z) at c.if-z-gt2147483647.true)
 
-pub overflow_cast-result : goal.overflow_cast-result
-overflow_cast-result c = rw (back64 c.ranges.z) (fits c)
-
 pub returns : goal.returns
 returns c = rw (back64 c.ranges.z, back (fits c)) (inside _ _ (fits c))

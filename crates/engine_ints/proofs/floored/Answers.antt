@@ -3,7 +3,7 @@ use lib.IntN.{ℤ, ◌-ℤ◌, ◌*ℤ◌}
 use lib.Signed.{quot_z}
 use mir.Syntax.{w32, w64}
 use mir.Val.{SFits, to_z, of_z}
-use Rattle.engine_ints.proofs.Range.{back, back64, widen, wide, quot_fits, quot_whole-fits, left-over-fits, mul-fits, less-fits, quotient_fits, divisor}
+use Rattle.engine_ints.proofs.Range.{back64, widen, wide, quot_fits, quot_whole-fits, left-over-fits, mul-fits, less-fits, quotient_fits, divisor}
 use Rattle.engine_ints.proofs.Rounding.{rounded}
 use Rattle.engine_ints.proofs.floored.Goals as goal
 
@@ -24,26 +24,14 @@ module _ {a b : ℤ} (x : SFits w32 a) (y : SFits w32 b) where
 word : (c : goal.After-bool_word) → SFits w32 c.bool_word.result
 word c = record { sfits = c.bool_word.type_inv }
 
-pub overflow_cast-x : goal.overflow_cast-x
-overflow_cast-x c = rw (back c.ranges.a) (widen c.ranges.a)
-
-pub overflow_cast-y : goal.overflow_cast-y
-overflow_cast-y c = rw (back c.ranges.b) (widen c.ranges.b)
-
 pub nonzero_div-q : goal.nonzero_div-q
 nonzero_div-q c = (divisor c.ranges.b c.requires, rw (wide c.ranges.a, wide c.ranges.b) (quot_fits c.ranges.a c.ranges.b))
-
-pub overflow_mul-r : goal.overflow_mul-r
-overflow_mul-r c = rw (wide c.ranges.a, wide c.ranges.b, q_back c.ranges.a c.ranges.b) (quot_whole-fits c.ranges.a c.ranges.b)
 
 pub overflow_sub-r : goal.overflow_sub-r
 overflow_sub-r c = rw (wide c.ranges.a, wide c.ranges.b, q_back c.ranges.a c.ranges.b, whole_back c.ranges.a c.ranges.b) (widen (left-over-fits c.ranges.a c.ranges.b))
 
 pub overflow_mul-r-2 : goal.overflow_mul-r-2
 overflow_mul-r-2 c = rw (wide c.ranges.a, wide c.ranges.b, q_back c.ranges.a c.ranges.b, whole_back c.ranges.a c.ranges.b, r_back c.ranges.a c.ranges.b) (mul-fits (left-over-fits c.ranges.a c.ranges.b) c.ranges.b)
-
-pub overflow_cast-result : goal.overflow_cast-result
-overflow_cast-result c = rw (back (word c)) (widen (word c))
 
 pub overflow_sub-result : goal.overflow_sub-result
 overflow_sub-result c = rw (wide c.ranges.a, wide c.ranges.b, q_back c.ranges.a c.ranges.b, wide (word c)) (less-fits c.ranges.a c.ranges.b (word c))

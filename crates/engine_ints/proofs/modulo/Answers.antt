@@ -1,6 +1,6 @@
 use mathlib.Core.Path.{◌≡◌, refl, ◌∙◌}
 use mathlib.Core.Bool.{false}
-use lib.IntN.{ℤ, ◌-ℤ◌, ◌*ℤ◌}
+use lib.IntN.{◌-ℤ◌, ◌*ℤ◌}
 use mir.Syntax.{w32, w64}
 use mir.Val.{SFits, to_z, of_z}
 use Rattle.machine_division.specs.Division.{quotient, remainder}
@@ -22,12 +22,6 @@ rest c = rw (wide c.ranges.a, wide c.ranges.b, read c, back64 (quotient-whole-fi
 
 fits : (c : goal.After-floored) → SFits w32 (remainder c.args.a c.args.b)
 fits c = remainder-fits c.ranges.a c.ranges.b (not-zero c)
-
-pub overflow_cast-x : goal.overflow_cast-x
-overflow_cast-x c = rw (back c.ranges.a) (widen c.ranges.a)
-
-pub overflow_cast-y : goal.overflow_cast-y
-overflow_cast-y c = rw (back c.ranges.b) (widen c.ranges.b)
 
 pub returns-then-y-eq0 : goal.returns-then-y-eq0
 returns-then-y-eq0 c = by_zero _ _ _ (is_zero_wide c.ranges.b c.if-y-eq0.true)

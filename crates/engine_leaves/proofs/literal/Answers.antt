@@ -23,4 +23,4 @@ pub returns-in-5 : goal.returns-in-5
 returns-in-5 c = to_z_pos w32 _ (omega arith) ∙ literal_5 _ _ c.in-5.is
 
 pub returns-in_default : goal.returns-in_default
-returns-in_default c = let n = c.in_default.in_default-own.rest in to_z_pos w32 _ (omega arith) ∙ literal-rest _ _ n.0.0.0.0.1 n.0.0.0.1 n.0.0.1 n.0.1 n.1
+returns-in_default c = to_z_pos w32 _ (omega arith) ∙ literal-rest _ _ (omega arith) (omega arith) (omega arith) (omega arith) (omega arith)

@@ -10,20 +10,20 @@ use Rattle.engine_sending.proofs.Sends.{element-small}
 use Rattle.engine_sending.proofs.internal_send.Goals as goal
 
 pub returns-in_default : goal.returns-in_default
-returns-in_default c = no_record (sym c.in_default.is ∙ c.read.ensures) (internal-there _ _ _ _ c.requires.1.ready _ _ c.requires.1.there c.requires.1.statement c.requires.1.form)
+returns-in_default c = no_record (sym c.in_default.is ∙ c.record.ensures) (internal-there _ _ _ _ c.requires.ready _ _ c.requires.there c.requires.statement c.requires.form)
 
-pub overflow_cast-context : goal.overflow_cast-context
-overflow_cast-context c = let h = element-small _ _ c.requires.1.ready.running in record { sfits = omega arith }
+pub overflow_cast-element : goal.overflow_cast-element
+overflow_cast-element c = let h = element-small _ _ c.requires.ready.running in record { sfits = omega arith }
 
 pub send-requires : goal.send-requires
-send-requires c = let a-is = sym c.read.ensures ∙ c.in-Present.is in
-    (c.requires.0, c.requires.1.ready, internal_data _ _ _ _ c.requires.1.ready _ _ c.requires.1.there c.requires.1.statement c.requires.1.form _ a-is, a-is)
+send-requires c = let a-is = sym c.record.ensures ∙ c.in-Some.is in
+    (c.requires.ready, internal_data _ _ _ _ c.requires.ready _ _ c.requires.there c.requires.statement c.requires.form _ a-is, a-is)
 
 pub returns : goal.returns
 unfolding context_at
 returns c = let args = c.args in
-    let a-is = sym c.read.ensures ∙ c.in-Present.is in
+    let a-is = sym c.record.ensures ∙ c.in-Some.is in
     λ depth.
-    let h = element-small _ _ c.requires.1.ready.running in
+    let h = element-small _ _ c.requires.ready.running in
     (rw (given (pos (get_or args.context.now 0 0)) (omega arith), given (negsuc 0) (omega arith)) at c.send.ensures)
-    ∙ sym (internal_word _ _ _ _ c.requires.1.ready _ _ c.requires.1.there c.requires.1.statement c.requires.1.form _ a-is depth _)
+    ∙ sym (internal_word _ _ _ _ c.requires.ready _ _ c.requires.there c.requires.statement c.requires.form _ a-is depth _)

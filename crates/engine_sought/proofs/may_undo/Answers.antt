@@ -12,13 +12,13 @@ returns-then-is_below c = let read = given c.in-Deliver.receiver c.in-Deliver.kn
     handed_on _ _ _ _ _ c.in-Deliver.is (sym (below_same _ _ _ _ (c.is_below.ensures ∙ ap (λ z. is_below z c.externals.result) read) c.externals.ensures.0) ∙ c.if-is_below.true)
 
 pub waiting_count-requires : goal.waiting_count-requires
-waiting_count-requires c = laid _ _ c.requires.0.state
+waiting_count-requires c = laid _ _ c.requires.0
 
 pub waiting_count-requires-in-Corrupt : goal.waiting_count-requires-in-Corrupt
-waiting_count-requires-in-Corrupt c = laid _ _ c.requires.0.state
+waiting_count-requires-in-Corrupt c = laid _ _ c.requires.0
 
 pub waiting_count-requires-in-Inner : goal.waiting_count-requires-in-Inner
-waiting_count-requires-in-Inner c = laid _ _ c.requires.0.state
+waiting_count-requires-in-Inner c = laid _ _ c.requires.0
 
 pub returns-in-Malformed : goal.returns-in-Malformed
 unfolding may_undo

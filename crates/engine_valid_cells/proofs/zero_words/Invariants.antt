@@ -13,6 +13,3 @@ zero-from st first k = is_zero (word_of st (first + k))
 
 abbrev pub invariant-loop-k : goal.invariant-loop-k
 invariant-loop-k l = (l.k ≤ l.count) × (all_below l.k (zero-from l.st l.first) ≡ true)
-
-abbrev pub decreases-loop-k : goal.decreases-loop-k
-decreases-loop-k l = l.count - l.k

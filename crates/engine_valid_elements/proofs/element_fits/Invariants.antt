@@ -7,7 +7,4 @@ use Rattle.machine.specs.Valid.{variable_fits}
 use Rattle.engine_valid_elements.proofs.element_fits.Given as goal
 
 abbrev pub invariant-loop-j : goal.invariant-loop-j
-invariant-loop-j l = (l.j ≤ l.count) × (l.row + l.count < 2176) × (l.row ≡ 34 * (l.e - externals_of l.sheet)) × (all_below l.j (variable_fits l.sheet l.st l.e l.c) ≡ true)
-
-abbrev pub decreases-loop-j : goal.decreases-loop-j
-decreases-loop-j l = l.count - l.j
+invariant-loop-j l = (l.j ≤ l.count) × (l.row + l.count < 2176) × (l.row ≡ 34 * (l.e - externals_of l.yard.sheet)) × (all_below l.j (variable_fits l.yard.sheet l.st l.e l.c) ≡ true)

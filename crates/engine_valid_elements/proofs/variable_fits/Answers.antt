@@ -21,9 +21,9 @@ cell_at-at-requires c = search rules
 pub cell_fits-requires : goal.cell_fits-requires
 unfolding cell_at
 cell_fits-requires c = let l = c.loop-k-test.true in
-    let h = c.requires.1.inside in
+    let h = c.requires.inside in
     let e = c.cell_at-at.ensures in
-    (c.requires.0, omega arith)
+    omega arith
 
 pub returns-then-not-cell_fits : goal.returns-then-not-cell_fits
 returns-then-not-cell_fits c e p = let judged = cell_judged _ _ _ _ _ _ _ c.cell_at-at.ensures (c.cell_fits.ensures e p) in

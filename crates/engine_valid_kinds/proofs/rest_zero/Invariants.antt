@@ -13,6 +13,3 @@ zero-from ev i k = is_zero (word_of ev (i + k))
 
 abbrev pub invariant-loop-k : goal.invariant-loop-k
 invariant-loop-k l = (l.k ≤ l.count) × (all_below l.k (zero-from l.ev l.i) ≡ true)
-
-abbrev pub decreases-loop-k : goal.decreases-loop-k
-decreases-loop-k l = l.count - l.k

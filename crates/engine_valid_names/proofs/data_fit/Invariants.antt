@@ -1,7 +1,7 @@
 use mathlib.Core.Path.{◌≡◌}
 use mathlib.Core.Bool.{Bool, true}
 use mathlib.Core.List.{List}
-use Prim.Native.Nat.{ℕ, ◌+◌, ◌-◌, ◌≤◌}
+use Prim.Native.Nat.{ℕ, ◌+◌}
 use lib.IntN.{ℤ}
 use Rattle.sheet.specs.declared.Range.{Range}
 use Rattle.sheet.specs.All.{all_below}
@@ -13,7 +13,4 @@ abbrev pub datum : List ℕ → Range → List ℤ → ℕ → ℕ → Bool
 datum s g st at j = datum_fits s g j (word_of st (at + j))
 
 abbrev pub invariant-loop-j : goal.invariant-loop-j
-invariant-loop-j l = (l.j ≤ 4) × (all_below l.j (datum l.sheet l.g l.st l.at) ≡ true)
-
-abbrev pub decreases-loop-j : goal.decreases-loop-j
-decreases-loop-j l = 4 - l.j
+invariant-loop-j l = all_below l.j (datum l.sheet l.g l.st l.at) ≡ true

@@ -1,5 +1,4 @@
 use native.Mathlib.Omega.{arith}
-use Rattle.sheet.proofs.Sheet.{count_opened}
 use Rattle.sheet.proofs.All.{first_fails_lem, rest_fails, first_holds}
 use Rattle.machine.specs.State.{word_of}
 use Rattle.machine.specs.Valid.{name_fits}
@@ -13,7 +12,7 @@ use Rattle.engine_valid_names.proofs.name_fits.Goals as goal
 
 pub returns-then-not-below_at : goal.returns-then-not-below_at
 unfolding name_fits
-returns-then-not-below_at c = first_fails_lem _ _ (no (below_same _ _ _ _ c.below_at.ensures (count_opened _ _ _ c.count_in.ensures _ c.requires.0)) (ap not c.if-not-below_at.true))
+returns-then-not-below_at c = first_fails_lem _ _ (no (below_same _ _ _ _ c.below_at.ensures c.count.ensures) (ap not c.if-not-below_at.true))
 
 pub number_at-n-requires : goal.number_at-n-requires
 number_at-n-requires c = (omega arith, below-from _ _ (so c.below_at.ensures (ap not c.if-not-below_at.false)))
@@ -27,7 +26,7 @@ returns-then-not-has_class c = let start = c.args in
 pub returns : goal.returns
 unfolding name_fits
 returns c = let name = word_of c.args.st.now c.args.at in
-    let count = count_opened _ _ _ c.count_in.ensures _ c.requires.0 in
+    let count = c.count.ensures in
     let number = c.number_at-n.ensures in
     first_holds _ _ _ (so (below_same _ _ _ _ c.below_at.ensures count) (ap not c.if-not-below_at.false))
     (first_holds _ _ _ (so (name-class _ _ name _ number _ c.has_class.ensures) (ap not c.if-not-has_class.false))

@@ -12,16 +12,15 @@ pub loop-i-init : goal.loop-i-init
 unfolding all_below
 loop-i-init c = (omega arith, c.elements-count.ensures.1, c.externals-from.ensures.1, refl)
 
-pub chart_of-requires : goal.chart_of-requires
-chart_of-requires c = let bound = element_in_lem _ _ _ _ c.externals-from.ensures.0 c.elements-count.ensures.0 c.loop-i-test.true in
-    (c.requires.directory, c.requires.passed, c.requires.cells, bound)
+pub chart-requires : goal.chart-requires
+chart-requires c = element_in_lem _ _ _ _ c.externals-from.ensures.0 c.elements-count.ensures.0 c.loop-i-test.true
 
 pub returns-in_default : goal.returns-in_default
-returns-in_default c = let absent = no_element _ _ _ (sym c.chart_of.ensures ∙ c.in_default.is) in
+returns-in_default c = let absent = no_element _ _ _ (sym c.chart.ensures ∙ c.in_default.is) in
     loop_fails _ _ _ _ c.elements-count.ensures.0 c.loop-i-test.true absent ∙ cells_are _ _ _ c.externals-from.ensures.0
 
 pub element_fits-requires : goal.element_fits-requires
-element_fits-requires c = (c.requires, sym c.chart_of.ensures ∙ c.in-Present.is)
+element_fits-requires c = (c.requires, sym c.chart.ensures ∙ c.in-Some.is)
 
 pub returns-then-not-element_fits : goal.returns-then-not-element_fits
 returns-then-not-element_fits c = loop_fails _ _ _ _ c.elements-count.ensures.0 c.loop-i-test.true (no c.element_fits.ensures (ap not c.if-not-element_fits.true)) ∙ cells_are _ _ _ c.externals-from.ensures.0

@@ -25,13 +25,13 @@ pub returns-then-not-name_fits : goal.returns-then-not-name_fits
 unfolding internal_fits telegram_in
 returns-then-not-name_fits c = rest_fails _ _ (rest_fails _ _ (first_fails_lem _ _ (no (c.name_fits.ensures ∙ name_of _ _ _ _) (ap not c.if-not-name_fits.true))))
 
-pub chart_of-requires : goal.chart_of-requires
-chart_of-requires c = (c.requires.0, c.requires.1, c.requires.2, so c.is_bound.ensures (ap not c.if-not-is_bound.false))
+pub chart-requires : goal.chart-requires
+chart-requires c = so c.is_bound.ensures (ap not c.if-not-is_bound.false)
 
 pub returns-in_default : goal.returns-in_default
 unfolding internal_fits telegram_in
 returns-in_default c = let number = c.number_at-e.ensures in
-    rest_fails _ _ (rest_fails _ _ (rest_fails _ _ (nothing_awaits _ _ _ (ap (chart_of _) (sym number) ∙ sym c.chart_of.ensures ∙ c.in_default.is))))
+    rest_fails _ _ (rest_fails _ _ (rest_fails _ _ (nothing_awaits _ _ _ (ap (chart_of _) (sym number) ∙ sym c.chart.ensures ∙ c.in_default.is))))
 
 pub overflow_add-at-4 : goal.overflow_add-at-4
 overflow_add-at-4 c = omega arith
@@ -44,7 +44,7 @@ unfolding internal_fits telegram_in
 returns c = let number = c.number_at-e.ensures in
     let receiver = c.word-receiver.ensures in
     let sender = c.word-sender.ensures in
-    let chart = ap (chart_of _) (sym number) ∙ sym c.chart_of.ensures ∙ c.in-Present.is in
+    let chart = ap (chart_of _) (sym number) ∙ sym c.chart.ensures ∙ c.in-Some.is in
     first_holds _ _ _ (so (rw (read_back _ _ sender.0 sender.1, read_back _ _ receiver.0 receiver.1) at c.same.ensures) (ap not c.if-not-same.false))
     (first_holds _ _ _ (so (c.is_bound.ensures ∙ ap (is_bound _) number) (ap not c.if-not-is_bound.false))
     (first_holds _ _ _ (so (c.name_fits.ensures ∙ name_of _ _ _ _) (ap not c.if-not-name_fits.false))

@@ -11,7 +11,7 @@ returns-then-not-both_components c = no_component _ (telegram_in c.args.st.now c
 pub internal_fits-requires : goal.internal_fits-requires
 unfolding telegram_in
 internal_fits-requires c = let receiver = receiver_from _ (telegram_in c.args.st.now c.args.at) _ c.both_components.ensures (ap not c.if-not-both_components.false) in
-    (c.requires.0, c.requires.1, c.requires.2, c.requires.3, receiver)
+    (c.requires, receiver)
 
 pub returns-then-is_internal : goal.returns-then-is_internal
 unfolding telegram_in

@@ -1,11 +1,8 @@
 use mathlib.Core.Path.{sym, ap, ◌∙◌}
 use Rattle.machine.specs.Values.{is_below}
 use Rattle.engine_valid_words.proofs.Laws.{back, fits_32}
-use Rattle.engine_valid_values.proofs.Laws.{of_bool, of_int_lem, of_component, of_port, from_four}
+use Rattle.engine_valid_values.proofs.Laws.{of_bool, of_int_lem, of_component, of_port}
 use Rattle.engine_valid_values.proofs.in_type.Goals as goal
-
-pub is_member-requires : goal.is_member-requires
-is_member-requires c = (c.requires, from_four _ c.in_default.in_default-own.rest.0.0.0.1 c.in_default.in_default-own.rest.0.0.1 c.in_default.in_default-own.rest.0.1 c.in_default.in_default-own.rest.1)
 
 pub returns-in-0 : goal.returns-in-0
 returns-in-0 c = (rw (back c.ranges.z) at c.is_below.ensures) ∙ of_bool _ _ _ c.in-0.is
@@ -18,6 +15,3 @@ returns-in-2 c = (rw (back c.ranges.z) at c.is_below-in-2.ensures) ∙ ap (is_be
 
 pub returns-in-3 : goal.returns-in-3
 returns-in-3 c = (rw (back c.ranges.z) at c.is_below-in-3.ensures) ∙ ap (is_below c.args.z) c.ports.ensures.0 ∙ of_port _ _ _ c.in-3.is
-
-pub returns-in_default : goal.returns-in_default
-returns-in_default c = rw (back c.ranges.z) at c.is_member.ensures

@@ -14,6 +14,3 @@ unused st n k = zero_words st (place_in (length st) (n + k)) 0
 
 abbrev pub invariant-loop-k : goal.invariant-loop-k
 invariant-loop-k l = (l.k ≤ l.count) × (all_below l.k (unused l.st l.n) ≡ true)
-
-abbrev pub decreases-loop-k : goal.decreases-loop-k
-decreases-loop-k l = l.count - l.k

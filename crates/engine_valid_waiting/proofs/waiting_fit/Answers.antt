@@ -16,15 +16,15 @@ pub telegram_fits-requires : goal.telegram_fits-requires
 telegram_fits-requires c = let waits = c.requires.1 in
     let l = c.loop-j-test.true in
     let e = c.place_at-at.ensures in
-    (c.requires.0.directory, c.requires.0.passed, c.requires.0.cells, omega arith)
+    omega arith
 
 pub returns-then-not-telegram_fits : goal.returns-then-not-telegram_fits
 returns-then-not-telegram_fits c = let judged = telegram_judged _ _ _ _ _ c.place_at-at.ensures c.telegram_fits.ensures in
-    loop_fails _ _ _ _ refl c.loop-j-test.true (no judged (ap not c.if-not-telegram_fits.true)) ∙ waiting_is _ _ c.requires.0.whole _ c.requires.1.number
+    loop_fails _ _ _ _ refl c.loop-j-test.true (no judged (ap not c.if-not-telegram_fits.true)) ∙ waiting_is _ _ c.requires.0 _ c.requires.1.number
 
 pub loop-j-preserved : goal.loop-j-preserved
 loop-j-preserved c = let judged = telegram_judged _ _ _ _ _ c.place_at-at.ensures c.telegram_fits.ensures in
     (omega arith, all_more c.loop-j.j _ c.loop-j.invariant.1 (so judged (ap not c.if-not-telegram_fits.false)))
 
 pub returns : goal.returns
-returns c = loop_ends _ _ _ _ refl c.loop-j.invariant.0 c.loop-j-test.false c.loop-j.invariant.1 ∙ waiting_is _ _ c.requires.0.whole _ c.requires.1.number
+returns c = loop_ends _ _ _ _ refl c.loop-j.invariant.0 c.loop-j-test.false c.loop-j.invariant.1 ∙ waiting_is _ _ c.requires.0 _ c.requires.1.number

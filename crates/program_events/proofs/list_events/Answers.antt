@@ -23,7 +23,7 @@ unfolding lines_of word_of
 loop-i-preserved g c =
     let loop = c.loop-i in
     let put = c.put_event-end in
-    let next = c.with_room-next in
+    let next = c.in_ok-at in
     let same : length put.new.out ≡ length c.args.out.now = put.auto.out ∙ loop.invariant.0 in
     let i = loop.i in
     let kind = get_or c.args.words.now (9 * i) (pos 0) in
@@ -33,5 +33,5 @@ loop-i-preserved g c =
     let text : event_line number (to_z w32 (of_z w32 kind)) c.answer_at-a.result ≡ event_line number kind (answer_in c.args.answers.now (11 * i)) = ap (λ z. event_line number z c.answer_at-a.result) same_kind ∙ ap (event_line number kind) c.answer_at-a.ensures in
     let within : loop.at ≤ length loop.out = search rules in
     let line = line_put _ _ _ loop.at loop.out _ put.new.out put.result within loop.invariant.3 (subst (λ t. Put loop.out loop.at t put.new.out put.result) text put.ensures.0) in
-    let more = room_left _ _ _ _ put.result 220 next.result.at put.new.out line next.ensures.place (next.ensures.whole (search rules)) in
+    let more = room_left _ _ _ _ put.result 220 next.at put.new.out line next.ensures.place next.ensures.whole in
     (same, search rules, search rules, rw (add-one i) more)

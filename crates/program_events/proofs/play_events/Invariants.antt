@@ -2,7 +2,7 @@
 -- may be. What falls is how many bytes may still come.
 use Rattle.std.proofs.Common.{◌≡◌, ◌*◌, ◌-◌, ◌<◌, ◌≤◌, length}
 use Rattle.machine.specs.Play.{words_of_event}
-use Rattle.engine_cells.specs.Playing.{Playing}
+use Rattle.machine.specs.Valid.{OfSheet}
 use Rattle.machine_lists.specs.Words.{words_of_answer}
 use Rattle.program_input.specs.Input.{room_events, bytes_of_event}
 use Rattle.program_events.specs.Room.{room_text}
@@ -10,7 +10,7 @@ use Rattle.program_events.proofs.play_events.Given as goal
 
 abbrev pub invariant-loop-done : goal.invariant-loop-done
 invariant-loop-done g l =
-    Playing l.sheet l.directory l.cells l.st × (length l.st ≡ length l.initial.st) × (length l.spare ≡ length l.initial.spare) × (length l.events ≡ room_events * bytes_of_event)
+    OfSheet l.yard.sheet l.st × (length l.st ≡ length l.initial.st) × (length l.spare ≡ length l.initial.spare) × (length l.events ≡ room_events * bytes_of_event)
     × (length l.words ≡ room_events * words_of_event) × (length l.answers ≡ room_events * words_of_answer) × (length l.out ≡ room_text) × (l.have < bytes_of_event) × (l.done ≤ l.most)
 
 abbrev pub decreases-loop-done : goal.decreases-loop-done

@@ -7,37 +7,37 @@ use Rattle.program_text.proofs.Parts.{fresh_front}
 use Rattle.program_runs.proofs.play_passed.Goals as goal
 
 pub state_length-n-requires : goal.state_length-n-requires
-state_length-n-requires g c = let e = c.fill-count.ensures.0 in omega (arith, cells_limit _ c.requires.1)
+state_length-n-requires g c = let e = c.args.yard.now.counted in omega (arith, cells_limit _ c.args.yard.now.passed)
 
 pub slice_bounds-st-end : goal.slice_bounds-st-end
 slice_bounds-st-end g c =
-    let cells = c.fill-count.ensures.0 in
+    let cells = c.args.yard.now.counted in
     let words = c.state_length-n.ensures in
-    omega (arith, cells_limit _ c.requires.1)
+    omega (arith, cells_limit _ c.args.yard.now.passed)
 
 pub slice_bounds-play_states-end : goal.slice_bounds-play_states-end
 slice_bounds-play_states-end g c =
-    let cells = c.fill-count.ensures.0 in
+    let cells = c.args.yard.now.counted in
     let words = c.state_length-n.ensures in
-    fresh_front c.state_length-n.result longest (pos 0) (omega (arith, cells_limit _ c.requires.1))
+    fresh_front c.state_length-n.result longest (pos 0) (omega (arith, cells_limit _ c.args.yard.now.passed))
 
 pub slice_bounds-spare-end : goal.slice_bounds-spare-end
 slice_bounds-spare-end g c =
-    let cells = c.fill-count.ensures.0 in
+    let cells = c.args.yard.now.counted in
     let words = c.state_length-n.ensures in
-    omega (arith, cells_limit _ c.requires.1)
+    omega (arith, cells_limit _ c.args.yard.now.passed)
 
 pub slice_bounds-play_states-end-2 : goal.slice_bounds-play_states-end-2
 slice_bounds-play_states-end-2 g c =
-    let cells = c.fill-count.ensures.0 in
+    let cells = c.args.yard.now.counted in
     let words = c.state_length-n.ensures in
-    fresh_front c.state_length-n.result longest (pos 0) (omega (arith, cells_limit _ c.requires.1))
+    fresh_front c.state_length-n.result longest (pos 0) (omega (arith, cells_limit _ c.args.yard.now.passed))
 
 pub play_states-requires : goal.play_states-requires
 play_states-requires g c =
     let n = c.state_length-n.result in
     let words = c.state_length-n.ensures in
-    let cells = c.fill-count.ensures.0 in
-    let l : n ≤ longest = omega (arith, cells_limit _ c.requires.1) in
+    let cells = c.args.yard.now.counted in
+    let l : n ≤ longest = omega (arith, cells_limit _ c.args.yard.now.passed) in
     let f = fresh_front n longest (pos 0) l in
-    (record { directory = c.requires.0; passed = c.requires.1; cells = c.fill-count.ensures.1; whole = sym f ∙ words ∙ words_with_lem c.args.sheet.now _ cells }, sym f ∙ f)
+    (sym f ∙ words ∙ words_with_lem c.args.yard.now.sheet _ cells, sym f ∙ f)

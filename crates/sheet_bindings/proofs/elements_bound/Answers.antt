@@ -1,15 +1,15 @@
 use native.Mathlib.Omega.{arith}
 use mathlib.Core.Path.{sym}
 use Prim.Native.Nat.{◌-◌}
-use Rattle.sheet.proofs.Sheet.{count_limit, count_opened}
+use Rattle.sheet.proofs.Sheet.{count_limit}
 use Rattle.sheet_rules.proofs.Bindings.{walk_begins, walk_on_lem, walk_ends, behind_near}
 use Rattle.sheet_bindings.proofs.elements_bound.Goals as goal
 
 pub loop-k-init : goal.loop-k-init
-loop-k-init c = (count_opened _ _ _ c.count_in-count.ensures _ c.requires, omega arith, omega arith, walk_begins _)
+loop-k-init c = (c.count-count.ensures, omega arith, omega arith, walk_begins _)
 
 pub record_behind-k-requires : goal.record_behind-k-requires
-record_behind-k-requires c = (c.requires, omega (arith, c.loop-k.invariant.0, c.loop-k.invariant.2, count_limit c.args.sheet.now 7))
+record_behind-k-requires c = (omega (arith, c.loop-k.invariant.0, c.loop-k.invariant.2, count_limit c.args.sheet.now 7))
 
 pub overflow_add-n : goal.overflow_add-n
 overflow_add-n c = record { fits = omega (arith, c.loop-k.invariant.0, c.loop-k.invariant.1, c.loop-k.invariant.2, count_limit c.args.sheet.now 7) }

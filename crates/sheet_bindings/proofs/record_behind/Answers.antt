@@ -8,4 +8,4 @@ pub returns-in_default : goal.returns-in_default
 returns-in_default c = (sym (behind-none _ _ (sym c.chart_bound.ensures ∙ c.in_default.is)), omega arith)
 
 pub returns : goal.returns
-returns c = (ap (λ (n : ℕ). c.args.k + n) c.records_for.ensures.0 ∙ sym (behind-chart _ _ _ (sym c.chart_bound.ensures ∙ c.in-Present.is)), omega (arith, c.records_for.ensures.1))
+returns c = (ap (λ (n : ℕ). c.args.k + n) c.records_for.ensures.0 ∙ sym (behind-chart _ _ _ (sym c.chart_bound.ensures ∙ c.in-Some.is)), omega (arith, c.records_for.ensures.1))

@@ -10,6 +10,3 @@ cells_from s first j = cells_taken s (first + j)
 
 abbrev pub invariant-loop-j : goal.invariant-loop-j
 invariant-loop-j l = (l.j ≤ l.count) × (l.count < 65536) × (l.first < 65536) × (l.sum ≤ 65535 * l.j) × (l.sum ≡ sum_below l.j (cells_from l.sheet l.first))
-
-abbrev pub decreases-loop-j : goal.decreases-loop-j
-decreases-loop-j l = l.count - l.j

@@ -12,6 +12,3 @@ is_zero r n i = eqb (field_of r (n + i)) 0
 
 abbrev pub invariant-loop-i : goal.invariant-loop-i
 invariant-loop-i l = (l.n < 8) × (l.i ≤ 8 - l.n) × (all_below l.i (is_zero l.r l.n) ≡ true)
-
-abbrev pub decreases-loop-i : goal.decreases-loop-i
-decreases-loop-i l = 8 - l.n - l.i

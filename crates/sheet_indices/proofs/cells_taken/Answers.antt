@@ -6,8 +6,8 @@ use Rattle.sheet_indices.proofs.cells_taken.Goals as goal
 
 pub returns-in_default : goal.returns-in_default
 unfolding cells_taken cells_by
-returns-in_default c = (sym (ap cells_by (index-absent _ _ (sym c.read.ensures ∙ c.in_default.is))), omega arith)
+returns-in_default c = (sym (ap cells_by (index-absent _ _ (sym c.record.ensures ∙ c.in_default.is))), omega arith)
 
 pub returns : goal.returns
 unfolding cells_taken
-returns c = (c.cells_by.ensures.0 ∙ sym (ap cells_by (index_present _ _ _ (sym c.read.ensures ∙ c.in-Present.is))), c.cells_by.ensures.1)
+returns c = (c.cells_by.ensures.0 ∙ sym (ap cells_by (index_present _ _ _ (sym c.record.ensures ∙ c.in-Some.is))), c.cells_by.ensures.1)

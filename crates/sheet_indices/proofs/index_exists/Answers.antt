@@ -1,6 +1,5 @@
 use mathlib.Core.Path.{sym, ap, ◌∙◌}
 use lib.Dec.{ltb}
-use Rattle.sheet.proofs.Sheet.{count_opened}
 use Rattle.sheet_rules.specs.Shape.{type_exists, index_exists}
 use Rattle.sheet_indices.proofs.Laws.{index_none, index_enumerated, index_number, index_past_lem, type_there, low_exists}
 use Rattle.sheet_indices.proofs.index_exists.Goals as goal
@@ -14,7 +13,7 @@ returns-in-4-to-7 c = sym (ap (index_exists _) (index_none _ _ c.in-4-to-7.if-i-
 
 pub returns-in-8-to-60000 : goal.returns-in-8-to-60000
 unfolding index_exists
-returns-in-8-to-60000 c = ap (ltb _) (count_opened _ _ _ c.count_in.ensures _ c.requires) ∙ sym (ap (index_exists _) (index_enumerated _ _ c.in-8-to-60000.if-i-lt8-own.false c.in-8-to-60000.if-i-lt60001-own.true) ∙ type_there _ _ c.in-8-to-60000.if-i-lt8-own.false)
+returns-in-8-to-60000 c = ap (ltb _) c.count.ensures ∙ sym (ap (index_exists _) (index_enumerated _ _ c.in-8-to-60000.if-i-lt8-own.false c.in-8-to-60000.if-i-lt60001-own.true) ∙ type_there _ _ c.in-8-to-60000.if-i-lt8-own.false)
 
 pub returns-in-60001-to-60064 : goal.returns-in-60001-to-60064
 unfolding index_exists type_exists

@@ -5,7 +5,7 @@ use Rattle.sheet_indices.proofs.is_plain.Goals as goal
 
 pub returns-in_default : goal.returns-in_default
 unfolding is_plain
-returns-in_default c = sym (ap is_plain (index-absent _ _ (sym c.read.ensures ∙ c.in_default.is)))
+returns-in_default c = sym (ap is_plain (index-absent _ _ (sym c.record.ensures ∙ c.in_default.is)))
 
 pub returns : goal.returns
-returns c = sym (ap is_plain (index_present _ _ _ (sym c.read.ensures ∙ c.in-Present.is)) ∙ plain_zero _ _)
+returns c = sym (ap is_plain (index_present _ _ _ (sym c.record.ensures ∙ c.in-Some.is)) ∙ plain_zero _ _)

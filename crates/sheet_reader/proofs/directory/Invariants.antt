@@ -10,6 +10,3 @@ Entries s d k = (j : ℕ) → j < k → (get_or d (2 * j) 0 ≡ offset_of s j) �
 
 abbrev pub invariant-loop-k : goal.invariant-loop-k
 invariant-loop-k l = (l.k ≤ 8) × (32 ≤ length l.sheet) × (length l.sections ≡ 16) × Entries l.sheet l.sections l.k
-
-abbrev pub decreases-loop-k : goal.decreases-loop-k
-decreases-loop-k l = 8 - l.k

@@ -1,17 +1,17 @@
+use Rattle.std.specs.Prelude.{Some, None}
 use native.Mathlib.Omega.{arith}
 use Prim.Native.Nat.{ℕ, ◌+◌, ◌*◌, ◌<◌, ◌≤◌}
 use mathlib.Core.Path.{◌≡◌, sym, ap, ◌∙◌}
 use mathlib.Core.List.{List}
 use lib.ListN.{length, get_or}
 use Rattle.sheet.specs.Sheet.{offset_of, count_of, directory_of, record_at, record_of}
-use Rattle.sheet.specs.declared.Found.TheVariants.{Present, Absent}
 use Rattle.sheet.specs.declared.Record.{Record}
 use Rattle.sheet.proofs.Sheet.{opened_count, opened_offset, count_none, record_absent, record_present, record_inside}
 use Rattle.sheet_reader.proofs.read.Goals as goal
 
 -- The record's sixteen bytes lie in the sheet, because the directory is the sheet's and the number is below the count.
 module _ (s d : List ℕ) (k n m : ℕ) (opened : d ≡ directory_of s) where
-  no-section : 8 ≤ k → Absent ≡ record_of s k n
+  no-section : 8 ≤ k → None ≡ record_of s k n
   no-section h = sym (record_absent s k n (omega (arith, count_none s k h)))
 
   -- the count stands at place m, the offset at place o
@@ -19,7 +19,7 @@ module _ (s d : List ℕ) (k n m : ℕ) (opened : d ≡ directory_of s) where
     count-is : get_or d m 0 ≡ count_of s k
     count-is = ap (λ i. get_or d i 0) at ∙ opened_count s d opened k h
 
-    past-last : get_or d m 0 ≤ n → Absent ≡ record_of s k n
+    past-last : get_or d m 0 ≤ n → None ≡ record_of s k n
     past-last l = sym (record_absent s k n (omega (arith, count-is)))
 
     module _ (l : n < get_or d m 0) (o : ℕ) (first : o ≡ 2 * k) where
@@ -32,8 +32,8 @@ module _ (s d : List ℕ) (k n m : ℕ) (opened : d ≡ directory_of s) where
       inside : get_or d o 0 + 16 * n + 16 ≤ length s
       inside = omega (arith, offset-is, record_inside s k n below)
 
-      there : (r : Record) → r ≡ record_at s (get_or d o 0 + 16 * n) → Present r ≡ record_of s k n
-      there r e = ap Present (e ∙ ap (λ o. record_at s (o + 16 * n)) offset-is) ∙ sym (record_present s k n below)
+      there : (r : Record) → r ≡ record_at s (get_or d o 0 + 16 * n) → Some r ≡ record_of s k n
+      there r e = ap Some (e ∙ ap (λ o. record_at s (o + 16 * n)) offset-is) ∙ sym (record_present s k n below)
 
 pub returns-then-section-ge8 : goal.returns-then-section-ge8
 returns-then-section-ge8 c = no-section _ _ _ _ 0 c.requires c.if-section-ge8.true

@@ -6,4 +6,4 @@ pub returns-then-c-r : goal.returns-then-c-r
 returns-then-c-r c = called_past _ _ _ c.if-c-r.true
 
 pub returns : goal.returns
-returns c = c.read.ensures ∙ called-there _ _ _ c.if-c-r.false
+returns c = c.record.ensures ∙ called-there _ _ _ c.if-c-r.false

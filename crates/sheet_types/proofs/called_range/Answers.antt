@@ -8,4 +8,4 @@ pub returns-in_default : goal.returns-in_default
 returns-in_default c = (parameters_absent _ (sym c.called_body.ensures ∙ c.in_default.is), omega arith, omega arith)
 
 pub returns : goal.returns
-returns c = (parameters-present _ _ (sym c.called_body.ensures ∙ c.in-Present.is), search rules, search rules)
+returns c = (parameters-present _ _ (sym c.called_body.ensures ∙ c.in-Some.is), search rules, search rules)

@@ -5,8 +5,8 @@ use Rattle.sheet_types.proofs.has_class.Goals as goal
 
 pub returns-in_default : goal.returns-in_default
 unfolding has_class
-returns-in_default c = sym (holds_absent _ _ (sym c.read.ensures ∙ c.in_default.is))
+returns-in_default c = sym (holds_absent _ _ (sym c.record.ensures ∙ c.in_default.is))
 
 pub returns : goal.returns
 unfolding has_class
-returns c = sym (holds-present _ _ _ (sym c.read.ensures ∙ c.in-Present.is))
+returns c = sym (holds-present _ _ _ (sym c.record.ensures ∙ c.in-Some.is))
