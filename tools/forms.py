@@ -92,6 +92,8 @@ def main():
     count('3 loop and for', (f'{c}::{n}' for c, n, h, b in fns for _ in re.finditer(r'(?m)^ *(loop \{|for )', b)))
     count('4 functions that are one operator or one cast', (f'{c}::{n}' for c, n, h, b in fns
           if re.fullmatch(r'\{\s*\w+ (==|!=|<|<=|as|>|>=) \w+\s*\}', b)))
+    count('4 ranges of records and places of operands written out', (p for p, t in texts()
+          for _ in re.finditer(r'(?<!struct )\b(?:Range|Operands) \{', t)))
     count('5 parameters of an opened sheet and its directory', (f'{c}::{n}' for c, n, h, b in fns
           if 'directory: &Directory' in h))
     count('5 clauses that the directory is the sheet\'s', (f'{c}::{n}' for c, n, h, b in fns
