@@ -3,17 +3,18 @@
 
 ghost use Rattle.std.specs.Prelude.{◌≡◌, ◌∷◌, ◌+◌, ◌<◌, ◌≤◌, length, replicate, pos};
 ghost use Rattle.sheet.specs.Names.{chart_variables, body_parameters, body_locals};
+ghost use Rattle.sheet_rules.specs.declared.Checked.TheVariants.{Passed};
 ghost use Rattle.sheet_rules.specs.Indices.{cells_before};
+ghost use Rattle.sheet_rules.specs.Check.{check_of};
 ghost use Rattle.machine.specs.Values.{default_of};
 ghost use Rattle.machine.specs.Run.{local_at, locals_of};
 ghost use Rattle.machine.specs.State.{cell_at, state_length, put_words};
 ghost use Rattle.machine.specs.Play.{alike, default_cells, default_state};
 ghost use Rattle.engine_cells.specs.Cells.{CellsIn};
 
-use engine_cells::Yard;
 use engine_context::{LOCALS, Locals};
 use machine::Data;
-use sheet::{ENUMERATED_TYPES, Record};
+use sheet::{ENUMERATED_TYPES, HEAD, Record};
 use sheet_opened::Reader;
 
 // "Defaults: false, 0, Log, log, the declared member, a stopped clock"
@@ -82,20 +83,21 @@ fn default_cells(sheet: &Reader, st: &mut [i32], c: Record, cell: usize) -> usiz
 }
 
 // "all defaults, nothing waiting"
-pub fn default_state(yard: &Yard, st: &mut [i32])
-    requires { length st.old ≡ state_length yard.now.sheet }
-    ensures { st.new ≡ default_state yard.now.sheet }
+pub fn default_state(sheet: &Reader, st: &mut [i32])
+    requires { (check_of sheet.now ≡ Passed) × (length st.old ≡ state_length sheet.now) }
+    ensures { st.new ≡ default_state sheet.now }
 {
     engine_copies::zero(st);
-    let count = yard.elements();
+    let components = sheet_fields::field_at(sheet, HEAD, 0, 0);
+    let count = components.saturating_sub(sheet_fields::field_at(sheet, HEAD, 0, 1));
     let mut cell: usize = 0;
     let mut k: usize = 0;
     for i in 0..count {
-        let Some(c) = sheet_bindings::chart_bound(&yard.sheet, k) else {
+        let Some(c) = sheet_bindings::chart_bound(sheet, k) else {
             prove!(false);
             return;
         };
-        cell = default_cells(&yard.sheet, st, c, cell);
+        cell = default_cells(sheet, st, c, cell);
         k += sheet_bindings::records_for(c.f1);
     }
 }

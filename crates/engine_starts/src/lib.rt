@@ -42,7 +42,7 @@ pub fn from_defaults(yard: &Yard, st: &mut [i32]) -> Answer
     requires { length st.old ≡ state_length yard.now.sheet }
     ensures { ended result st.new ≡ started yard.now.sheet (limit_of yard.now.sheet) }
 {
-    engine_defaults::default_state(yard, st);
+    engine_defaults::default_state(&yard.sheet, st);
     let first = engine_valid_values::externals(&yard.sheet);
     let count = yard.elements();
     let most = engine_limit::limit(&yard.sheet);

@@ -9,4 +9,4 @@ use Rattle.engine_defaults.proofs.State.{Filled}
 use Rattle.engine_defaults.proofs.default_state.Given as goal
 
 abbrev pub invariant-loop-i : goal.invariant-loop-i
-invariant-loop-i l = (l.i ≤ l.count) × (l.count ≡ elements_of l.yard.sheet) × (length l.st ≡ state_length l.yard.sheet) × (l.cell ≡ sum_below l.i (cells_bound l.yard.sheet)) × Filled l.yard.sheet l.initial.st l.st l.cell l.i × (l.k ≡ first_binding l.yard.sheet l.i)
+invariant-loop-i l = (l.i ≤ l.count) × (l.count ≡ elements_of l.sheet) × (length l.st ≡ state_length l.sheet) × (l.cell ≡ sum_below l.i (cells_bound l.sheet)) × Filled l.sheet l.initial.st l.st l.cell l.i × (l.k ≡ first_binding l.sheet l.i)
