@@ -12,8 +12,8 @@ use sheet_rules::Checked;
 
 // Whether the sheet has the shape. A mark is lent for each node.
 fn shape_holds(sheet: &Reader, marks: &mut [u16]) -> bool
-    requires nodes_in_bounds { count_of sheet.now nodes ≤ length marks.old }
-    ensures { result ≡ shape sheet.now }
+    requires nodes_in_bounds { count_of sheet.now.sheet.now nodes ≤ length marks.old }
+    ensures { result ≡ shape sheet.now.sheet.now }
 {
     if sheet.count(HEAD) != 1 {
         return false;
@@ -41,7 +41,7 @@ fn shape_holds(sheet: &Reader, marks: &mut [u16]) -> bool
 
 // The same with marks of its own. An array is cleared when it is made, so a sheet of few nodes gets a short one.
 fn shaped(sheet: &Reader) -> bool
-    ensures { result ≡ shape sheet.now }
+    ensures { result ≡ shape sheet.now.sheet.now }
 {
     let count = sheet.count(NODES);
     if count <= 512 {
@@ -54,7 +54,7 @@ fn shaped(sheet: &Reader) -> bool
 
 // What check answers, and with it the paper's number, for a caller who has opened the directory.
 pub fn check_opened(sheet: &Reader) -> Checked
-    ensures { (result ≡ check_of sheet.now) × (check_number result ≡ check_call sheet.now) }
+    ensures { (result ≡ check_of sheet.now.sheet.now) × (check_number result ≡ check_call sheet.now.sheet.now) }
 {
     if !shaped(sheet) {
         return Checked::Shape;

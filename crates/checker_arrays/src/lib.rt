@@ -10,7 +10,7 @@ use sheet_rules::Typed;
 
 // "19 and 44 take nothing else, with an index of the array's index type (Int for a number)"
 fn indexed_by(sheet: &Reader, c: Record, n: u16, x: Typed) -> bool
-    ensures { result ≡ indexed_by (chart_variable_index sheet.now c n) x }
+    ensures { result ≡ indexed_by (chart_variable_index sheet.now.sheet.now c n) x }
 {
     let Some(r) = sheet.record(DECLARATIONS, c.f2 as usize + n as usize) else {
         return false;
@@ -27,7 +27,7 @@ fn indexed_by(sheet: &Reader, c: Record, n: u16, x: Typed) -> bool
 }
 
 pub fn read_element_type(sheet: &Reader, c: Record, r: Record, x: Typed) -> Typed
-    ensures { result ≡ read_element_type sheet.now c r x }
+    ensures { result ≡ read_element_type sheet.now.sheet.now c r x }
 {
     if !indexed_by(sheet, c, r.f1, x) {
         return Typed::Wrong;
@@ -37,7 +37,7 @@ pub fn read_element_type(sheet: &Reader, c: Record, r: Record, x: Typed) -> Type
 
 // The value that is assigned is of the type of the array's elements.
 pub fn assign_element_type(sheet: &Reader, c: Record, r: Record, x: Typed, y: Typed) -> Typed
-    ensures { result ≡ assign_element_type sheet.now c r x y }
+    ensures { result ≡ assign_element_type sheet.now.sheet.now c r x y }
 {
     if !indexed_by(sheet, c, r.f1, x) {
         return Typed::Wrong;

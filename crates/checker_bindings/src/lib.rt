@@ -10,7 +10,7 @@ use sheet_opened::Reader;
 // The constants of the element bound to chart c whose first record is k.
 fn constants_fit(sheet: &Reader, k: usize, c: Record) -> bool
     requires { k ≤ 131072 }
-    ensures { result ≡ constants_shape sheet.now k c }
+    ensures { result ≡ constants_shape sheet.now.sheet.now k c }
 {
     sheet_bindings::every_constant(
         sheet,
@@ -23,7 +23,7 @@ fn constants_fit(sheet: &Reader, k: usize, c: Record) -> bool
 // Whether record k is a second one, with n constants.
 fn second_fits(sheet: &Reader, k: usize, n: usize) -> bool
     requires { n < 65536 }
-    ensures { result ≡ second_shape sheet.now k n }
+    ensures { result ≡ second_shape sheet.now.sheet.now k n }
 {
     let Some(r) = sheet.record(BINDINGS, k) else {
         return false;
@@ -37,7 +37,7 @@ fn second_fits(sheet: &Reader, k: usize, n: usize) -> bool
 // The records from k on, the first one being r, of an element bound to chart c.
 fn records_fit(sheet: &Reader, k: usize, r: Record, c: Record) -> bool
     requires { k ≤ 131072 }
-    ensures { result ≡ records_shape sheet.now k r c }
+    ensures { result ≡ records_shape sheet.now.sheet.now k r c }
 {
     if !constants_fit(sheet, k, c) {
         return false;
@@ -55,7 +55,7 @@ fn records_fit(sheet: &Reader, k: usize, r: Record, c: Record) -> bool
 // The records of the element whose first one is k.
 fn binding_fits(sheet: &Reader, k: usize) -> bool
     requires { k ≤ 131072 }
-    ensures { result ≡ binding_shape sheet.now k }
+    ensures { result ≡ binding_shape sheet.now.sheet.now k }
 {
     let Some(r) = sheet.record(BINDINGS, k) else {
         return false;
@@ -68,7 +68,7 @@ fn binding_fits(sheet: &Reader, k: usize) -> bool
 
 // The whole section, element by element.
 pub fn bindings_fit(sheet: &Reader) -> bool
-    ensures { result ≡ bindings_shape sheet.now }
+    ensures { result ≡ bindings_shape sheet.now.sheet.now }
 {
     sheet_bindings::every_element(sheet, |k| binding_fits(sheet, k))
 }

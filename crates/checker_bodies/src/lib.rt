@@ -9,7 +9,7 @@ use sheet_opened::Reader;
 
 // The port and the name of a reaction are there, and 0 in another body.
 fn reaction_fits(sheet: &Reader, r: Record) -> bool
-    ensures { result ≡ reaction_shape sheet.now r }
+    ensures { result ≡ reaction_shape sheet.now.sheet.now r }
 {
     let role = r.f0;
     match role {
@@ -36,7 +36,7 @@ fn reaction_fits(sheet: &Reader, r: Record) -> bool
 }
 
 pub fn body_fits(sheet: &Reader, r: Record) -> bool
-    ensures { result ≡ body_shape sheet.now r }
+    ensures { result ≡ body_shape sheet.now.sheet.now r }
 {
     if 4 < r.f0 {
         return false;

@@ -11,8 +11,8 @@ use sheet::{BODIES, ByRecord, Range, Record};
 use sheet_opened::Reader;
 
 fn body_static(sheet: &Reader, table: &ByRecord, c: Record, b: Record) -> bool
-    requires table { Table sheet.now c table.now }
-    ensures { result ≡ body_static sheet.now c b }
+    requires table { Table sheet.now.sheet.now c table.now }
+    ensures { result ≡ body_static sheet.now.sheet.now c b }
 {
     if !checker_roles::plain_data(sheet, checker_roles::parameters(b)) {
         return false;
@@ -27,8 +27,8 @@ fn body_static(sheet: &Reader, table: &ByRecord, c: Record, b: Record) -> bool
 }
 
 fn bodies_static(sheet: &Reader, tables: &mut Tables, c: Record) -> bool
-    requires { Ready sheet.now tables.old }
-    ensures { (result ≡ bodies_static sheet.now c) × Ready sheet.now tables.new }
+    requires { Ready sheet.now.sheet.now tables.old }
+    ensures { (result ≡ bodies_static sheet.now.sheet.now c) × Ready sheet.now.sheet.now tables.new }
 {
     checker_reactions::fill(sheet, &mut tables.internal, c);
     let first = c.f4 as usize;
@@ -50,8 +50,8 @@ fn bodies_static(sheet: &Reader, tables: &mut Tables, c: Record) -> bool
 }
 
 pub fn chart_static(sheet: &Reader, tables: &mut Tables, c: Record) -> bool
-    requires { Ready sheet.now tables.old }
-    ensures { (result ≡ chart_static sheet.now c) × Ready sheet.now tables.new }
+    requires { Ready sheet.now.sheet.now tables.old }
+    ensures { (result ≡ chart_static sheet.now.sheet.now c) × Ready sheet.now.sheet.now tables.new }
 {
     let g = Range {
         first: c.f0 as usize,

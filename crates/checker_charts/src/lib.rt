@@ -9,7 +9,7 @@ use sheet_opened::Reader;
 
 // Where the bodies of the charts before chart k end.
 fn bodies_up_to(sheet: &Reader, k: usize) -> usize
-    ensures { result ≡ bodies_up_to sheet.now k }
+    ensures { result ≡ bodies_up_to sheet.now.sheet.now k }
 {
     if k == 0 {
         return 0;
@@ -21,7 +21,7 @@ fn bodies_up_to(sheet: &Reader, k: usize) -> usize
 }
 
 pub fn chart_fits(sheet: &Reader, k: usize, r: Record) -> bool
-    ensures { result ≡ chart_shape sheet.now k r }
+    ensures { result ≡ chart_shape sheet.now.sheet.now k r }
 {
     if !sheet_fields::in_section(sheet, DECLARATIONS, r.f0, r.f1) {
         return false;
@@ -42,7 +42,7 @@ pub fn chart_fits(sheet: &Reader, k: usize, r: Record) -> bool
 }
 
 pub fn bodies_covered(sheet: &Reader) -> bool
-    ensures { result ≡ bodies_covered sheet.now }
+    ensures { result ≡ bodies_covered sheet.now.sheet.now }
 {
     bodies_up_to(sheet, sheet.count(CHARTS)) == sheet.count(BODIES)
 }

@@ -27,7 +27,7 @@ fn mark_constants(marks: &mut [u16], count: usize, b: Record, n: usize)
 fn mark_second(sheet: &Reader, marks: &mut [u16], count: usize, k: usize, n: usize) -> usize
     requires count_in_bounds { count ≤ length marks.old }
     requires n_bound { n < 65536 }
-    ensures { (result ≡ number_or0 (record_of sheet.now bindings k) (λ b. 1)) × (result ≤ 1) × Marked count 0 marks.old marks.new (λ m. number_or0 (record_of sheet.now bindings k) (λ b. constants_named b n m)) }
+    ensures { (result ≡ number_or0 (record_of sheet.now.sheet.now bindings k) (λ b. 1)) × (result ≤ 1) × Marked count 0 marks.old marks.new (λ m. number_or0 (record_of sheet.now.sheet.now bindings k) (λ b. constants_named b n m)) }
 {
     let Some(b) = sheet.record(BINDINGS, k) else {
         return 0;
@@ -39,8 +39,8 @@ fn mark_second(sheet: &Reader, marks: &mut [u16], count: usize, k: usize, n: usi
 // The element whose first binding record is k names its constants. How many records were gone over.
 pub fn mark_binding(sheet: &Reader, marks: &mut [u16], count: usize, k: usize) -> usize
     requires count_in_bounds { count ≤ length marks.old }
-    requires k_bound { k < count_of sheet.now bindings }
-    ensures { (k + result ≡ gone_to sheet.now k) × (result ≤ 2) × Marked count 0 marks.old marks.new (λ n. constant_uses sheet.now n k) }
+    requires k_bound { k < count_of sheet.now.sheet.now bindings }
+    ensures { (k + result ≡ gone_to sheet.now.sheet.now k) × (result ≤ 2) × Marked count 0 marks.old marks.new (λ n. constant_uses sheet.now.sheet.now n k) }
 {
     let Some(b) = sheet.record(BINDINGS, k) else {
         prove!(false);

@@ -44,7 +44,7 @@ pub fn enumerated_fits(r: Record) -> bool
 }
 
 fn type_exists(sheet: &Reader, t: usize) -> bool
-    ensures { result ≡ type_exists sheet.now t }
+    ensures { result ≡ type_exists sheet.now.sheet.now t }
 {
     if t <= 6 {
         return true;
@@ -56,7 +56,7 @@ fn type_exists(sheet: &Reader, t: usize) -> bool
 }
 
 pub fn declaration_fits(sheet: &Reader, r: Record) -> bool
-    ensures { result ≡ declaration_shape sheet.now r }
+    ensures { result ≡ declaration_shape sheet.now.sheet.now r }
 {
     if !type_exists(sheet, r.f0 as usize) {
         return false;
@@ -68,7 +68,7 @@ pub fn declaration_fits(sheet: &Reader, r: Record) -> bool
 }
 
 pub fn name_fits(sheet: &Reader, r: Record) -> bool
-    ensures { result ≡ name_shape sheet.now r }
+    ensures { result ≡ name_shape sheet.now.sheet.now r }
 {
     if !sheet_fields::in_section(sheet, DECLARATIONS, r.f0, r.f1) {
         return false;

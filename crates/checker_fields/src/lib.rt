@@ -10,7 +10,7 @@ use sheet_opened::Reader;
 
 // What the fields of a node number exists, and fields not named are 0.
 pub fn fields_fit(sheet: &Reader, c: Record, b: Record, r: Record) -> bool
-    ensures { result ≡ fields_shape sheet.now c b r (form_of r.f0) }
+    ensures { result ≡ fields_shape sheet.now.sheet.now c b r (form_of r.f0) }
 {
     let op = r.f0;
     match op {

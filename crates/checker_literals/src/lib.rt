@@ -8,7 +8,7 @@ use sheet::{ENUMERATED_TYPES, HEAD, NODES, Record};
 use sheet_opened::Reader;
 
 pub fn literal_fits(sheet: &Reader, r: Record) -> bool
-    ensures { result ≡ literal_shape sheet.now r }
+    ensures { result ≡ literal_shape sheet.now.sheet.now r }
 {
     let op = r.f0;
     match op {
@@ -42,7 +42,7 @@ pub fn literal_fits(sheet: &Reader, r: Record) -> bool
 }
 
 pub fn constant_fits(sheet: &Reader, n: usize) -> bool
-    ensures { result ≡ constant_shape sheet.now n }
+    ensures { result ≡ constant_shape sheet.now.sheet.now n }
 {
     let Some(r) = sheet.record(NODES, n) else {
         return false;

@@ -49,7 +49,7 @@ pub fn mark(marks: &mut [u16], top: usize, n: usize, k: u16)
 fn mark_root(sheet: &Reader, marks: &mut [u16], count: usize, number: usize, k: u16) -> usize
     requires count_in_bounds { count ≤ length marks.old }
     requires k_bound { k < 16384 }
-    ensures { (result ≡ number_or0 (record_of sheet.now bodies number) (λ b. 1)) × (result ≤ 1) × Marked count k marks.old marks.new (λ n. number_or0 (record_of sheet.now bodies number) (λ b. one_if (eqb (root b) n))) }
+    ensures { (result ≡ number_or0 (record_of sheet.now.sheet.now bodies number) (λ b. 1)) × (result ≤ 1) × Marked count k marks.old marks.new (λ n. number_or0 (record_of sheet.now.sheet.now bodies number) (λ b. one_if (eqb (root b) n))) }
 {
     let Some(b) = sheet.record(BODIES, number) else {
         return 0;
@@ -61,7 +61,7 @@ fn mark_root(sheet: &Reader, marks: &mut [u16], count: usize, number: usize, k: 
 // The bodies of chart i name their roots. How many bodies were gone over.
 pub fn mark_chart(sheet: &Reader, marks: &mut [u16], count: usize, i: usize) -> usize
     requires count_in_bounds { count ≤ length marks.old }
-    ensures { (result ≡ number_or0 (record_of sheet.now charts i) (over_bodies sheet.now (λ b. 1))) × (result < 65536) × Marked count (i + 1) marks.old marks.new (λ n. number_or0 (record_of sheet.now charts i) (root_uses sheet.now n)) }
+    ensures { (result ≡ number_or0 (record_of sheet.now.sheet.now charts i) (over_bodies sheet.now.sheet.now (λ b. 1))) × (result < 65536) × Marked count (i + 1) marks.old marks.new (λ n. number_or0 (record_of sheet.now.sheet.now charts i) (root_uses sheet.now.sheet.now n)) }
 {
     let Some(c) = sheet.record(CHARTS, i) else {
         return 0;

@@ -52,7 +52,7 @@ pub fn chart_variable_fits(c: Record, r: Record, from: usize) -> bool
 
 // A data field more than the name has is 0.
 pub fn send_fits(sheet: &Reader, r: Record) -> bool
-    ensures { result ≡ send_shape sheet.now r }
+    ensures { result ≡ send_shape sheet.now.sheet.now r }
 {
     let Some(n) = sheet.record(NAMES, r.f3 as usize) else {
         return false;
@@ -62,7 +62,7 @@ pub fn send_fits(sheet: &Reader, r: Record) -> bool
 
 // An internal send has neither component nor port.
 pub fn internal_fits(sheet: &Reader, r: Record) -> bool
-    ensures { result ≡ eqb r.f1 0 and eqb r.f2 0 and send_shape sheet.now r }
+    ensures { result ≡ eqb r.f1 0 and eqb r.f2 0 and send_shape sheet.now.sheet.now r }
 {
     if r.f1 != 0 {
         return false;
@@ -74,7 +74,7 @@ pub fn internal_fits(sheet: &Reader, r: Record) -> bool
 }
 
 pub fn arm_fits(sheet: &Reader, c: Record, r: Record) -> bool
-    ensures { result ≡ ltb r.f1 (chart_variables c).count and send_shape sheet.now r }
+    ensures { result ≡ ltb r.f1 (chart_variables c).count and send_shape sheet.now.sheet.now r }
 {
     if !chart_variable_there(c, r) {
         return false;
@@ -84,7 +84,7 @@ pub fn arm_fits(sheet: &Reader, c: Record, r: Record) -> bool
 
 // A data field more than the called body has parameters is 0.
 pub fn call_fits(sheet: &Reader, c: Record, r: Record) -> bool
-    ensures { result ≡ ltb r.f1 (chart_bodies c).count and eqb r.f2 0 and eqb r.f3 0 and zero_from (4 + call_data sheet.now c r) r }
+    ensures { result ≡ ltb r.f1 (chart_bodies c).count and eqb r.f2 0 and eqb r.f3 0 and zero_from (4 + call_data sheet.now.sheet.now c r) r }
 {
     if c.f5 <= r.f1 {
         return false;

@@ -16,7 +16,7 @@ use sheet_rules::Operands;
 
 // The chart of a home, one without bodies for none.
 fn home_chart(sheet: &Reader, k: u16) -> Record
-    ensures { result ≡ home_chart sheet.now k }
+    ensures { result ≡ home_chart sheet.now.sheet.now k }
 {
     if k == 0 {
         return Record::default();
@@ -26,7 +26,7 @@ fn home_chart(sheet: &Reader, k: u16) -> Record
 
 // Where the operands of a node with home k stand. Only those of a call depend on it.
 fn operands_at(sheet: &Reader, k: u16, r: Record) -> Operands
-    ensures { (result ≡ operands_of sheet.now (home_chart sheet.now k) r) × Small result }
+    ensures { (result ≡ operands_of sheet.now.sheet.now (home_chart sheet.now.sheet.now k) r) × Small result }
 {
     if r.f0 == 40 {
         let c = home_chart(sheet, k);
@@ -40,7 +40,7 @@ fn operands_at(sheet: &Reader, k: u16, r: Record) -> Operands
 pub fn mark_operands(sheet: &Reader, marks: &mut [u16], m: usize, k: u16) -> usize
     requires m_in_bounds { m ≤ length marks.old }
     requires k_bound { k < 16384 }
-    ensures { (result ≡ number_or0 (record_of sheet.now nodes m) (λ r. 1)) × (result ≤ 1) × Marked m k marks.old marks.new (operand_uses sheet.now (home_chart sheet.now k) m) }
+    ensures { (result ≡ number_or0 (record_of sheet.now.sheet.now nodes m) (λ r. 1)) × (result ≤ 1) × Marked m k marks.old marks.new (operand_uses sheet.now.sheet.now (home_chart sheet.now.sheet.now k) m) }
 {
     let Some(r) = sheet.record(NODES, m) else {
         return 0;

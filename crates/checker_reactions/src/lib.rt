@@ -21,7 +21,7 @@ pub struct Tables {
 // Enters body i in the table of internal reactions, if it is one.
 fn enter(sheet: &Reader, table: &mut ByRecord, i: usize)
     requires table_len { length table.old ≡ 4096 }
-    ensures { Entered sheet.now reacts_to i table.old table.new }
+    ensures { Entered sheet.now.sheet.now reacts_to i table.old table.new }
 {
     let Some(b) = sheet.record(BODIES, i) else {
         return;
@@ -39,8 +39,8 @@ fn enter(sheet: &Reader, table: &mut ByRecord, i: usize)
 // Enters the internal reactions of chart c. What other charts left there stays: a body that is not
 // of this chart, or one that reacts to that name in it too.
 pub fn fill(sheet: &Reader, table: &mut ByRecord, c: Record)
-    requires entries { Entries sheet.now reacts_to table.old }
-    ensures { Entries sheet.now reacts_to table.new × Table sheet.now c table.new }
+    requires entries { Entries sheet.now.sheet.now reacts_to table.old }
+    ensures { Entries sheet.now.sheet.now reacts_to table.new × Table sheet.now.sheet.now c table.new }
 {
     let first = c.f4 as usize;
     let count = c.f5 as usize;

@@ -12,7 +12,7 @@ use sheet_opened::Reader;
 // "clocks .. stand in no declaration range but chart variables", nor does an array.
 pub fn plain_data(sheet: &Reader, g: Range) -> bool
     requires { (g.first < 65536) × (g.count < 65536) }
-    ensures { result ≡ plain_data sheet.now g }
+    ensures { result ≡ plain_data sheet.now.sheet.now g }
 {
     let first = g.first;
     let count = g.count;
@@ -30,7 +30,7 @@ pub fn plain_data(sheet: &Reader, g: Range) -> bool
 // Whether two ranges of declarations have the same types in order.
 fn same_types(sheet: &Reader, g: Range, h: Range) -> bool
     requires { (g.first < 65536) × (g.count < 65536) × (h.first < 65536) }
-    ensures { result ≡ same_types sheet.now g h }
+    ensures { result ≡ same_types sheet.now.sheet.now g h }
 {
     let count = g.count;
     let from = g.first;
@@ -65,7 +65,7 @@ pub fn locals(b: Record) -> Range
 }
 
 fn reaction_static(sheet: &Reader, b: Record) -> bool
-    ensures { result ≡ reaction_static sheet.now b }
+    ensures { result ≡ reaction_static sheet.now.sheet.now b }
 {
     let name = b.f2 as usize;
     if b.f0 == 2 {
@@ -81,7 +81,7 @@ fn reaction_static(sheet: &Reader, b: Record) -> bool
 }
 
 pub fn role_static(sheet: &Reader, b: Record) -> bool
-    ensures { result ≡ role_static sheet.now b }
+    ensures { result ≡ role_static sheet.now.sheet.now b }
 {
     let role = b.f0;
     match role {
@@ -93,7 +93,7 @@ pub fn role_static(sheet: &Reader, b: Record) -> bool
 
 // How many bodies of chart c have a role.
 pub fn bodies_with(sheet: &Reader, c: Record, role: u16) -> usize
-    ensures { result ≡ bodies_with sheet.now c role }
+    ensures { result ≡ bodies_with sheet.now.sheet.now c role }
 {
     let first = c.f4 as usize;
     let count = c.f5 as usize;
@@ -106,7 +106,7 @@ pub fn bodies_with(sheet: &Reader, c: Record, role: u16) -> usize
 
 // 1 if body i has a role, else 0.
 fn role_count(sheet: &Reader, i: usize, role: u16) -> usize
-    ensures { (result ≡ one_if (has_role sheet.now i role)) × (result ≤ 1) }
+    ensures { (result ≡ one_if (has_role sheet.now.sheet.now i role)) × (result ≤ 1) }
 {
     let Some(b) = sheet.record(BODIES, i) else {
         return 0;

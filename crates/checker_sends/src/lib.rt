@@ -29,8 +29,8 @@ fn has_reaction(table: &ByRecord, c: Record, n: u16) -> bool
 }
 
 fn internal_name(sheet: &Reader, table: &ByRecord, c: Record, n: u16) -> bool
-    requires table { Table sheet.now c table.now }
-    ensures { result ≡ internal_name sheet.now c n }
+    requires table { Table sheet.now.sheet.now c table.now }
+    ensures { result ≡ internal_name sheet.now.sheet.now c n }
 {
     if !sheet_types::has_class(sheet, n as usize, 1) {
         return false;
@@ -39,7 +39,7 @@ fn internal_name(sheet: &Reader, table: &ByRecord, c: Record, n: u16) -> bool
 }
 
 pub fn external_type(sheet: &Reader, r: Record, x: Typed, y: Typed, d: bool) -> Typed
-    ensures { result ≡ external_type sheet.now r x y d }
+    ensures { result ≡ external_type sheet.now.sheet.now r x y d }
 {
     if !sheet_types::is_of(x, 2) {
         return Typed::Wrong;
@@ -57,8 +57,8 @@ pub fn external_type(sheet: &Reader, r: Record, x: Typed, y: Typed, d: bool) -> 
 }
 
 pub fn internal_type(sheet: &Reader, table: &ByRecord, c: Record, r: Record, d: bool) -> Typed
-    requires table { Table sheet.now c table.now }
-    ensures { result ≡ internal_type sheet.now c r d }
+    requires table { Table sheet.now.sheet.now c table.now }
+    ensures { result ≡ internal_type sheet.now.sheet.now c r d }
 {
     if !internal_name(sheet, table, c, r.f3) {
         return Typed::Wrong;
@@ -80,8 +80,8 @@ fn clock_of(op: u16) -> usize
 }
 
 pub fn arm_type(sheet: &Reader, table: &ByRecord, c: Record, r: Record, x: Typed, d: bool) -> Typed
-    requires table { Table sheet.now c table.now }
-    ensures { result ≡ arm_type sheet.now c r x d }
+    requires table { Table sheet.now.sheet.now c table.now }
+    ensures { result ≡ arm_type sheet.now.sheet.now c r x d }
 {
     if sheet_types::chart_variable_type(sheet, c, r.f1) != clock_of(r.f0) {
         return Typed::Wrong;
@@ -93,7 +93,7 @@ pub fn arm_type(sheet: &Reader, table: &ByRecord, c: Record, r: Record, x: Typed
 }
 
 pub fn call_type(sheet: &Reader, c: Record, r: Record, d: bool) -> Typed
-    ensures { result ≡ call_type sheet.now c r d }
+    ensures { result ≡ call_type sheet.now.sheet.now c r d }
 {
     let Some(p) = sheet_types::called_body(sheet, c, r) else {
         return Typed::Wrong;

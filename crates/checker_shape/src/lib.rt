@@ -9,7 +9,7 @@ use sheet::Record;
 use sheet_opened::Reader;
 
 fn record_fits(sheet: &Reader, k: usize, i: usize, r: Record) -> bool
-    ensures { result ≡ record_shape sheet.now k i r }
+    ensures { result ≡ record_shape sheet.now.sheet.now k i r }
 {
     match k {
         0 => checker_declarations::head_fits(r),
@@ -23,7 +23,7 @@ fn record_fits(sheet: &Reader, k: usize, i: usize, r: Record) -> bool
 }
 
 fn records_fit(sheet: &Reader, k: usize) -> bool
-    ensures { result ≡ each_shape sheet.now k }
+    ensures { result ≡ each_shape sheet.now.sheet.now k }
 {
     let count = sheet.count(k);
     for i in 0..count {
@@ -39,7 +39,7 @@ fn records_fit(sheet: &Reader, k: usize) -> bool
 
 // Nodes are judged in the tree that they stand in, bindings element by element.
 fn section_fits(sheet: &Reader, k: usize) -> bool
-    ensures { result ≡ section_shape sheet.now k }
+    ensures { result ≡ section_shape sheet.now.sheet.now k }
 {
     if k == 6 {
         return true;
@@ -51,7 +51,7 @@ fn section_fits(sheet: &Reader, k: usize) -> bool
 }
 
 pub fn sections_fit(sheet: &Reader) -> bool
-    ensures { result ≡ sections_shape sheet.now }
+    ensures { result ≡ sections_shape sheet.now.sheet.now }
 {
     for k in 0..8 {
         if !section_fits(sheet, k) {

@@ -20,7 +20,7 @@ fn declaration_static(r: Record) -> bool
 }
 
 fn name_static(sheet: &Reader, r: Record) -> bool
-    ensures { result ≡ name_static sheet.now r }
+    ensures { result ≡ name_static sheet.now.sheet.now r }
 {
     let g = Range {
         first: r.f0 as usize,
@@ -30,8 +30,8 @@ fn name_static(sheet: &Reader, r: Record) -> bool
 }
 
 fn record_static(sheet: &Reader, tables: &mut Tables, k: usize, r: Record) -> bool
-    requires { Ready sheet.now tables.old }
-    ensures { (result ≡ record_static sheet.now k r) × Ready sheet.now tables.new }
+    requires { Ready sheet.now.sheet.now tables.old }
+    ensures { (result ≡ record_static sheet.now.sheet.now k r) × Ready sheet.now.sheet.now tables.new }
 {
     match k {
         2 => declaration_static(r),
@@ -43,8 +43,8 @@ fn record_static(sheet: &Reader, tables: &mut Tables, k: usize, r: Record) -> bo
 
 // Not one function with the walk of the shape: each record is judged with the tables that it may change.
 fn records_static(sheet: &Reader, tables: &mut Tables, k: usize) -> bool
-    requires { Ready sheet.now tables.old }
-    ensures { (result ≡ each_static sheet.now k) × Ready sheet.now tables.new }
+    requires { Ready sheet.now.sheet.now tables.old }
+    ensures { (result ≡ each_static sheet.now.sheet.now k) × Ready sheet.now.sheet.now tables.new }
 {
     let count = sheet.count(k);
     for i in 0..count {
@@ -60,8 +60,8 @@ fn records_static(sheet: &Reader, tables: &mut Tables, k: usize) -> bool
 
 // The rules for nodes go by trees; none is for a node by itself. Those for bindings go element by element.
 fn section_static(sheet: &Reader, tables: &mut Tables, k: usize) -> bool
-    requires { Ready sheet.now tables.old }
-    ensures { (result ≡ section_static sheet.now k) × Ready sheet.now tables.new }
+    requires { Ready sheet.now.sheet.now tables.old }
+    ensures { (result ≡ section_static sheet.now.sheet.now k) × Ready sheet.now.sheet.now tables.new }
 {
     if k == 6 {
         return true;
@@ -74,7 +74,7 @@ fn section_static(sheet: &Reader, tables: &mut Tables, k: usize) -> bool
 
 // Whether every static rule holds.
 pub fn rules_hold(sheet: &Reader) -> bool
-    ensures { result ≡ static sheet.now }
+    ensures { result ≡ static sheet.now.sheet.now }
 {
     let mut tables = Tables {
         internal: [0u16; RECORDS],

@@ -10,7 +10,7 @@ use sheet_opened::Reader;
 
 // The tree of a node has at most that many levels, and each node of it fits its chart and body.
 fn tree_fits(sheet: &Reader, c: Record, b: Record, levels: usize, n: usize) -> bool
-    ensures { result ≡ tree_shape sheet.now c b levels n }
+    ensures { result ≡ tree_shape sheet.now.sheet.now c b levels n }
 {
     if levels == 0 {
         return false;
@@ -37,7 +37,7 @@ fn tree_fits(sheet: &Reader, c: Record, b: Record, levels: usize, n: usize) -> b
 
 // The trees of the bodies of chart c.
 fn trees_fit(sheet: &Reader, c: Record) -> bool
-    ensures { result ≡ trees_shape sheet.now c }
+    ensures { result ≡ trees_shape sheet.now.sheet.now c }
 {
     let first = c.f4 as usize;
     let count = c.f5 as usize;
@@ -54,7 +54,7 @@ fn trees_fit(sheet: &Reader, c: Record) -> bool
 
 // The trees of every chart's bodies.
 pub fn nodes_fit(sheet: &Reader) -> bool
-    ensures { result ≡ nodes_shape sheet.now }
+    ensures { result ≡ nodes_shape sheet.now.sheet.now }
 {
     let count = sheet.count(CHARTS);
     for k in 0..count {

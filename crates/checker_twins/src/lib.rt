@@ -53,9 +53,9 @@ fn earlier(e: u16, i: usize) -> usize
 pub fn no_twin(sheet: &Reader, tables: &Tables, c: Record, j: usize, b: Record) -> bool
     requires j_bound { j < 65536 }
     requires j_bound_2 { c.f4 + j < 4096 }
-    requires chains { Chains sheet.now c.f4 (c.f4 + j) tables.now.last tables.now.previous }
+    requires chains { Chains sheet.now.sheet.now c.f4 (c.f4 + j) tables.now.last tables.now.previous }
     requires f2_bound { is_reaction b.f0 ≡ true → b.f2 < 4096 }
-    ensures { result ≡ no_twin sheet.now c j b }
+    ensures { result ≡ no_twin sheet.now.sheet.now c j b }
 {
     if !is_reaction(b) {
         return true;

@@ -12,8 +12,8 @@ use sheet_rules::Typed;
 // What operand m of node n is: operands are lower.
 #[cycle(data_match_operand_type_type_of)]
 fn operand_type(sheet: &Reader, table: &ByRecord, c: Record, b: Record, n: usize, m: u16) -> Typed
-    requires table { Table sheet.now c table.now }
-    ensures { result ≡ lower_type n (type_of sheet.now c b) m }
+    requires table { Table sheet.now.sheet.now c table.now }
+    ensures { result ≡ lower_type n (type_of sheet.now.sheet.now c b) m }
 {
     if (m as usize) < n {
         type_of(sheet, table, c, b, m as usize)
@@ -33,9 +33,9 @@ fn data_match(
     g: Range,
     r: Record,
 ) -> bool
-    requires table { Table sheet.now c table.now }
+    requires table { Table sheet.now.sheet.now c table.now }
     requires first_bound { (g.first < 65536) × (g.count < 65536) }
-    ensures { result ≡ data_match sheet.now (lower_type n (type_of sheet.now c b)) g r }
+    ensures { result ≡ data_match sheet.now.sheet.now (lower_type n (type_of sheet.now.sheet.now c b)) g r }
 {
     let first = g.first;
     let count = g.count;
@@ -52,8 +52,8 @@ fn data_match(
 // What node n is in body b of chart c.
 #[cycle(data_match_operand_type_type_of)]
 pub fn type_of(sheet: &Reader, table: &ByRecord, c: Record, b: Record, n: usize) -> Typed
-    requires table { Table sheet.now c table.now }
-    ensures { result ≡ type_of sheet.now c b n }
+    requires table { Table sheet.now.sheet.now c table.now }
+    ensures { result ≡ type_of sheet.now.sheet.now c b n }
 {
     let Some(r) = sheet.record(NODES, n) else {
         return Typed::Wrong;

@@ -25,7 +25,7 @@ fn clear(marks: &mut [u16], count: usize)
 fn mark_charts(sheet: &Reader, marks: &mut [u16], count: usize) -> usize
     requires count_in_bounds { count ≤ length marks.old }
     requires by_index { (n : ℕ) → n < count → get_or marks.old n 0 ≡ 0 }
-    ensures { (result ≡ over_charts sheet.now (over_bodies sheet.now (λ b. 1))) × (result ≤ 268369920) × RootsMarked sheet.now (count_of sheet.now charts) count marks.old marks.new }
+    ensures { (result ≡ over_charts sheet.now.sheet.now (over_bodies sheet.now.sheet.now (λ b. 1))) × (result ≤ 268369920) × RootsMarked sheet.now.sheet.now (count_of sheet.now.sheet.now charts) count marks.old marks.new }
 {
     let total = sheet.count(CHARTS);
     let mut gone: usize = 0;
@@ -39,7 +39,7 @@ fn mark_charts(sheet: &Reader, marks: &mut [u16], count: usize) -> usize
 // tells it.
 fn mark_bindings(sheet: &Reader, marks: &mut [u16], count: usize) -> usize
     requires count_in_bounds { count ≤ length marks.old }
-    ensures { (result ≡ count_of sheet.now bindings) × Marked count 0 marks.old marks.new (λ n. over_bindings sheet.now (constant_uses sheet.now n)) }
+    ensures { (result ≡ count_of sheet.now.sheet.now bindings) × Marked count 0 marks.old marks.new (λ n. over_bindings sheet.now.sheet.now (constant_uses sheet.now.sheet.now n)) }
 {
     let total = sheet.count(BINDINGS);
     let mut k: usize = 0;
@@ -63,8 +63,8 @@ fn still_once(once: bool, used: u16) -> bool
 // Whether each node is used exactly once. A mark for each node is lent, whatever it holds, and ends as 0, 1 or 2.
 // Operands are lower, so going down from the last node, whatever uses a node has been gone over before it.
 pub fn used_once(sheet: &Reader, marks: &mut [u16]) -> Tested
-    requires nodes_in_bounds { count_of sheet.now nodes ≤ length marks.old }
-    ensures { TestGives sheet.now marks.old marks.new result }
+    requires nodes_in_bounds { count_of sheet.now.sheet.now nodes ≤ length marks.old }
+    ensures { TestGives sheet.now.sheet.now marks.old marks.new result }
 {
     let count = sheet.count(NODES);
     clear(marks, count);

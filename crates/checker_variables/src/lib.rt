@@ -11,7 +11,7 @@ use sheet_rules::Typed;
 
 // "operators 7 and 33 don't take an array"
 pub fn read_type(sheet: &Reader, c: Record, b: Record, r: Record) -> Typed
-    ensures { result ≡ read_type sheet.now c b r }
+    ensures { result ≡ read_type sheet.now.sheet.now c b r }
 {
     let d = sheet_types::variable_at(c, b, r.f1, r.f2);
     let t = sheet_types::type_at(sheet, d);
@@ -25,7 +25,7 @@ pub fn read_type(sheet: &Reader, c: Record, b: Record, r: Record) -> Typed
 }
 
 pub fn clock_type(sheet: &Reader, c: Record, r: Record) -> Typed
-    ensures { result ≡ clock_type sheet.now c r }
+    ensures { result ≡ clock_type sheet.now.sheet.now c r }
 {
     if !sheet_types::is_clock(sheet_types::chart_variable_type(sheet, c, r.f1)) {
         return Typed::Wrong;
@@ -37,7 +37,7 @@ pub fn clock_type(sheet: &Reader, c: Record, r: Record) -> Typed
 }
 
 pub fn assign_type(sheet: &Reader, c: Record, b: Record, r: Record, x: Typed) -> Typed
-    ensures { result ≡ assign_type sheet.now c b r x }
+    ensures { result ≡ assign_type sheet.now.sheet.now c b r x }
 {
     if r.f1 == 0 {
         return Typed::Wrong;
@@ -53,7 +53,7 @@ pub fn assign_type(sheet: &Reader, c: Record, b: Record, r: Record, x: Typed) ->
 }
 
 pub fn clock_act_type(sheet: &Reader, c: Record, r: Record) -> Typed
-    ensures { result ≡ clock_act_type sheet.now c r }
+    ensures { result ≡ clock_act_type sheet.now.sheet.now c r }
 {
     let t = sheet_types::chart_variable_type(sheet, c, r.f1);
     if r.f0 == 38 {

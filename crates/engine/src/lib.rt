@@ -16,8 +16,8 @@ use sheet_rules::Checked;
 // The next event of a list: the sheet is passed, the state is of it and becomes the state that goes
 // on; `spare` is a second state's room, used where there may be work to undo.
 pub fn next(yard: &Yard, st: &mut [i32], spare: &mut [i32], ev: &[i32]) -> Answer
-    requires { OfSheet yard.now.sheet st.old × (length spare.old ≡ length st.old) }
-    ensures { EventGives yard.now.sheet (limit_of yard.now.sheet) st.old st.old ev.now result st.new }
+    requires { OfSheet yard.now.sheet.sheet.now st.old × (length spare.old ≡ length st.old) }
+    ensures { EventGives yard.now.sheet.sheet.now (limit_of yard.now.sheet.sheet.now) st.old st.old ev.now result st.new }
 {
     let e = engine_valid_events::event_of(&yard.sheet, ev);
     let j = engine_sought::sought(st, e);
@@ -41,7 +41,7 @@ pub fn event(sheet: &[u8], old: &[i32], res: &mut [i32], ev: &[i32]) -> Answer
 }
 
 fn on_passed(yard: &Yard, old: &[i32], res: &mut [i32], ev: &[i32]) -> Answer
-    ensures { EventGives yard.now.sheet (limit_of yard.now.sheet) old.now res.old ev.now result res.new }
+    ensures { EventGives yard.now.sheet.sheet.now (limit_of yard.now.sheet.sheet.now) old.now res.old ev.now result res.new }
 {
     if !engine_lengths::is_state(yard.count, old.len()) {
         return answered(3, 0);
@@ -63,8 +63,8 @@ fn on_passed(yard: &Yard, old: &[i32], res: &mut [i32], ev: &[i32]) -> Answer
 
 // Start on a passed sheet.
 pub fn begin(yard: &Yard, st: &mut [i32]) -> Answer
-    requires { length st.old ≡ state_length yard.now.sheet }
-    ensures { StartGives yard.now.sheet (limit_of yard.now.sheet) st.old result st.new }
+    requires { length st.old ≡ state_length yard.now.sheet.sheet.now }
+    ensures { StartGives yard.now.sheet.sheet.now (limit_of yard.now.sheet.sheet.now) st.old result st.new }
 {
     engine_starts::from_defaults(yard, st)
 }
@@ -82,7 +82,7 @@ pub fn start(sheet: &[u8], res: &mut [i32]) -> Answer
 }
 
 fn start_passed(yard: &Yard, res: &mut [i32]) -> Answer
-    ensures { StartGives yard.now.sheet (limit_of yard.now.sheet) res.old result res.new }
+    ensures { StartGives yard.now.sheet.sheet.now (limit_of yard.now.sheet.sheet.now) res.old result res.new }
 {
     if !engine_lengths::is_state(yard.count, res.len()) {
         return answered(3, 0);

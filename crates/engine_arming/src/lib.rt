@@ -32,8 +32,8 @@ pub fn arming(
     r: Record,
     left: u32,
 ) -> Result<u32, Stop>
-    requires { Visit sheet.now context.now st.old lo.now n r arm }
-    ensures { (depth : ℕ) → world (ran_of result) st.new lo.now ≡ run_of sheet.now depth (context_at sheet.now context.now) n (suc left) st.old lo.now }
+    requires { Visit sheet.now.sheet.now context.now st.old lo.now n r arm }
+    ensures { (depth : ℕ) → world (ran_of result) st.new lo.now ≡ run_of sheet.now.sheet.now depth (context_at sheet.now.sheet.now context.now) n (suc left) st.old lo.now }
 {
     let Some(a) = sheet.record(NAMES, r.f3 as usize) else {
         return Err(Stop::Stuck);

@@ -52,8 +52,8 @@ pub fn assign(
     r: Record,
     left: u32,
 ) -> Result<u32, Stop>
-    requires { Visit sheet.now context.now st.old lo.old n r assign }
-    ensures { (length lo.new ≡ 16) × ((depth : ℕ) → world (ran_of result) st.new lo.new ≡ run_of sheet.now depth (context_at sheet.now context.now) n (suc left) st.old lo.old) }
+    requires { Visit sheet.now.sheet.now context.now st.old lo.old n r assign }
+    ensures { (length lo.new ≡ 16) × ((depth : ℕ) → world (ran_of result) st.new lo.new ≡ run_of sheet.now.sheet.now depth (context_at sheet.now.sheet.now context.now) n (suc left) st.old lo.old) }
 {
     let (word, left) = engine_expressions::eval(sheet, context, st, lo, r.f3 as usize, left)?;
     put(context, st, lo, r.f1, r.f2, word, left)
@@ -69,8 +69,8 @@ pub fn assign_element(
     r: Record,
     left: u32,
 ) -> Result<u32, Stop>
-    requires { Visit sheet.now context.now st.old lo.now n r assign_element }
-    ensures { (depth : ℕ) → world (ran_of result) st.new lo.now ≡ run_of sheet.now depth (context_at sheet.now context.now) n (suc left) st.old lo.now }
+    requires { Visit sheet.now.sheet.now context.now st.old lo.now n r assign_element }
+    ensures { (depth : ℕ) → world (ran_of result) st.new lo.now ≡ run_of sheet.now.sheet.now depth (context_at sheet.now.sheet.now context.now) n (suc left) st.old lo.now }
 {
     let (index, left) = engine_expressions::eval(sheet, context, st, lo, r.f2 as usize, left)?;
     let (value, left) = engine_expressions::eval(sheet, context, st, lo, r.f3 as usize, left)?;

@@ -24,8 +24,8 @@ pub fn run_body(
     d: &Data,
     limit: u32,
 ) -> Result<u32, Stop>
-    requires { ToRun yard.now.sheet st.old e n c number d.now × (limit ≡ limit_of yard.now.sheet) }
-    ensures { (ran_of result ≡ (ran_body yard.now.sheet (limit_of yard.now.sheet) e (record_of yard.now.sheet bodies number) d.now st.old).ran) × (st.new ≡ (ran_body yard.now.sheet (limit_of yard.now.sheet) e (record_of yard.now.sheet bodies number) d.now st.old).st) }
+    requires { ToRun yard.now.sheet.sheet.now st.old e n c number d.now × (limit ≡ limit_of yard.now.sheet.sheet.now) }
+    ensures { (ran_of result ≡ (ran_body yard.now.sheet.sheet.now (limit_of yard.now.sheet.sheet.now) e (record_of yard.now.sheet.sheet.now bodies number) d.now st.old).ran) × (st.new ≡ (ran_body yard.now.sheet.sheet.now (limit_of yard.now.sheet.sheet.now) e (record_of yard.now.sheet.sheet.now bodies number) d.now st.old).st) }
 {
     let i = e - sheet_fields::field_at(&yard.sheet, HEAD, 0, 1);
     let k = yard.cells[ROW * i + FIRST_RECORD];
@@ -66,8 +66,8 @@ pub fn event_body(
     number: usize,
     d: &Data,
 ) -> Answer
-    requires { ToRun yard.now.sheet st.old e n c number d.now × (length old.now ≡ length st.old) }
-    ensures { ended result st.new ≡ body_event yard.now.sheet (limit_of yard.now.sheet) old.now e (record_of yard.now.sheet bodies number) d.now st.old }
+    requires { ToRun yard.now.sheet.sheet.now st.old e n c number d.now × (length old.now ≡ length st.old) }
+    ensures { ended result st.new ≡ body_event yard.now.sheet.sheet.now (limit_of yard.now.sheet.sheet.now) old.now e (record_of yard.now.sheet.sheet.now bodies number) d.now st.old }
 {
     let limit = engine_limit::limit(&yard.sheet);
     match run_body(yard, st, e, n, c, number, d, limit) {

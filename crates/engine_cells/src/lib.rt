@@ -34,14 +34,14 @@ pub struct Yard<'a> {
     pub sheet: Reader<'a>,
     pub cells: CellLayout,
     pub count: usize,
-    pub ghost passed: { check_of sheet ≡ Passed },
-    pub ghost table: { CellTable sheet cells },
-    pub ghost counted: { count ≡ cells_of sheet },
+    pub ghost passed: { check_of sheet.sheet.now ≡ Passed },
+    pub ghost table: { CellTable sheet.sheet.now cells },
+    pub ghost counted: { count ≡ cells_of sheet.sheet.now },
 }
 
 impl<'a> Yard<'a> {
     pub fn new(sheet: Reader<'a>) -> Self
-        requires { check_of sheet ≡ Passed }
+        requires { check_of sheet.sheet.now ≡ Passed }
         ensures { result.sheet ≡ sheet.entry }
     {
         let mut cells = [0usize; LAYOUT];
@@ -55,15 +55,15 @@ impl<'a> Yard<'a> {
 
     // How many bound elements there are.
     pub fn elements(&self) -> usize
-        ensures { (result ≡ elements_of self.now.sheet) × (result < 64) }
+        ensures { (result ≡ elements_of self.now.sheet.sheet.now) × (result < 64) }
     {
         elements(&self.sheet)
     }
 
     // The number of bound element e's chart, which the first record of its row names.
     pub fn chart_number(&self, e: usize) -> usize
-        requires { is_bound self.now.sheet e ≡ true }
-        ensures { record_of self.now.sheet charts result ≡ chart_of self.now.sheet e }
+        requires { is_bound self.now.sheet.sheet.now e ≡ true }
+        ensures { record_of self.now.sheet.sheet.now charts result ≡ chart_of self.now.sheet.sheet.now e }
     {
         let i = e - sheet_fields::field_at(&self.sheet, HEAD, 0, 1);
         sheet_fields::field_at(&self.sheet, BINDINGS, self.cells[ROW * i + FIRST_RECORD], 0)
@@ -71,8 +71,8 @@ impl<'a> Yard<'a> {
 
     // The chart of bound element e, by its row.
     pub fn chart(&self, e: usize) -> Option<Record>
-        requires { is_bound self.now.sheet e ≡ true }
-        ensures { result ≡ chart_of self.now.sheet e }
+        requires { is_bound self.now.sheet.sheet.now e ≡ true }
+        ensures { result ≡ chart_of self.now.sheet.sheet.now e }
     {
         let n = self.chart_number(e);
         self.sheet.record(CHARTS, n)
@@ -80,9 +80,9 @@ impl<'a> Yard<'a> {
 }
 
 // How many elements a passed sheet binds.
-fn elements(sheet: &Reader) -> usize
-    requires { check_of sheet.now ≡ Passed }
-    ensures { (result ≡ elements_of sheet.now) × (result < 64) }
+pub fn elements(sheet: &Reader) -> usize
+    requires { check_of sheet.now.sheet.now ≡ Passed }
+    ensures { (result ≡ elements_of sheet.now.sheet.now) × (result < 64) }
 {
     let components = sheet_fields::field_at(sheet, HEAD, 0, 0);
     components - sheet_fields::field_at(sheet, HEAD, 0, 1)
@@ -91,8 +91,8 @@ fn elements(sheet: &Reader) -> usize
 // Enters the cells of chart c's variables from place `at` on, the first one's being given, and gives
 // the cell behind them.
 fn fill_row(sheet: &Reader, cells: &mut CellLayout, c: Record, at: usize, cell: usize) -> usize
-    requires { (length cells.old ≡ 2176) × ((chart_variables c).count ≤ 32) × (at + 34 ≤ 2176) × (cell + cells_before sheet.now c (chart_variables c).count ≤ 512) }
-    ensures { (result ≡ cell + cells_before sheet.now c (chart_variables c).count) × Row sheet.now c at cell ((chart_variables c).count + 1) cells.old cells.new }
+    requires { (length cells.old ≡ 2176) × ((chart_variables c).count ≤ 32) × (at + 34 ≤ 2176) × (cell + cells_before sheet.now.sheet.now c (chart_variables c).count ≤ 512) }
+    ensures { (result ≡ cell + cells_before sheet.now.sheet.now c (chart_variables c).count) × Row sheet.now.sheet.now c at cell ((chart_variables c).count + 1) cells.old cells.new }
 {
     let count = c.f3 as usize;
     let mut next = cell;
@@ -107,9 +107,9 @@ fn fill_row(sheet: &Reader, cells: &mut CellLayout, c: Record, at: usize, cell: 
 
 // Fills the table, and gives how many cells there are. A passed sheet has at most 64 components. Each
 // element's records stand behind those of the elements before it.
-fn fill(sheet: &Reader, cells: &mut CellLayout) -> usize
-    requires { (check_of sheet.now ≡ Passed) × (length cells.old ≡ 2176) }
-    ensures { (result ≡ cells_of sheet.now) × CellTable sheet.now cells.new }
+pub fn fill(sheet: &Reader, cells: &mut CellLayout) -> usize
+    requires { (check_of sheet.now.sheet.now ≡ Passed) × (length cells.old ≡ 2176) }
+    ensures { (result ≡ cells_of sheet.now.sheet.now) × CellTable sheet.now.sheet.now cells.new }
 {
     let count = elements(sheet);
     let mut cell: usize = 0;

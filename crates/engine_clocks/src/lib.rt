@@ -19,8 +19,8 @@ use sheet_opened::Reader;
 
 // "stopped ones passed over": a word that is 0 needs no look at its type.
 fn slice_cell(sheet: &Reader, st: &mut [i32], e: usize, d: usize, i: usize) -> Result<(), u8>
-    requires { (e < 64) × (cells_of sheet.now ≤ 512) × Cell sheet.now e (type_at sheet.now d) st.old i }
-    ensures { sliced_cell sheet.now e (type_at sheet.now d) (cell_at i) st.old ≡ changed_to result st.new }
+    requires { (e < 64) × (cells_of sheet.now.sheet.now ≤ 512) × Cell sheet.now.sheet.now e (type_at sheet.now.sheet.now d) st.old i }
+    ensures { sliced_cell sheet.now.sheet.now e (type_at sheet.now.sheet.now d) (cell_at i) st.old ≡ changed_to result st.new }
 {
     let at = engine_store::cell_at(i);
     if st[at] == 0 {
@@ -37,8 +37,8 @@ fn slice_cell(sheet: &Reader, st: &mut [i32], e: usize, d: usize, i: usize) -> R
 // The clocks of element e, whose variables' cells stand in the table from `row` on. Each variable is
 // looked at by its first cell alone: an array has no clocks, and its cells are passed over.
 fn slice_cells(yard: &Yard, st: &mut [i32], e: usize, c: Record, row: usize) -> Result<(), u8>
-    requires { (e < 64) × (row + (chart_variables c).count ≤ 2176) × (cells_of yard.now.sheet ≤ 512) × Cells yard.now.sheet e c st.old × ((n : ℕ) → n ≤ (chart_variables c).count → get_or yard.now.cells (row + n) 0 ≡ first_cell yard.now.sheet e + cells_before yard.now.sheet c n) }
-    ensures { sliced_cells yard.now.sheet e (chart_variables c).count (chart_variables c).first (first_cell yard.now.sheet e) st.old ≡ changed_to result st.new }
+    requires { (e < 64) × (row + (chart_variables c).count ≤ 2176) × (cells_of yard.now.sheet.sheet.now ≤ 512) × Cells yard.now.sheet.sheet.now e c st.old × ((n : ℕ) → n ≤ (chart_variables c).count → get_or yard.now.cells (row + n) 0 ≡ first_cell yard.now.sheet.sheet.now e + cells_before yard.now.sheet.sheet.now c n) }
+    ensures { sliced_cells yard.now.sheet.sheet.now e (chart_variables c).count (chart_variables c).first (first_cell yard.now.sheet.sheet.now e) st.old ≡ changed_to result st.new }
 {
     let count = c.f3 as usize;
     for j in 0..count {
@@ -49,8 +49,8 @@ fn slice_cells(yard: &Yard, st: &mut [i32], e: usize, c: Record, row: usize) -> 
 
 // A slice; where it is refused, with 6, 8 or 12, the state is of no use.
 pub fn slice(yard: &Yard, st: &mut [i32]) -> Result<(), u8>
-    requires { OfSheet yard.now.sheet st.old }
-    ensures { sliced_from yard.now.sheet (elements_of yard.now.sheet) (externals_of yard.now.sheet) st.old ≡ changed_to result st.new }
+    requires { OfSheet yard.now.sheet.sheet.now st.old }
+    ensures { sliced_from yard.now.sheet.sheet.now (elements_of yard.now.sheet.sheet.now) (externals_of yard.now.sheet.sheet.now) st.old ≡ changed_to result st.new }
 {
     let first = sheet_fields::field_at(&yard.sheet, HEAD, 0, 1);
     let count = yard.elements();

@@ -33,8 +33,8 @@ pub fn gather(
     g: Range,
     left: u32,
 ) -> Result<(Data, u32), Stop>
-    requires { Ready sheet.now context.now st.now lo.now × HasData sheet.now context.now st.now lo.now r g × (g.count ≤ 4) }
-    ensures { result ≡ in_four (data_at sheet.now context.now st.now lo.now r g left) }
+    requires { Ready sheet.now.sheet.now context.now st.now lo.now × HasData sheet.now.sheet.now context.now st.now lo.now r g × (g.count ≤ 4) }
+    ensures { result ≡ in_four (data_at sheet.now.sheet.now context.now st.now lo.now r g left) }
 {
     let mut words = [0i32; DATA];
     let mut l = left;

@@ -19,7 +19,7 @@ use sheet_opened::Reader;
 
 // "Defaults: false, 0, Log, log, the declared member, a stopped clock"
 fn default_of(sheet: &Reader, t: usize) -> i32
-    ensures { result ≡ default_of sheet.now t }
+    ensures { result ≡ default_of sheet.now.sheet.now t }
 {
     if t < 8 {
         return 0;
@@ -30,7 +30,7 @@ fn default_of(sheet: &Reader, t: usize) -> i32
 // Variable i of a body that begins to run.
 fn local_at(sheet: &Reader, b: Record, d: &Data, i: usize) -> i32
     requires { ((body_parameters b).count ≤ 4) × (i < (body_parameters b).count + (body_locals b).count) }
-    ensures { result ≡ local_at sheet.now b d.now i }
+    ensures { result ≡ local_at sheet.now.sheet.now b d.now i }
 {
     let parameters = b.f4 as usize;
     if i < parameters {
@@ -43,7 +43,7 @@ fn local_at(sheet: &Reader, b: Record, d: &Data, i: usize) -> i32
 // The variables of a body that begins to run: parameters from data, then "fresh default locals".
 pub fn fresh_locals(sheet: &Reader, b: Record, d: &Data) -> Locals
     requires { ((body_parameters b).count ≤ 4) × ((body_parameters b).count + (body_locals b).count ≤ 16) }
-    ensures { result ≡ locals_of sheet.now b d.now }
+    ensures { result ≡ locals_of sheet.now.sheet.now b d.now }
 {
     let count = b.f4 as usize + b.f6 as usize;
     let mut locals = [0i32; LOCALS];
@@ -66,8 +66,8 @@ fn cells_alike(st: &mut [i32], cell: usize, n: usize, z: i32)
 
 // The default cells of a chart's variables, from a cell on, whatever stood there, and the cell behind them.
 fn default_cells(sheet: &Reader, st: &mut [i32], c: Record, cell: usize) -> usize
-    requires { CellsIn st.old cell (cells_before sheet.now c (chart_variables c).count) }
-    ensures { (result ≡ cell + cells_before sheet.now c (chart_variables c).count) × (st.new ≡ put_words st.old (cell_at cell) (default_cells sheet.now (chart_variables c).count (chart_variables c).first)) }
+    requires { CellsIn st.old cell (cells_before sheet.now.sheet.now c (chart_variables c).count) }
+    ensures { (result ≡ cell + cells_before sheet.now.sheet.now c (chart_variables c).count) × (st.new ≡ put_words st.old (cell_at cell) (default_cells sheet.now.sheet.now (chart_variables c).count (chart_variables c).first)) }
 {
     let count = c.f3 as usize;
     let mut next = cell;
@@ -84,8 +84,8 @@ fn default_cells(sheet: &Reader, st: &mut [i32], c: Record, cell: usize) -> usiz
 
 // "all defaults, nothing waiting"
 pub fn default_state(sheet: &Reader, st: &mut [i32])
-    requires { (check_of sheet.now ≡ Passed) × (length st.old ≡ state_length sheet.now) }
-    ensures { st.new ≡ default_state sheet.now }
+    requires { (check_of sheet.now.sheet.now ≡ Passed) × (length st.old ≡ state_length sheet.now.sheet.now) }
+    ensures { st.new ≡ default_state sheet.now.sheet.now }
 {
     engine_copies::zero(st);
     let components = sheet_fields::field_at(sheet, HEAD, 0, 0);

@@ -17,8 +17,8 @@ use sheet::{CHARTS, Record};
 
 // Runs the panic body of element e, whose chart c is number n.
 fn run_panic_body(yard: &Yard, old: &[i32], st: &mut [i32], e: usize, n: usize, c: Record) -> Answer
-    requires { Beside yard.now.sheet old.now st.old × ChartAt yard.now.sheet e n c }
-    ensures { ended result st.new ≡ panicking yard.now.sheet (limit_of yard.now.sheet) old.now e st.old }
+    requires { Beside yard.now.sheet.sheet.now old.now st.old × ChartAt yard.now.sheet.sheet.now e n c }
+    ensures { ended result st.new ≡ panicking yard.now.sheet.sheet.now (limit_of yard.now.sheet.sheet.now) old.now e st.old }
 {
     let j = engine_finders::with_role(&yard.sheet, c, 1);
     let none = [0i32; DATA];
@@ -27,8 +27,8 @@ fn run_panic_body(yard: &Yard, old: &[i32], st: &mut [i32], e: usize, n: usize, 
 
 // 3: "as 2 with bound r, but the panic body runs": that of element e.
 pub fn panicked(yard: &Yard, old: &[i32], st: &mut [i32], e: usize) -> Answer
-    requires { Beside yard.now.sheet old.now st.old × (is_bound yard.now.sheet e ≡ true) }
-    ensures { ended result st.new ≡ panicking yard.now.sheet (limit_of yard.now.sheet) old.now e st.old }
+    requires { Beside yard.now.sheet.sheet.now old.now st.old × (is_bound yard.now.sheet.sheet.now e ≡ true) }
+    ensures { ended result st.new ≡ panicking yard.now.sheet.sheet.now (limit_of yard.now.sheet.sheet.now) old.now e st.old }
 {
     let n = yard.chart_number(e);
     let Some(c) = yard.sheet.record(CHARTS, n) else {
@@ -40,8 +40,8 @@ pub fn panicked(yard: &Yard, old: &[i32], st: &mut [i32], e: usize) -> Answer
 
 // A telegram that was removed reaches a bound element.
 fn deliver_to_element(yard: &Yard, old: &[i32], st: &mut [i32], t: Telegram) -> Answer
-    requires { Arrived yard.now.sheet old.now st.old t false × (is_below t.receiver (externals_of yard.now.sheet) ≡ false) }
-    ensures { ended result st.new ≡ delivered yard.now.sheet (limit_of yard.now.sheet) old.now t st.old }
+    requires { Arrived yard.now.sheet.sheet.now old.now st.old t false × (is_below t.receiver (externals_of yard.now.sheet.sheet.now) ≡ false) }
+    ensures { ended result st.new ≡ delivered yard.now.sheet.sheet.now (limit_of yard.now.sheet.sheet.now) old.now t st.old }
 {
     let e = engine_valid_words::number(t.receiver);
     let n = yard.chart_number(e);
@@ -77,8 +77,8 @@ fn handed(t: Telegram) -> Answer
 // 2: "If r is external it is handed outside. If bound, the reaction for its port and name runs, or
 // without one the panic body."
 pub fn delivers(yard: &Yard, old: &[i32], st: &mut [i32], t: Telegram) -> Answer
-    requires { Arrived yard.now.sheet old.now st.old t false }
-    ensures { ended result st.new ≡ delivered yard.now.sheet (limit_of yard.now.sheet) old.now t st.old }
+    requires { Arrived yard.now.sheet.sheet.now old.now st.old t false }
+    ensures { ended result st.new ≡ delivered yard.now.sheet.sheet.now (limit_of yard.now.sheet.sheet.now) old.now t st.old }
 {
     if engine_valid_words::is_below(t.receiver, engine_valid_values::externals(&yard.sheet)) {
         return handed(t);
@@ -88,8 +88,8 @@ pub fn delivers(yard: &Yard, old: &[i32], st: &mut [i32], t: Telegram) -> Answer
 
 // 4: an internal telegram that was removed: "its reaction runs"
 pub fn reacts(yard: &Yard, old: &[i32], st: &mut [i32], t: Telegram) -> Answer
-    requires { Arrived yard.now.sheet old.now st.old t true }
-    ensures { ended result st.new ≡ reacting yard.now.sheet (limit_of yard.now.sheet) old.now (nat_abs t.receiver) (element_body yard.now.sheet (nat_abs t.receiver) (reacts_to (nat_abs t.name))) t st.old }
+    requires { Arrived yard.now.sheet.sheet.now old.now st.old t true }
+    ensures { ended result st.new ≡ reacting yard.now.sheet.sheet.now (limit_of yard.now.sheet.sheet.now) old.now (nat_abs t.receiver) (element_body yard.now.sheet.sheet.now (nat_abs t.receiver) (reacts_to (nat_abs t.name))) t st.old }
 {
     let e = engine_valid_words::number(t.receiver);
     let n = yard.chart_number(e);

@@ -13,8 +13,8 @@ use sheet_opened::Reader;
 
 // What node n gives, with that many steps left.
 pub fn eval(sheet: &Reader, context: &Frame, st: &[i32], lo: &Locals, n: usize, left: u32) -> Work
-    requires { Ready sheet.now context.now st.now lo.now × IsExpression sheet.now context.now n }
-    ensures { result ≡ work_of (eval_of sheet.now (context_at sheet.now context.now) st.now lo.now n left) }
+    requires { Ready sheet.now.sheet.now context.now st.now lo.now × IsExpression sheet.now.sheet.now context.now n }
+    ensures { result ≡ work_of (eval_of sheet.now.sheet.now (context_at sheet.now.sheet.now context.now) st.now lo.now n left) }
 {
     if left == 0 {
         return Err(Stop::Refused {

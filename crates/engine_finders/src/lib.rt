@@ -14,7 +14,7 @@ use sheet_opened::Reader;
 // The first body of chart c that meets a test; how many it has if none does.
 pub fn first_body<F: Fn(Record) -> bool>(sheet: &Reader, c: Record, fits: F) -> usize
     requires { F.IsAlwaysCallable fits }
-    ensures { (p : Record → Bool) → Tests sheet.now (F.post fits) p → FirstAt sheet.now c p result }
+    ensures { (p : Record → Bool) → Tests sheet.now.sheet.now (F.post fits) p → FirstAt sheet.now.sheet.now c p result }
 {
     let first = c.f4 as usize;
     let count = c.f5 as usize;
@@ -31,14 +31,14 @@ pub fn first_body<F: Fn(Record) -> bool>(sheet: &Reader, c: Record, fits: F) -> 
 
 // The initial body (role 0) or the panic body (role 1) of chart c.
 pub fn with_role(sheet: &Reader, c: Record, role: u16) -> usize
-    ensures { StandsAt sheet.now c (λ b. eqb b.f0 role) result }
+    ensures { StandsAt sheet.now.sheet.now c (λ b. eqb b.f0 role) result }
 {
     first_body(sheet, c, |b| b.f0 == role)
 }
 
 // The reaction of chart c to an external name on a port.
 pub fn reaction_on(sheet: &Reader, c: Record, port: usize, name: usize) -> usize
-    ensures { StandsAt sheet.now c (reacts_on port name) result }
+    ensures { StandsAt sheet.now.sheet.now c (reacts_on port name) result }
 {
     first_body(sheet, c, |b| {
         b.f0 == 2 && b.f1 as usize == port && b.f2 as usize == name
@@ -47,7 +47,7 @@ pub fn reaction_on(sheet: &Reader, c: Record, port: usize, name: usize) -> usize
 
 // The reaction of chart c to an internal name.
 pub fn reaction_to(sheet: &Reader, c: Record, name: usize) -> usize
-    ensures { StandsAt sheet.now c (reacts_to name) result }
+    ensures { StandsAt sheet.now.sheet.now c (reacts_to name) result }
 {
     first_body(sheet, c, |b| b.f0 == 3 && b.f2 as usize == name)
 }

@@ -27,8 +27,8 @@ fn sent_outside(st: &mut [i32], t: Telegram) -> Answer
 
 // 5: "A refused Slice undoes all of it"
 fn sliced(yard: &Yard, old: &[i32], st: &mut [i32]) -> Answer
-    requires { OfSheet yard.now.sheet st.old × (old.now ≡ st.old) }
-    ensures { ended result st.new ≡ slice yard.now.sheet old.now }
+    requires { OfSheet yard.now.sheet.sheet.now st.old × (old.now ≡ st.old) }
+    ensures { ended result st.new ≡ slice yard.now.sheet.sheet.now old.now }
 {
     match engine_clocks::slice(yard, st) {
         Ok(()) => answered(0, 0),
@@ -42,8 +42,8 @@ fn sliced(yard: &Yard, old: &[i32], st: &mut [i32]) -> Answer
 // An event on a state of the sheet, j being the number of the telegram that it takes. `old` is a copy of
 // the state where there may be work to undo.
 pub fn happened(yard: &Yard, old: &[i32], st: &mut [i32], e: Event, j: usize) -> Answer
-    requires { Happens yard.now.sheet old.now st.old e j }
-    ensures { ended result st.new ≡ happens_by yard.now.sheet (limit_of yard.now.sheet) st.old e }
+    requires { Happens yard.now.sheet.sheet.now old.now st.old e j }
+    ensures { ended result st.new ≡ happens_by yard.now.sheet.sheet.now (limit_of yard.now.sheet.sheet.now) st.old e }
 {
     match e {
         Event::Malformed => answered(4, 0),

@@ -64,8 +64,8 @@ pub fn variable(
     r: Record,
     left: u32,
 ) -> Work
-    requires { Ready sheet.now context.now st.now lo.now × IsExpression sheet.now context.now n × (record_of sheet.now nodes n ≡ Some r) × (form_of r.f0 ≡ read) }
-    ensures { result ≡ work_of (eval_of sheet.now (context_at sheet.now context.now) st.now lo.now n (suc left)) }
+    requires { Ready sheet.now.sheet.now context.now st.now lo.now × IsExpression sheet.now.sheet.now context.now n × (record_of sheet.now.sheet.now nodes n ≡ Some r) × (form_of r.f0 ≡ read) }
+    ensures { result ≡ work_of (eval_of sheet.now.sheet.now (context_at sheet.now.sheet.now context.now) st.now lo.now n (suc left)) }
 {
     let place = r.f1;
     let number = r.f2 as usize;

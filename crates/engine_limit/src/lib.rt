@@ -9,7 +9,7 @@ use sheet_opened::Reader;
 
 // "f3 step limit (0 means 2,000)", which is a 16-bit number.
 pub fn limit(sheet: &Reader) -> u32
-    ensures { (result ≡ limit_of sheet.now) × (result < 65536) }
+    ensures { (result ≡ limit_of sheet.now.sheet.now) × (result < 65536) }
 {
     let steps = sheet_fields::field_at(sheet, HEAD, 0, 3);
     if steps == 0 {

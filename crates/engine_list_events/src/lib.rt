@@ -15,8 +15,8 @@ use machine::{ANSWER_WORDS, EVENT_WORDS};
 // leaves. Each answer goes into eleven words: number, steps, how many waiting telegrams were dropped,
 // 1 if one is handed outside, then its receiver, port, name and four data.
 pub fn play_on(yard: &Yard, events: &[i32], st: &mut [i32], spare: &mut [i32], answers: &mut [i32])
-    requires { Room yard.now.sheet events.now st.old spare.old answers.old }
-    ensures { OfSheet yard.now.sheet st.new × (written answers.new st.new ≡ in_words (events_of yard.now.sheet (limit_of yard.now.sheet) st.old (events_in events.now))) }
+    requires { Room yard.now.sheet.sheet.now events.now st.old spare.old answers.old }
+    ensures { OfSheet yard.now.sheet.sheet.now st.new × (written answers.new st.new ≡ in_words (events_of yard.now.sheet.sheet.now (limit_of yard.now.sheet.sheet.now) st.old (events_in events.now))) }
 {
     // No event takes more steps than the limit, which has 16 bits: so the steps of an answer are a word.
     let limit = engine_limit::limit(&yard.sheet);

@@ -38,7 +38,7 @@ fn play_passed(
     spare: &mut [i32],
     answers: &mut [i32],
 ) -> Answer
-    ensures { listed result st.new answers.new ≡ list_call yard.now.sheet (limit_of yard.now.sheet) events.now st.old spare.old answers.old }
+    ensures { listed result st.new answers.new ≡ list_call yard.now.sheet.sheet.now (limit_of yard.now.sheet.sheet.now) events.now st.old spare.old answers.old }
 {
     if !engine_lengths::is_state(yard.count, st.len()) {
         return answered(3, 0);

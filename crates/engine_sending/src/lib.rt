@@ -42,8 +42,8 @@ fn send(
     port: i32,
     left: u32,
 ) -> Result<u32, Stop>
-    requires { Ready sheet.now context.now st.old lo.now × HasData sheet.now context.now st.old lo.now r (data_of a) × (record_of sheet.now names r.f3 ≡ Some a) }
-    ensures { world (ran_of result) st.new lo.now ≡ sent sheet.now context.now st.old lo.now r a receiver port left }
+    requires { Ready sheet.now.sheet.now context.now st.old lo.now × HasData sheet.now.sheet.now context.now st.old lo.now r (data_of a) × (record_of sheet.now.sheet.now names r.f3 ≡ Some a) }
+    ensures { world (ran_of result) st.new lo.now ≡ sent sheet.now.sheet.now context.now st.old lo.now r a receiver port left }
 {
     let g = engine_data::data_range(a);
     let (data, left) = engine_data::gather(sheet, context, st, lo, r, g, left)?;
@@ -73,8 +73,8 @@ pub fn external_send(
     r: Record,
     left: u32,
 ) -> Result<u32, Stop>
-    requires { Visit sheet.now context.now st.old lo.now n r external_send }
-    ensures { (depth : ℕ) → world (ran_of result) st.new lo.now ≡ run_of sheet.now depth (context_at sheet.now context.now) n (suc left) st.old lo.now }
+    requires { Visit sheet.now.sheet.now context.now st.old lo.now n r external_send }
+    ensures { (depth : ℕ) → world (ran_of result) st.new lo.now ≡ run_of sheet.now.sheet.now depth (context_at sheet.now.sheet.now context.now) n (suc left) st.old lo.now }
 {
     let Some(a) = sheet.record(NAMES, r.f3 as usize) else {
         return Err(Stop::Stuck);
@@ -94,8 +94,8 @@ pub fn internal_send(
     r: Record,
     left: u32,
 ) -> Result<u32, Stop>
-    requires { Visit sheet.now context.now st.old lo.now n r internal_send }
-    ensures { (depth : ℕ) → world (ran_of result) st.new lo.now ≡ run_of sheet.now depth (context_at sheet.now context.now) n (suc left) st.old lo.now }
+    requires { Visit sheet.now.sheet.now context.now st.old lo.now n r internal_send }
+    ensures { (depth : ℕ) → world (ran_of result) st.new lo.now ≡ run_of sheet.now.sheet.now depth (context_at sheet.now.sheet.now context.now) n (suc left) st.old lo.now }
 {
     let Some(a) = sheet.record(NAMES, r.f3 as usize) else {
         return Err(Stop::Stuck);

@@ -33,8 +33,8 @@ pub fn sought(st: &[i32], e: Event) -> usize
 
 // Whether a refusal may have work to undo.
 pub fn may_undo(yard: &Yard, st: &[i32], e: Event, j: usize) -> bool
-    requires { OfSheet yard.now.sheet st.now × (j ≡ sought_at yard.now.sheet st.now e) }
-    ensures { result ≡ may_undo yard.now.sheet st.now e }
+    requires { OfSheet yard.now.sheet.sheet.now st.now × (j ≡ sought_at yard.now.sheet.sheet.now st.now e) }
+    ensures { result ≡ may_undo yard.now.sheet.sheet.now st.now e }
 {
     match e {
         Event::Malformed => false,

@@ -16,8 +16,8 @@ use sheet::CHARTS;
 
 // The initial body of element e.
 fn initial(yard: &Yard, st: &mut [i32], e: usize, limit: u32) -> Result<u32, Stop>
-    requires { OfSheet yard.now.sheet st.old × (is_bound yard.now.sheet e ≡ true) × (limit ≡ limit_of yard.now.sheet) }
-    ensures { (ran_of result ≡ (ran_body yard.now.sheet (limit_of yard.now.sheet) e (alone (element_body yard.now.sheet e is_initial)) [] st.old).ran) × (st.new ≡ (ran_body yard.now.sheet (limit_of yard.now.sheet) e (alone (element_body yard.now.sheet e is_initial)) [] st.old).st) }
+    requires { OfSheet yard.now.sheet.sheet.now st.old × (is_bound yard.now.sheet.sheet.now e ≡ true) × (limit ≡ limit_of yard.now.sheet.sheet.now) }
+    ensures { (ran_of result ≡ (ran_body yard.now.sheet.sheet.now (limit_of yard.now.sheet.sheet.now) e (alone (element_body yard.now.sheet.sheet.now e is_initial)) [] st.old).ran) × (st.new ≡ (ran_body yard.now.sheet.sheet.now (limit_of yard.now.sheet.sheet.now) e (alone (element_body yard.now.sheet.sheet.now e is_initial)) [] st.old).st) }
 {
     let n = yard.chart_number(e);
     let Some(c) = yard.sheet.record(CHARTS, n) else {
@@ -39,8 +39,8 @@ fn refused(st: &mut [i32], number: u8, steps: u32) -> Answer
 
 // "all defaults, nothing waiting, then the initial bodies in element order"
 pub fn from_defaults(yard: &Yard, st: &mut [i32]) -> Answer
-    requires { length st.old ≡ state_length yard.now.sheet }
-    ensures { ended result st.new ≡ started yard.now.sheet (limit_of yard.now.sheet) }
+    requires { length st.old ≡ state_length yard.now.sheet.sheet.now }
+    ensures { ended result st.new ≡ started yard.now.sheet.sheet.now (limit_of yard.now.sheet.sheet.now) }
 {
     engine_defaults::default_state(&yard.sheet, st);
     let first = engine_valid_values::externals(&yard.sheet);

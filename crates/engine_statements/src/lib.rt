@@ -27,8 +27,8 @@ fn enter(
     d: &Data,
     left: u32,
 ) -> Result<u32, Stop>
-    requires { Callable sheet.now context.now st.old number b d.now × (depth ≤ 16) }
-    ensures { (lo : List ℤ) → world (ran_of result) st.new lo ≡ entered sheet.now (context_at sheet.now context.now) (run_of sheet.now) depth b d.now left st.old lo }
+    requires { Callable sheet.now.sheet.now context.now st.old number b d.now × (depth ≤ 16) }
+    ensures { (lo : List ℤ) → world (ran_of result) st.new lo ≡ entered sheet.now.sheet.now (context_at sheet.now.sheet.now context.now) (run_of sheet.now.sheet.now) depth b d.now left st.old lo }
 {
     if 16 <= depth {
         return Err(Stop::Refused { number: 9, left });
@@ -58,8 +58,8 @@ fn call(
     r: Record,
     left: u32,
 ) -> Result<u32, Stop>
-    requires { Visit sheet.now context.now st.old lo.now n r call × (depth ≤ 16) }
-    ensures { world (ran_of result) st.new lo.now ≡ run_of sheet.now depth (context_at sheet.now context.now) n (suc left) st.old lo.now }
+    requires { Visit sheet.now.sheet.now context.now st.old lo.now n r call × (depth ≤ 16) }
+    ensures { world (ran_of result) st.new lo.now ≡ run_of sheet.now.sheet.now depth (context_at sheet.now.sheet.now context.now) n (suc left) st.old lo.now }
 {
     let number = context[FIRST_BODY] + r.f1 as usize;
     let Some(b) = sheet.record(BODIES, number) else {
@@ -85,8 +85,8 @@ fn repeat(
     r: Record,
     left: u32,
 ) -> Result<u32, Stop>
-    requires { Visit sheet.now context.now st.old lo.old n r loop × (depth ≤ 16) }
-    ensures { (length lo.new ≡ 16) × (world (ran_of result) st.new lo.new ≡ run_of sheet.now depth (context_at sheet.now context.now) n (suc left) st.old lo.old) }
+    requires { Visit sheet.now.sheet.now context.now st.old lo.old n r loop × (depth ≤ 16) }
+    ensures { (length lo.new ≡ 16) × (world (ran_of result) st.new lo.new ≡ run_of sheet.now.sheet.now depth (context_at sheet.now.sheet.now context.now) n (suc left) st.old lo.old) }
 {
     let mut l = left;
     loop {
@@ -116,8 +116,8 @@ pub fn run(
     n: usize,
     left: u32,
 ) -> Result<u32, Stop>
-    requires { Ready sheet.now context.now st.old lo.old × IsStatement sheet.now context.now n × (depth ≤ 16) }
-    ensures { (length lo.new ≡ 16) × (world (ran_of result) st.new lo.new ≡ run_of sheet.now depth (context_at sheet.now context.now) n left st.old lo.old) }
+    requires { Ready sheet.now.sheet.now context.now st.old lo.old × IsStatement sheet.now.sheet.now context.now n × (depth ≤ 16) }
+    ensures { (length lo.new ≡ 16) × (world (ran_of result) st.new lo.new ≡ run_of sheet.now.sheet.now depth (context_at sheet.now.sheet.now context.now) n left st.old lo.old) }
 {
     if left == 0 {
         return Err(Stop::Refused {

@@ -45,7 +45,7 @@ fn value_fits(t: usize, value: i32, period: i32) -> bool
 
 fn running_clock(sheet: &Reader, c: Record, t: usize, st: &[i32], at: usize) -> bool
     requires { at + 8 ≤ length st.now }
-    ensures { (e : ℕ) → chart_of sheet.now e ≡ Some c → result ≡ running_clock sheet.now e t st.now at }
+    ensures { (e : ℕ) → chart_of sheet.now.sheet.now e ≡ Some c → result ≡ running_clock sheet.now.sheet.now e t st.now at }
 {
     let value = engine_valid_words::word(st, at + 1);
     let period = engine_valid_words::word(st, at + 2);
@@ -66,7 +66,7 @@ fn running_clock(sheet: &Reader, c: Record, t: usize, st: &[i32], at: usize) -> 
 
 fn clock_cell(sheet: &Reader, c: Record, t: usize, st: &[i32], at: usize) -> bool
     requires { at + 8 ≤ length st.now }
-    ensures { (e : ℕ) → chart_of sheet.now e ≡ Some c → result ≡ clock_cell sheet.now e t st.now at }
+    ensures { (e : ℕ) → chart_of sheet.now.sheet.now e ≡ Some c → result ≡ clock_cell sheet.now.sheet.now e t st.now at }
 {
     if engine_valid_words::zero_at(st, at) {
         return zero_words(st, at, 1);
@@ -80,7 +80,7 @@ fn clock_cell(sheet: &Reader, c: Record, t: usize, st: &[i32], at: usize) -> boo
 // The cell at `at` of a variable of type t of an element that is bound to chart c.
 pub fn cell_fits(sheet: &Reader, c: Record, t: usize, st: &[i32], at: usize) -> bool
     requires { at + 8 ≤ length st.now }
-    ensures { (e : ℕ) → chart_of sheet.now e ≡ Some c → result ≡ cell_fits sheet.now e t st.now at }
+    ensures { (e : ℕ) → chart_of sheet.now.sheet.now e ≡ Some c → result ≡ cell_fits sheet.now.sheet.now e t st.now at }
 {
     if sheet_types::is_clock(t) {
         return clock_cell(sheet, c, t, st, at);

@@ -15,7 +15,7 @@ use sheet_opened::Reader;
 // The n cells, from a cell on, of a variable of type t of an element that is bound to chart c.
 fn variable_fits(sheet: &Reader, c: Record, t: usize, cell: usize, n: usize, st: &[i32]) -> bool
     requires { CellsIn st.now cell n }
-    ensures { (e : ℕ) → chart_of sheet.now e ≡ Some c → result ≡ all_below n (λ k. cell_fits sheet.now e t st.now (cell_at (cell + k))) }
+    ensures { (e : ℕ) → chart_of sheet.now.sheet.now e ≡ Some c → result ≡ all_below n (λ k. cell_fits sheet.now.sheet.now e t st.now (cell_at (cell + k))) }
 {
     for k in 0..n {
         let at = engine_store::cell_at(cell + k);
@@ -29,8 +29,8 @@ fn variable_fits(sheet: &Reader, c: Record, t: usize, cell: usize, n: usize, st:
 // The cells of element e, which is bound to chart c. Its row of the table has where those of each variable
 // begin, and where the last ones end.
 pub fn element_fits(yard: &Yard, c: Record, e: usize, st: &[i32]) -> bool
-    requires { (length st.now ≡ state_length yard.now.sheet) × (chart_of yard.now.sheet e ≡ Some c) }
-    ensures { result ≡ element_fits yard.now.sheet st.now e }
+    requires { (length st.now ≡ state_length yard.now.sheet.sheet.now) × (chart_of yard.now.sheet.sheet.now e ≡ Some c) }
+    ensures { result ≡ element_fits yard.now.sheet.sheet.now st.now e }
 {
     let row = ROW * (e - engine_valid_values::externals(&yard.sheet));
     let count = c.f3 as usize;

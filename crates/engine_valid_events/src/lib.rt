@@ -14,7 +14,7 @@ use sheet_opened::Reader;
 // Each kind's words, or Malformed.
 fn outside(sheet: &Reader, ev: &[i32]) -> Event
     requires { length ev.now ≡ words_of_event }
-    ensures { result ≡ read_as sheet.now ev.now kind.outside }
+    ensures { result ≡ read_as sheet.now.sheet.now ev.now kind.outside }
 {
     if engine_valid_kinds::outside_formed(sheet, ev) {
         return Event::Outside(engine_rows::telegram_in(ev, 1));
@@ -25,7 +25,7 @@ fn outside(sheet: &Reader, ev: &[i32]) -> Event
 // Like Corrupt but for the case that it makes, which is what an event's word tells.
 fn deliver(sheet: &Reader, ev: &[i32]) -> Event
     requires { length ev.now ≡ words_of_event }
-    ensures { result ≡ read_as sheet.now ev.now kind.deliver }
+    ensures { result ≡ read_as sheet.now.sheet.now ev.now kind.deliver }
 {
     if engine_valid_kinds::deliver_formed(sheet, ev) {
         return Event::Deliver {
@@ -38,7 +38,7 @@ fn deliver(sheet: &Reader, ev: &[i32]) -> Event
 
 fn corrupt(sheet: &Reader, ev: &[i32]) -> Event
     requires { length ev.now ≡ words_of_event }
-    ensures { result ≡ read_as sheet.now ev.now kind.corrupt }
+    ensures { result ≡ read_as sheet.now.sheet.now ev.now kind.corrupt }
 {
     if engine_valid_kinds::corrupt_formed(sheet, ev) {
         return Event::Corrupt {
@@ -51,7 +51,7 @@ fn corrupt(sheet: &Reader, ev: &[i32]) -> Event
 
 fn inner(sheet: &Reader, ev: &[i32]) -> Event
     requires { length ev.now ≡ words_of_event }
-    ensures { result ≡ read_as sheet.now ev.now kind.inner }
+    ensures { result ≡ read_as sheet.now.sheet.now ev.now kind.inner }
 {
     if engine_valid_kinds::inner_formed(sheet, ev) {
         return Event::Inner {
@@ -73,7 +73,7 @@ fn slice(ev: &[i32]) -> Event
 
 // An event's words taken apart. A Slice, kind 5, uses no other word.
 pub fn event_of(sheet: &Reader, ev: &[i32]) -> Event
-    ensures { result ≡ event_of sheet.now ev.now }
+    ensures { result ≡ event_of sheet.now.sheet.now ev.now }
 {
     if ev.len() != EVENT_WORDS {
         return Event::Malformed;

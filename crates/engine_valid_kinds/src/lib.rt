@@ -26,7 +26,7 @@ pub fn rest_zero(ev: &[i32], i: usize) -> bool
 // Whether word i is a bound element.
 fn bound_word(sheet: &Reader, ev: &[i32], i: usize) -> bool
     requires { i < length ev.now }
-    ensures { result ≡ bound_word sheet.now (word_of ev.now i) }
+    ensures { result ≡ bound_word sheet.now.sheet.now (word_of ev.now i) }
 {
     if !engine_valid_words::below_at(ev, i, engine_valid_values::components(sheet)) {
         return false;
@@ -37,7 +37,7 @@ fn bound_word(sheet: &Reader, ev: &[i32], i: usize) -> bool
 // Kind 1, Outside: from an external component to a bound element.
 pub fn outside_formed(sheet: &Reader, ev: &[i32]) -> bool
     requires { length ev.now ≡ words_of_event }
-    ensures { result ≡ well_formed sheet.now ev.now kind.outside }
+    ensures { result ≡ well_formed sheet.now.sheet.now ev.now kind.outside }
 {
     if !engine_valid_words::below_at(ev, 1, engine_valid_values::externals(sheet)) {
         return false;
@@ -54,7 +54,7 @@ pub fn outside_formed(sheet: &Reader, ev: &[i32]) -> bool
 // Kind 2, Deliver: between components that are not both external.
 pub fn deliver_formed(sheet: &Reader, ev: &[i32]) -> bool
     requires { length ev.now ≡ words_of_event }
-    ensures { result ≡ well_formed sheet.now ev.now kind.deliver }
+    ensures { result ≡ well_formed sheet.now.sheet.now ev.now kind.deliver }
 {
     let count = engine_valid_values::components(sheet);
     if !engine_valid_words::below_at(ev, 1, count) {
@@ -72,7 +72,7 @@ pub fn deliver_formed(sheet: &Reader, ev: &[i32]) -> bool
 // Kind 3, Corrupt: to a bound element.
 pub fn corrupt_formed(sheet: &Reader, ev: &[i32]) -> bool
     requires { length ev.now ≡ words_of_event }
-    ensures { result ≡ well_formed sheet.now ev.now kind.corrupt }
+    ensures { result ≡ well_formed sheet.now.sheet.now ev.now kind.corrupt }
 {
     if !engine_valid_words::below_at(ev, 1, engine_valid_values::components(sheet)) {
         return false;
@@ -86,7 +86,7 @@ pub fn corrupt_formed(sheet: &Reader, ev: &[i32]) -> bool
 // Kind 4, Inner: of a component.
 pub fn inner_formed(sheet: &Reader, ev: &[i32]) -> bool
     requires { length ev.now ≡ words_of_event }
-    ensures { result ≡ well_formed sheet.now ev.now kind.inner }
+    ensures { result ≡ well_formed sheet.now.sheet.now ev.now kind.inner }
 {
     if !engine_valid_words::zero_at(ev, 1) {
         return false;

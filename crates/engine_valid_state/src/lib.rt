@@ -18,8 +18,8 @@ fn head_fits(st: &[i32]) -> bool
 }
 
 fn cells_fit(yard: &Yard, st: &[i32]) -> bool
-    requires { length st.now ≡ state_length yard.now.sheet }
-    ensures { result ≡ cells_fit yard.now.sheet st.now }
+    requires { length st.now ≡ state_length yard.now.sheet.sheet.now }
+    ensures { result ≡ cells_fit yard.now.sheet.sheet.now st.now }
 {
     let from = engine_valid_values::externals(&yard.sheet);
     let count = yard.elements();
@@ -37,8 +37,8 @@ fn cells_fit(yard: &Yard, st: &[i32]) -> bool
 
 // Whether all that the paper says of a state's content holds.
 pub fn content_fits(yard: &Yard, st: &[i32]) -> bool
-    requires { length st.now ≡ state_length yard.now.sheet }
-    ensures { result ≡ content_fits yard.now.sheet st.now }
+    requires { length st.now ≡ state_length yard.now.sheet.sheet.now }
+    ensures { result ≡ content_fits yard.now.sheet.sheet.now st.now }
 {
     if !head_fits(st) {
         return false;

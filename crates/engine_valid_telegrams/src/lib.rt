@@ -18,7 +18,7 @@ pub fn is_internal(st: &[i32], at: usize) -> bool
 
 fn internal_fits(yard: &Yard, st: &[i32], at: usize) -> bool
     requires { (at + 8 ≤ length st.now) × (le_z (pos 0) (word_of st.now (at + 1)) ≡ true) }
-    ensures { result ≡ internal_fits yard.now.sheet (telegram_in st.now at) }
+    ensures { result ≡ internal_fits yard.now.sheet.sheet.now (telegram_in st.now at) }
 {
     let sender = engine_valid_words::word(st, at);
     let receiver = engine_valid_words::word(st, at + 1);
@@ -40,7 +40,7 @@ fn internal_fits(yard: &Yard, st: &[i32], at: usize) -> bool
 
 fn external_fits(sheet: &Reader, st: &[i32], at: usize) -> bool
     requires { at + 8 ≤ length st.now }
-    ensures { result ≡ external_fits sheet.now (telegram_in st.now at) }
+    ensures { result ≡ external_fits sheet.now.sheet.now (telegram_in st.now at) }
 {
     if engine_valid_values::both_external(sheet, st, at) {
         return false;
@@ -53,7 +53,7 @@ fn external_fits(sheet: &Reader, st: &[i32], at: usize) -> bool
 
 pub fn telegram_fits(yard: &Yard, st: &[i32], at: usize) -> bool
     requires { at + 8 ≤ length st.now }
-    ensures { result ≡ telegram_fits yard.now.sheet (telegram_in st.now at) }
+    ensures { result ≡ telegram_fits yard.now.sheet.sheet.now (telegram_in st.now at) }
 {
     if !engine_valid_values::both_components(&yard.sheet, st, at) {
         return false;

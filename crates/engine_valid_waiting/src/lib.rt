@@ -10,8 +10,8 @@ use engine_cells::Yard;
 
 // The n waiting telegrams.
 pub fn waiting_fit(yard: &Yard, st: &[i32], n: usize) -> bool
-    requires { (length st.now ≡ state_length yard.now.sheet) × Waits st.now n }
-    ensures { result ≡ waiting_fit yard.now.sheet st.now }
+    requires { (length st.now ≡ state_length yard.now.sheet.sheet.now) × Waits st.now n }
+    ensures { result ≡ waiting_fit yard.now.sheet.sheet.now st.now }
 {
     for j in 0..n {
         let at = engine_store::place_at(st.len(), j);

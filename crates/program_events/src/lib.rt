@@ -81,9 +81,9 @@ fn round<W: Write, E: Eprint>(
     done: u64,
     out: &mut [u8],
 ) -> Result<(), Unwritten>
-    requires { RoundRoom yard.now.sheet st.old spare.old events.now count words.old answers.old
+    requires { RoundRoom yard.now.sheet.sheet.now st.old spare.old events.now count words.old answers.old
         done out.old }
-    ensures { OfSheet yard.now.sheet st.new }
+    ensures { OfSheet yard.now.sheet.sheet.now st.new }
 {
     let n = EVENT_WORDS * count;
     let m = ANSWER_WORDS * count;
@@ -103,7 +103,7 @@ pub fn play_events<R: Read, W: Write, E: Eprint>(
     spare: &mut [i32],
     most: u64,
 ) -> Result<(), Stopped>
-    requires { OfSheet yard.now.sheet st.old × (length spare.old ≡ length st.old) }
+    requires { OfSheet yard.now.sheet.sheet.now st.old × (length spare.old ≡ length st.old) }
 {
     let mut events = [0u8; EVENT_ROOM];
     let mut words = [0i32; WORDS];

@@ -88,3 +88,14 @@ sheet_came a b c head asked room rest came (Ok n) four within first end size lon
     let same : take n room ≡ take n (room ++ rest) = sym (take-append-le n room rest front) in
     let all : length (take n (room ++ rest)) ≡ n = ap length (sym same) ∙ length-take-le n room front in
     sheet_read a b c head (take n (room ++ rest)) came four within first end (omega arith) (subst (Consumes b c) same second) (λ h. last (omega arith))
+
+-- the same where the answer to the read of the length is known to be that so many bytes came
+pub sheet_came_if : (a b c : Option (List ℕ)) (head asked room rest : List ℕ) (came : ℕ) (h r : Result ℕ Unread) → h ≡ Ok came → length head ≡ 4 → IfOk h (λ n. n ≤ 4)
+    → MatchResult h (λ n. Consumes a b (take n head)) (λ e. Consumes a b (take e.count head)) → IfOk h (λ n. n < 4 → IsAtEnd b) → length asked ≡ sheet_size head came → length room ≡ length asked
+    → IfOk r (λ n. n ≤ length asked) → MatchResult r (λ n. Consumes b c (take n room)) (λ e. Consumes b c (take e.count room)) → IfOk r (λ n. n < length asked → IsAtEnd c)
+    → IfOk r (λ n. IfSome a (λ xs. (take n (room ++ rest) ≡ sheet_in xs) × Consumes (Some xs) c (take 4 xs ++ sheet_in xs)))
+sheet_came_if a b c head asked room rest came h r is four within first end size long fits second last =
+    subst
+    (λ h. IfOk h (λ n. n ≤ 4) → MatchResult h (λ n. Consumes a b (take n head)) (λ e. Consumes a b (take e.count head)) → IfOk h (λ n. n < 4 → IsAtEnd b)
+    → IfOk r (λ n. IfSome a (λ xs. (take n (room ++ rest) ≡ sheet_in xs) × Consumes (Some xs) c (take 4 xs ++ sheet_in xs))))
+    (sym is) (λ w f e. sheet_came a b c head asked room rest came r four w f e size long fits second last) within first end

@@ -67,7 +67,7 @@ fn sheet_size(head: &[u8; 4], came: usize) -> usize
 }
 
 // Reads a sheet's length and the sheet, and gives how many bytes the sheet has. A sheet cut short is the
-// bytes that came.
+// bytes that came; so many of the sheet's had come where a read fails.
 pub fn read_sheet<R: Read, E: Eprint>(
     from: &mut R,
     errors: &E,
@@ -81,7 +81,9 @@ pub fn read_sheet<R: Read, E: Eprint>(
         × Consumes (Some xs) (R.remaining from.new) (take 4 xs ++ sheet_in xs))) }
 {
     let mut head = [0u8; 4];
-    let came = read_all(from, errors, &mut head)?;
+    let Ok(came) = read_all(from, errors, &mut head) else {
+        return Err(Unread { count: 0 });
+    };
     let size = sheet_size(&head, came);
     read_all(from, errors, &mut sheet[..size])
 }

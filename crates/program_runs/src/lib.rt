@@ -74,7 +74,7 @@ fn play_begun<R: Read, W: Write, E: Eprint>(
     most: u64,
     begun: Answer,
 ) -> Result<(), Stopped>
-    requires state { begun.number ≡ 0 → OfSheet yard.now.sheet st.old }
+    requires state { begun.number ≡ 0 → OfSheet yard.now.sheet.sheet.now st.old }
     requires spare { length spare.old ≡ length st.old }
 {
     print_start(to, errors, begun.number, begun.steps)?;
@@ -94,8 +94,8 @@ fn play_states<R: Read, W: Write, E: Eprint>(
     spare: &mut [i32],
     most: u64,
 ) -> RunEnd
-    requires { (length st.old ≡ state_length yard.now.sheet) × (length spare.old ≡ length st.old) }
-    ensures { StartAnswers yard.now.sheet result.number }
+    requires { (length st.old ≡ state_length yard.now.sheet.sheet.now) × (length spare.old ≡ length st.old) }
+    ensures { StartAnswers yard.now.sheet.sheet.now result.number }
 {
     let a = engine::begin(yard, st);
     let end = play_begun(from, to, errors, yard, st, spare, most, a);
@@ -113,7 +113,7 @@ fn play_passed<R: Read, W: Write, E: Eprint>(
     yard: &Yard,
     most: u64,
 ) -> RunEnd
-    ensures { StartAnswers yard.now.sheet result.number }
+    ensures { StartAnswers yard.now.sheet.sheet.now result.number }
 {
     let mut st = [0i32; LONGEST];
     let mut spare = [0i32; LONGEST];

@@ -24,7 +24,7 @@ pub fn records_for(n: u16) -> usize
 
 // The chart that record k names.
 pub fn chart_bound(sheet: &Reader, k: usize) -> Option<Record>
-    ensures { result ≡ chart_bound sheet.now k }
+    ensures { result ≡ chart_bound sheet.now.sheet.now k }
 {
     let Some(b) = sheet.record(BINDINGS, k) else {
         return None;
@@ -36,7 +36,7 @@ pub fn chart_bound(sheet: &Reader, k: usize) -> Option<Record>
 // twice its number, which has 16 bits.
 pub fn record_behind(sheet: &Reader, k: usize) -> usize
     requires { k ≤ 131072 }
-    ensures { (result ≡ behind sheet.now k) × (result ≤ k + 2) }
+    ensures { (result ≡ behind sheet.now.sheet.now k) × (result ≤ k + 2) }
 {
     let Some(c) = chart_bound(sheet, k) else {
         return k + 1;
@@ -46,7 +46,7 @@ pub fn record_behind(sheet: &Reader, k: usize) -> usize
 
 // How many elements the section binds.
 pub fn elements_bound(sheet: &Reader) -> usize
-    ensures { (result ≡ elements_bound_in sheet.now) × (result < 65536) }
+    ensures { (result ≡ elements_bound_in sheet.now.sheet.now) × (result < 65536) }
 {
     let count = sheet.count(BINDINGS);
     let mut n: usize = 0;
@@ -88,7 +88,7 @@ pub fn constant_field(j: usize) -> usize
 // Whether a test holds for every element, which it takes by the first of its records.
 pub fn every_element<F: Fn(usize) -> bool>(sheet: &Reader, met: F) -> bool
     requires { Asked (F.pre met) }
-    ensures { (p : ℕ → Bool) → Tests (F.post met) p → result ≡ all_below (elements_bound_in sheet.now) (λ i. p (first_binding sheet.now i)) }
+    ensures { (p : ℕ → Bool) → Tests (F.post met) p → result ≡ all_below (elements_bound_in sheet.now.sheet.now) (λ i. p (first_binding sheet.now.sheet.now i)) }
 {
     let count = sheet.count(BINDINGS);
     let mut k: usize = 0;
@@ -112,7 +112,7 @@ pub fn every_constant<F: Fn(usize, usize) -> bool>(
 ) -> bool
     requires near { k ≤ 131072 }
     requires asked { AskedBoth (F.pre fits) }
-    ensures { (p : ℕ → ℕ → Bool) → TestsBoth (F.post fits) p → result ≡ all_below parameters (λ j. holds (constant_binding sheet.now k j) (λ b. p j (constant_of b j))) }
+    ensures { (p : ℕ → ℕ → Bool) → TestsBoth (F.post fits) p → result ≡ all_below parameters (λ j. holds (constant_binding sheet.now.sheet.now k j) (λ b. p j (constant_of b j))) }
 {
     let count = parameters as usize;
     for j in 0..count {

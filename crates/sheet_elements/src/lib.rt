@@ -11,7 +11,7 @@ use sheet_opened::Reader;
 
 // How many cells the first n variables of chart c take.
 pub fn cells_before(sheet: &Reader, c: Record, n: u16) -> usize
-    ensures { (result ≡ cells_before sheet.now c n) × (result < 65536 * 65536) }
+    ensures { (result ≡ cells_before sheet.now.sheet.now c n) × (result < 65536 * 65536) }
 {
     let first = c.f2 as usize;
     let count = n as usize;
@@ -24,7 +24,7 @@ pub fn cells_before(sheet: &Reader, c: Record, n: u16) -> usize
 
 // How many cells the element has whose first binding record is k.
 fn cells_bound(sheet: &Reader, k: usize) -> usize
-    ensures { ((i : ℕ) → k ≡ first_binding sheet.now i → result ≡ cells_bound sheet.now i) × (result < 65536 * 65536) }
+    ensures { ((i : ℕ) → k ≡ first_binding sheet.now.sheet.now i → result ≡ cells_bound sheet.now.sheet.now i) × (result < 65536 * 65536) }
 {
     let Some(c) = sheet_bindings::chart_bound(sheet, k) else {
         return 0;
@@ -34,7 +34,7 @@ fn cells_bound(sheet: &Reader, k: usize) -> usize
 
 // How many cells the bound elements have together.
 pub fn cells(sheet: &Reader) -> usize
-    ensures { result ≡ cells_of sheet.now }
+    ensures { result ≡ cells_of sheet.now.sheet.now }
 {
     let components = sheet_fields::field_at(sheet, HEAD, 0, 0);
     let externals = sheet_fields::field_at(sheet, HEAD, 0, 1);

@@ -44,7 +44,7 @@ pub fn zero_from(r: Record, n: usize) -> bool
 
 // A field of a record, 0 where there is none.
 pub fn field_at(sheet: &Reader, section: usize, number: usize, i: usize) -> usize
-    ensures { (result ≡ field_at sheet.now section number i) × (result < 65536) }
+    ensures { (result ≡ field_at sheet.now.sheet.now section number i) × (result < 65536) }
 {
     let Some(r) = sheet.record(section, number) else {
         return 0;
@@ -54,14 +54,14 @@ pub fn field_at(sheet: &Reader, section: usize, number: usize, i: usize) -> usiz
 
 // Whether a range of records ends within its section.
 pub fn in_section(sheet: &Reader, section: usize, first: u16, count: u16) -> bool
-    ensures { result ≡ in_section sheet.now section (range first count) }
+    ensures { result ≡ in_section sheet.now.sheet.now section (range first count) }
 {
     first as usize + count as usize <= sheet.count(section)
 }
 
 // How many data fields a call in chart c uses.
 pub fn call_data(sheet: &Reader, c: Record, r: Record) -> usize
-    ensures { (result ≡ call_data sheet.now c r) × (result < 65536) }
+    ensures { (result ≡ call_data sheet.now.sheet.now c r) × (result < 65536) }
 {
     if c.f5 <= r.f1 {
         return 0;
@@ -71,7 +71,7 @@ pub fn call_data(sheet: &Reader, c: Record, r: Record) -> usize
 
 // Where the operands of a node of chart c stand.
 pub fn operands(sheet: &Reader, c: Record, r: Record) -> Operands
-    ensures { (result ≡ operands_of sheet.now c r) × Small result }
+    ensures { (result ≡ operands_of sheet.now.sheet.now c r) × Small result }
 {
     let op = r.f0;
     match op {

@@ -10,7 +10,7 @@ use sheet_opened::Reader;
 
 // "An array takes one cell of 8 words per index"; any other variable takes one, also where i is no index.
 pub fn cells_by(sheet: &Reader, i: u16) -> usize
-    ensures { (result ≡ cells_by (index_of sheet.now i)) × (result < 65536) }
+    ensures { (result ≡ cells_by (index_of sheet.now.sheet.now i)) × (result < 65536) }
 {
     match i {
         0 => 1,
@@ -26,7 +26,7 @@ pub fn cells_by(sheet: &Reader, i: u16) -> usize
 
 // How many cells declaration d takes: one where it isn't there.
 pub fn cells_taken(sheet: &Reader, d: usize) -> usize
-    ensures { (result ≡ cells_taken sheet.now d) × (result < 65536) }
+    ensures { (result ≡ cells_taken sheet.now.sheet.now d) × (result < 65536) }
 {
     let Some(r) = sheet.record(DECLARATIONS, d) else {
         return 1;
@@ -36,7 +36,7 @@ pub fn cells_taken(sheet: &Reader, d: usize) -> usize
 
 // "0 stays a plain variable"
 pub fn is_plain(sheet: &Reader, d: usize) -> bool
-    ensures { result ≡ is_plain (index_at sheet.now d) }
+    ensures { result ≡ is_plain (index_at sheet.now.sheet.now d) }
 {
     let Some(r) = sheet.record(DECLARATIONS, d) else {
         return false;
@@ -46,7 +46,7 @@ pub fn is_plain(sheet: &Reader, d: usize) -> bool
 
 // "Another f1 is 1": none, a data type that is there, or a number from 1 to 64.
 pub fn index_exists(sheet: &Reader, i: u16) -> bool
-    ensures { result ≡ index_exists sheet.now (index_of sheet.now i) }
+    ensures { result ≡ index_exists sheet.now.sheet.now (index_of sheet.now.sheet.now i) }
 {
     match i {
         0..=3 => true,

@@ -12,7 +12,7 @@ use sheet_opened::Reader;
 use sheet_rules::Typed;
 
 pub fn type_at(sheet: &Reader, d: usize) -> usize
-    ensures { result ≡ type_at sheet.now d }
+    ensures { result ≡ type_at sheet.now.sheet.now d }
 {
     sheet_fields::field_at(sheet, DECLARATIONS, d, 0)
 }
@@ -78,14 +78,14 @@ pub fn variable_at(c: Record, b: Record, place: u16, n: u16) -> usize
 
 // The type of variable n of chart c.
 pub fn chart_variable_type(sheet: &Reader, c: Record, n: u16) -> usize
-    ensures { result ≡ type_at sheet.now (c.f2 + n) }
+    ensures { result ≡ type_at sheet.now.sheet.now (c.f2 + n) }
 {
     type_at(sheet, c.f2 as usize + n as usize)
 }
 
 // Whether name n is of a class.
 pub fn has_class(sheet: &Reader, n: usize, kind: u16) -> bool
-    ensures { result ≡ has_class sheet.now n kind }
+    ensures { result ≡ has_class sheet.now.sheet.now n kind }
 {
     let Some(r) = sheet.record(NAMES, n) else {
         return false;
@@ -95,7 +95,7 @@ pub fn has_class(sheet: &Reader, n: usize, kind: u16) -> bool
 
 // The data of name n.
 pub fn name_range(sheet: &Reader, n: usize) -> Range
-    ensures { (result ≡ name_range sheet.now n) × (result.first < 65536) × (result.count < 65536) }
+    ensures { (result ≡ name_range sheet.now.sheet.now n) × (result.first < 65536) × (result.count < 65536) }
 {
     let Some(r) = sheet.record(NAMES, n) else {
         return Range { first: 0, count: 0 };
@@ -108,7 +108,7 @@ pub fn name_range(sheet: &Reader, n: usize) -> Range
 
 // The body that a call in chart c names.
 pub fn called_body(sheet: &Reader, c: Record, r: Record) -> Option<Record>
-    ensures { result ≡ called_body sheet.now c r }
+    ensures { result ≡ called_body sheet.now.sheet.now c r }
 {
     if c.f5 <= r.f1 {
         return None;
@@ -118,7 +118,7 @@ pub fn called_body(sheet: &Reader, c: Record, r: Record) -> Option<Record>
 
 // Its parameters.
 pub fn called_range(sheet: &Reader, c: Record, r: Record) -> Range
-    ensures { (result ≡ parameters_of (called_body sheet.now c r)) × (result.first < 65536) × (result.count < 65536) }
+    ensures { (result ≡ parameters_of (called_body sheet.now.sheet.now c r)) × (result.first < 65536) × (result.count < 65536) }
 {
     let Some(b) = called_body(sheet, c, r) else {
         return Range { first: 0, count: 0 };

@@ -16,4 +16,4 @@ abbrev pub bodyFits : List ℕ → Record → ℕ → Bool
 bodyFits s c j = holds (record_of s 5 (c.f4 + j)) (λ b. no_twin s c j b and body_static s c b)
 
 abbrev pub invariant-loop-j : goal.invariant-loop-j
-invariant-loop-j l = (l.j ≤ l.count) × (l.count < 65536) × (all_below l.j (bodyFits l.sheet l.c) ≡ true) × Chains l.sheet l.first (l.first + l.j) l.tables.last l.tables.previous × Entries l.sheet reacts_to l.tables.internal × Table l.sheet l.c l.tables.internal
+invariant-loop-j l = (l.j ≤ l.count) × (l.count < 65536) × (all_below l.j (bodyFits l.sheet.sheet.now l.c) ≡ true) × Chains l.sheet.sheet.now l.first (l.first + l.j) l.tables.last l.tables.previous × Entries l.sheet.sheet.now reacts_to l.tables.internal × Table l.sheet.sheet.now l.c l.tables.internal

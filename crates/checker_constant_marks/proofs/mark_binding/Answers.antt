@@ -29,7 +29,7 @@ pub mark_constants-requires-2 : goal.mark_constants-requires-2
 mark_constants-requires-2 c = record { count_in_bounds = c.requires.count_in_bounds; n_bound = omega arith }
 
 pub overflow_add-k : goal.overflow_add-k
-overflow_add-k c = record { fits = omega (arith, c.requires.k_bound, count_limit c.args.sheet.now 7) }
+overflow_add-k c = record { fits = omega (arith, c.requires.k_bound, count_limit c.args.sheet.now.sheet.now 7) }
 
 pub mark_second-more-requires : goal.mark_second-more-requires
 mark_second-more-requires c = let kept = c.mark_constants-2.ensures.kept.long in

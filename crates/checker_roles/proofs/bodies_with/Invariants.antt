@@ -9,4 +9,4 @@ abbrev pub counts : List ℕ → ℕ → ℕ → ℕ → ℕ
 counts s first k j = one_if (has_role s (first + j) k)
 
 abbrev pub invariant-loop-j : goal.invariant-loop-j
-invariant-loop-j l = (l.j ≤ l.count) × (l.count < 65536) × (l.n ≤ l.j) × (l.n ≡ sum_below l.j (counts l.sheet l.first l.role))
+invariant-loop-j l = (l.j ≤ l.count) × (l.count < 65536) × (l.n ≤ l.j) × (l.n ≡ sum_below l.j (counts l.sheet.sheet.now l.first l.role))

@@ -12,4 +12,4 @@ abbrev pub plainDatum : List ℕ → ℕ → ℕ → Bool
 plainDatum s first j = not (is_clock (type_at s (first + j))) and is_plain (index_at s (first + j))
 
 abbrev pub invariant-loop-j : goal.invariant-loop-j
-invariant-loop-j l = (l.j ≤ l.count) × (all_below l.j (plainDatum l.sheet l.first) ≡ true)
+invariant-loop-j l = (l.j ≤ l.count) × (all_below l.j (plainDatum l.sheet.sheet.now l.first) ≡ true)

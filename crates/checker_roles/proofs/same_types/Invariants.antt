@@ -11,4 +11,4 @@ abbrev pub same_type : List ℕ → ℕ → ℕ → ℕ → Bool
 same_type s a b j = eqb (type_at s (a + j)) (type_at s (b + j))
 
 abbrev pub invariant-loop-j : goal.invariant-loop-j
-invariant-loop-j l = (l.j ≤ l.count) × (all_below l.j (same_type l.sheet l.from l.with) ≡ true)
+invariant-loop-j l = (l.j ≤ l.count) × (all_below l.j (same_type l.sheet.sheet.now l.from l.with) ≡ true)

@@ -18,27 +18,27 @@ other s k i r a b d e f g = lines_past true 6 (shape_table s i r) 6 k tt (beyond
 
 pub returns-in-0 : goal.returns-in-0
 unfolding record_shape look_up
-returns-in-0 c = c.head_fits.ensures ∙ sym (ap (λ n. record_shape c.args.sheet.now n c.args.i c.args.r) c.in-0.is)
+returns-in-0 c = c.head_fits.ensures ∙ sym (ap (λ n. record_shape c.args.sheet.now.sheet.now n c.args.i c.args.r) c.in-0.is)
 
 pub returns-in-1 : goal.returns-in-1
 unfolding record_shape look_up
-returns-in-1 c = c.enumerated_fits.ensures ∙ sym (ap (λ n. record_shape c.args.sheet.now n c.args.i c.args.r) c.in-1.is)
+returns-in-1 c = c.enumerated_fits.ensures ∙ sym (ap (λ n. record_shape c.args.sheet.now.sheet.now n c.args.i c.args.r) c.in-1.is)
 
 pub returns-in-2 : goal.returns-in-2
 unfolding record_shape look_up
-returns-in-2 c = c.declaration_fits.ensures ∙ sym (ap (λ n. record_shape c.args.sheet.now n c.args.i c.args.r) c.in-2.is)
+returns-in-2 c = c.declaration_fits.ensures ∙ sym (ap (λ n. record_shape c.args.sheet.now.sheet.now n c.args.i c.args.r) c.in-2.is)
 
 pub returns-in-3 : goal.returns-in-3
 unfolding record_shape look_up
-returns-in-3 c = c.name_fits.ensures ∙ sym (ap (λ n. record_shape c.args.sheet.now n c.args.i c.args.r) c.in-3.is)
+returns-in-3 c = c.name_fits.ensures ∙ sym (ap (λ n. record_shape c.args.sheet.now.sheet.now n c.args.i c.args.r) c.in-3.is)
 
 pub returns-in-4 : goal.returns-in-4
 unfolding record_shape look_up
-returns-in-4 c = c.chart_fits.ensures ∙ sym (ap (λ n. record_shape c.args.sheet.now n c.args.i c.args.r) c.in-4.is)
+returns-in-4 c = c.chart_fits.ensures ∙ sym (ap (λ n. record_shape c.args.sheet.now.sheet.now n c.args.i c.args.r) c.in-4.is)
 
 pub returns-in-5 : goal.returns-in-5
 unfolding record_shape look_up
-returns-in-5 c = c.body_fits.ensures ∙ sym (ap (λ n. record_shape c.args.sheet.now n c.args.i c.args.r) c.in-5.is)
+returns-in-5 c = c.body_fits.ensures ∙ sym (ap (λ n. record_shape c.args.sheet.now.sheet.now n c.args.i c.args.r) c.in-5.is)
 
 pub returns-in_default : goal.returns-in_default
 returns-in_default c = sym (other _ _ _ _ c.in_default.in_default-own.rest.0.0.0.0.0.1 c.in_default.in_default-own.rest.0.0.0.0.1 c.in_default.in_default-own.rest.0.0.0.1 c.in_default.in_default-own.rest.0.0.1 c.in_default.in_default-own.rest.0.1 c.in_default.in_default-own.rest.1)

@@ -12,4 +12,4 @@ abbrev pub fits : List ℕ → ℕ → ℕ → Bool
 fits s k i = holds (record_of s k i) (record_shape s k i)
 
 abbrev pub invariant-loop-i : goal.invariant-loop-i
-invariant-loop-i l = (l.i ≤ l.count) × (all_below l.i (fits l.sheet l.k) ≡ true)
+invariant-loop-i l = (l.i ≤ l.count) × (all_below l.i (fits l.sheet.sheet.now l.k) ≡ true)

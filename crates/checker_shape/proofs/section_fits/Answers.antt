@@ -16,7 +16,7 @@ unfolding each_shape record_shape look_up
 nodes-free s = all_true _ _ (λ i l. holds-present _ _ (record_shape s 6 i) (record_present s 6 i l))
 
 pub returns-then-k-eq6 : goal.returns-then-k-eq6
-returns-then-k-eq6 c = sym (ap (section_shape c.args.sheet.now) c.if-k-eq6.true ∙ section-each _ 6 (λ q. omega arith) ∙ nodes-free c.args.sheet.now)
+returns-then-k-eq6 c = sym (ap (section_shape c.args.sheet.now.sheet.now) c.if-k-eq6.true ∙ section-each _ 6 (λ q. omega arith) ∙ nodes-free c.args.sheet.now.sheet.now)
 
 pub returns-then-k-eq7 : goal.returns-then-k-eq7
 returns-then-k-eq7 c = c.bindings_fit.ensures ∙ sym (section-bindings _ _ c.if-k-eq7.true)

@@ -6,4 +6,4 @@ use Rattle.sheet_rules.specs.Shape.{section_shape}
 use Rattle.checker_shape.proofs.sections_fit.Given as goal
 
 abbrev pub invariant-loop-k : goal.invariant-loop-k
-invariant-loop-k l = (l.k ≤ 8) × (all_below l.k (section_shape l.sheet) ≡ true)
+invariant-loop-k l = (l.k ≤ 8) × (all_below l.k (section_shape l.sheet.sheet.now) ≡ true)

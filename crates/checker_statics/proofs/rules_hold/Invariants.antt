@@ -7,4 +7,4 @@ use Rattle.checker_reactions.specs.Entries.{Ready}
 use Rattle.checker_statics.proofs.rules_hold.Given as goal
 
 abbrev pub invariant-loop-k : goal.invariant-loop-k
-invariant-loop-k l = (l.k ≤ 8) × (all_below l.k (section_static l.sheet) ≡ true) × Ready l.sheet l.tables
+invariant-loop-k l = (l.k ≤ 8) × (all_below l.k (section_static l.sheet.sheet.now) ≡ true) × Ready l.sheet.sheet.now l.tables

@@ -16,7 +16,7 @@ unfolding each_static record_static look_up
 nodes-free s = all_true _ _ (λ i l. holds-present _ _ (record_static s 6) (record_present s 6 i l))
 
 pub returns-then-k-eq6 : goal.returns-then-k-eq6
-returns-then-k-eq6 c = (sym (ap (section_static c.args.sheet.now) c.if-k-eq6.true ∙ static-each _ 6 (λ q. omega arith) ∙ nodes-free c.args.sheet.now), c.requires)
+returns-then-k-eq6 c = (sym (ap (section_static c.args.sheet.now.sheet.now) c.if-k-eq6.true ∙ static-each _ 6 (λ q. omega arith) ∙ nodes-free c.args.sheet.now.sheet.now), c.requires)
 
 pub returns-then-k-eq7 : goal.returns-then-k-eq7
 returns-then-k-eq7 c = (c.bindings_static.ensures ∙ sym (static-bindings _ _ c.if-k-eq7.true), c.requires)

@@ -16,4 +16,4 @@ abbrev pub decreases-tree_fits : goal.decreases-tree_fits
 decreases-tree_fits l = l.levels
 
 abbrev pub invariant-loop-j : goal.invariant-loop-j
-invariant-loop-j l = (l.j ≤ l.count) × (all_below l.j (operandFits l.sheet l.c l.b (l.levels - 1) l.n l.r) ≡ true)
+invariant-loop-j l = (l.j ≤ l.count) × (all_below l.j (operandFits l.sheet.sheet.now l.c l.b (l.levels - 1) l.n l.r) ≡ true)

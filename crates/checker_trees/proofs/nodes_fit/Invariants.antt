@@ -12,4 +12,4 @@ abbrev pub chartFits : List ℕ → ℕ → Bool
 chartFits s k = holds (record_of s 4 k) (trees_shape s)
 
 abbrev pub invariant-loop-k : goal.invariant-loop-k
-invariant-loop-k l = (l.k ≤ l.count) × (all_below l.k (chartFits l.sheet) ≡ true)
+invariant-loop-k l = (l.k ≤ l.count) × (all_below l.k (chartFits l.sheet.sheet.now) ≡ true)

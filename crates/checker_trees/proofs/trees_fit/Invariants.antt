@@ -13,4 +13,4 @@ abbrev pub bodyFits : List ℕ → Record → ℕ → Bool
 bodyFits s c j = holds (record_of s 5 (c.f4 + j)) (λ b. tree_shape s c b 64 b.f7)
 
 abbrev pub invariant-loop-j : goal.invariant-loop-j
-invariant-loop-j l = (l.j ≤ l.count) × (l.count < 65536) × (all_below l.j (bodyFits l.sheet l.c) ≡ true)
+invariant-loop-j l = (l.j ≤ l.count) × (l.count < 65536) × (all_below l.j (bodyFits l.sheet.sheet.now l.c) ≡ true)

@@ -16,4 +16,4 @@ abbrev pub decreases-type_of : goal.decreases-type_of
 decreases-type_of l = 3 * l.n + 2
 
 abbrev pub invariant-data_match-loop-j : goal.invariant-data_match-loop-j
-invariant-data_match-loop-j l = (l.j ≤ l.count) × (all_below l.j (datum_matches l.sheet (lower_type l.n (type_of l.sheet l.c l.b)) l.first l.r) ≡ true)
+invariant-data_match-loop-j l = (l.j ≤ l.count) × (all_below l.j (datum_matches l.sheet.sheet.now (lower_type l.n (type_of l.sheet.sheet.now l.c l.b)) l.first l.r) ≡ true)

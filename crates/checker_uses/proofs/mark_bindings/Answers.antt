@@ -16,7 +16,7 @@ mark_binding-k-requires c = let x = c.loop-k.invariant in
     record { count_in_bounds = omega (arith, x.1.2.kept.long, c.requires.count_in_bounds); k_bound = omega (arith, x.0) }
 
 pub overflow_add-k : goal.overflow_add-k
-overflow_add-k c = let sheet = c.args.sheet.now in
+overflow_add-k c = let sheet = c.args.sheet.now.sheet.now in
     let x = c.loop-k.invariant in
     let l = c.loop-k-test.true in
     record { fits = omega (arith, x.0, c.mark_binding-k.ensures.1, count_limit sheet 7) }
@@ -39,7 +39,7 @@ pub shape_of-marks : goal.shape_of-marks
 shape_of-marks c = c.loop-k.invariant.1.2.kept.long
 
 pub returns : goal.returns
-returns c = let sheet = c.args.sheet.now in
+returns c = let sheet = c.args.sheet.now.sheet.now in
     let x = c.loop-k.invariant in
     let l = c.loop-k-test.false in
     let all = x.1.1.all (omega (arith, x.0)) in

@@ -18,7 +18,7 @@ overflow_add-gone c = let args = c.args in
       arith,
       c.loop-i.invariant.1,
       c.mark_chart-gone.ensures.1,
-      count_limit args.sheet.now 4,
+      count_limit args.sheet.now.sheet.now 4,
       c.count-total.ensures,
     )
 
@@ -33,6 +33,6 @@ unfolding over_charts
 returns c = let args = c.args in
     let count-opened-here = c.count-total.ensures in (
       count-end _ c.loop-i.i _ _ (omega (arith, count-opened-here)) c.loop-i.invariant.2,
-      omega (arith, c.loop-i.invariant.1, count_limit args.sheet.now 4, count-opened-here),
+      omega (arith, c.loop-i.invariant.1, count_limit args.sheet.now.sheet.now 4, count-opened-here),
       roots_end _ _ _ _ _ _ (omega (arith, count-opened-here)) c.loop-i.invariant.3,
     )

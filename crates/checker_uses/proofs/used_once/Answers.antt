@@ -29,7 +29,7 @@ mark_bindings-bindings-requires c = let args = c.args in
     }
 
 pub overflow_add-gone : goal.overflow_add-gone
-overflow_add-gone c = omega (arith, c.mark_charts-bodies.ensures.1, c.mark_bindings-bindings.ensures.0, count_limit c.args.sheet.now 7)
+overflow_add-gone c = omega (arith, c.mark_charts-bodies.ensures.1, c.mark_bindings-bindings.ensures.0, count_limit c.args.sheet.now.sheet.now 7)
 
 pub loop-n-init : goal.loop-n-init
 unfolding gone_over
@@ -37,7 +37,7 @@ loop-n-init c = let args = c.args in
     let count-opened-here = c.count-count.ensures in
     let agreed-start-here = agreed_start _ _ _ _ _ _ count-opened-here refl c.mark_charts-bodies.ensures.2 c.mark_bindings-bindings.ensures.1 in (
       omega (arith, c.mark_charts-bodies.ensures.0, c.mark_bindings-bindings.ensures.0, count-opened-here),
-      omega (arith, c.mark_charts-bodies.ensures.1, c.mark_bindings-bindings.ensures.0, count_limit args.sheet.now 7, count_limit args.sheet.now 6, count-opened-here),
+      omega (arith, c.mark_charts-bodies.ensures.1, c.mark_bindings-bindings.ensures.0, count_limit args.sheet.now.sheet.now 7, count_limit args.sheet.now.sheet.now 6, count-opened-here),
       kept-all _ _,
       going_start _ _ _ count-opened-here agreed-start-here,
     )
@@ -74,7 +74,7 @@ overflow_add-gone-in-loop-n c = omega (arith, c.loop-n.invariant.1, c.mark_opera
 
 pub loop-n-preserved : goal.loop-n-preserved
 loop-n-preserved c = let args = c.args in
-    let there = record_present args.sheet.now 6 (c.loop-n.n - 1) (omega (arith, c.loop-n.invariant.3.inside)) in (
+    let there = record_present args.sheet.now.sheet.now 6 (c.loop-n.n - 1) (omega (arith, c.loop-n.invariant.3.inside)) in (
       omega (arith, c.loop-n.invariant.0, c.mark_operands-gone.ensures.0 ∙ number-present _ _ _ there),
       omega (arith, c.loop-n.invariant.1, c.mark_operands-gone.ensures.1),
       kept_then _ _ _ _ c.loop-n.invariant.2

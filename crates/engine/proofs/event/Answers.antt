@@ -7,7 +7,7 @@ pub new-requires : goal.new-requires
 new-requires c = sym c.check_opened.ensures.0 ∙ c.in-Passed.is
 
 pub returns-in-Shape : goal.returns-in-Shape
-returns-in-Shape c = shape-event _ _ _ _ _ c.answered.ensures (ap check_of (sym c.new-opened.ensures) ∙ sym c.check_opened.ensures.0 ∙ c.in-Shape.is)
+returns-in-Shape c = shape-event _ _ _ _ _ c.answered.ensures (ap (λ r. check_of r.now) (sym c.new-opened.ensures.0) ∙ sym c.check_opened.ensures.0 ∙ c.in-Shape.is)
 
 pub returns-in-Static : goal.returns-in-Static
-returns-in-Static c = static-event _ _ _ _ _ c.answered-in-Static.ensures (ap check_of (sym c.new-opened.ensures) ∙ sym c.check_opened.ensures.0 ∙ c.in-Static.is)
+returns-in-Static c = static-event _ _ _ _ _ c.answered-in-Static.ensures (ap (λ r. check_of r.now) (sym c.new-opened.ensures.0) ∙ sym c.check_opened.ensures.0 ∙ c.in-Static.is)

@@ -16,7 +16,7 @@ may_undo-needed-requires c = (c.requires.0, c.sought-j.ensures _ c.requires.0.wh
 pub happened-requires : goal.happened-requires
 happened-requires c = record {
   state = c.requires.0;
-  bound = ap (receiver_bound c.args.yard.now.sheet) c.event_of-e.ensures ∙ receiver-bound c.args.yard.now.sheet c.args.ev.now;
+  bound = ap (receiver_bound c.args.yard.now.sheet.sheet.now) c.event_of-e.ensures ∙ receiver-bound c.args.yard.now.sheet.sheet.now c.args.ev.now;
   sought = c.sought-j.ensures _ c.requires.0.whole;
   long = c.if-needed.auto.spare ∙ c.requires.1;
   copied = λ u. elim c.if-needed.branch [

@@ -55,7 +55,7 @@ happened-requires c = let old = eqb-true _ _ (by_cells _ _ _ _ _ c.args.yard.now
     let plays = copy_plays _ _ c.args.res.now c.args.ev.now c.args.yard.now.passed old new fit _ copied in
     record {
       state = plays;
-      bound = ap (receiver_bound c.args.yard.now.sheet) c.event_of-e.ensures ∙ receiver-bound c.args.yard.now.sheet c.args.ev.now;
+      bound = ap (receiver_bound c.args.yard.now.sheet.sheet.now) c.event_of-e.ensures ∙ receiver-bound c.args.yard.now.sheet.sheet.now c.args.ev.now;
       sought = c.sought-j.ensures _ plays.whole;
       long = ap length (sym copied);
       copied = λ u. sym copied;

@@ -10,10 +10,10 @@ new-requires c = sym c.check_opened.ensures.0 ∙ c.in-Passed.is
 
 pub returns-in-Shape : goal.returns-in-Shape
 returns-in-Shape c = let result = c.args.res.now in
-    let shape = ap check_of (sym c.new-opened.ensures) ∙ sym c.check_opened.ensures.0 ∙ c.in-Shape.is in
+    let shape = ap (λ r. check_of r.now) (sym c.new-opened.ensures.0) ∙ sym c.check_opened.ensures.0 ∙ c.in-Shape.is in
     ap (λ (a : Answer). ended a result) c.answered.ensures ∙ sym (start-shape _ _ shape)
 
 pub returns-in-Static : goal.returns-in-Static
 returns-in-Static c = let result = c.args.res.now in
-    let static = ap check_of (sym c.new-opened.ensures) ∙ sym c.check_opened.ensures.0 ∙ c.in-Static.is in
+    let static = ap (λ r. check_of r.now) (sym c.new-opened.ensures.0) ∙ sym c.check_opened.ensures.0 ∙ c.in-Static.is in
     ap (λ (a : Answer). ended a result) c.answered-in-Static.ensures ∙ sym (start-static _ _ static)

@@ -23,7 +23,7 @@ returns-in_err-word c = (
 pub returns : goal.returns
 returns c = let args = c.args in
     let word : to_z w32 (of_z w32 c.in_ok-word.word) ≡ c.in_ok-word.word = search rules in
-    let put-here = c.put.ensures.1 args.sheet.now (context_at args.sheet.now args.context.now) (assign_at _ _ _ _ _ _ c.requires) in (
+    let put-here = c.put.ensures.1 args.sheet.now.sheet.now (context_at args.sheet.now.sheet.now args.context.now) (assign_at _ _ _ _ _ _ c.requires) in (
       c.put.ensures.0,
       λ depth. (rw word at put-here)
           ∙ on_word _ _ _ _ _ _ c.in_ok-word.ensures

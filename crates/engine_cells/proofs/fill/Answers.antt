@@ -16,7 +16,7 @@ pub prove-unreachable-requires : goal.prove-unreachable-requires
 prove-unreachable-requires c = absurd
     (let ok = c.requires.0 in
     let l = c.loop-i-test.true in
-    let s = c.args.sheet.now in
+    let s = c.args.sheet.now.sheet.now in
     let j = c.loop-i.i in
     let m : j < elements_of s = omega (arith, c.elements-count.ensures.0) in
     bound-there _ ok _ _ m c.loop-i.invariant.2 (sym c.chart_bound.ensures ∙ c.in_default.is))
@@ -31,7 +31,7 @@ fill_row-cell-requires c = let ok = c.requires.0 in
     let n = c.elements-count.ensures in
     let i = c.loop-i.invariant in
     let p = sym c.chart_bound.ensures ∙ c.in-Some.is in
-    let s = c.args.sheet.now in
+    let s = c.args.sheet.now.sheet.now in
     let j = c.loop-i.i in
     let m : j < elements_of s = omega (arith, n.0) in
     let few = chart_variables_lem _ ok _ _ (bound-chart _ ok _ _ m i.2 _ p) in
@@ -56,7 +56,7 @@ bounds-cells-i c = let l = c.loop-i-test.true in
 
 pub overflow_add-k : goal.overflow_add-k
 overflow_add-k c = let l = c.loop-i-test.true in
-    let most = (first_most c.args.sheet.now c.loop-i.i).1 in
+    let most = (first_most c.args.sheet.now.sheet.now c.loop-i.i).1 in
     record { fits = omega (arith, c.loop-i.invariant.2, most, c.elements-count.ensures.1, c.records_for-k.ensures.1) }
 
 pub loop-i-preserved : goal.loop-i-preserved
@@ -64,7 +64,7 @@ loop-i-preserved c = let ok = c.requires.0 in
     let l = c.loop-i-test.true in
     let i = c.loop-i.invariant in
     let p = sym c.chart_bound.ensures ∙ c.in-Some.is in
-    let s = c.args.sheet.now in
+    let s = c.args.sheet.now.sheet.now in
     let j = c.loop-i.i in
     let m : j < elements_of s = omega (arith, c.elements-count.ensures.0) in
     let cell = c.fill_row-cell.ensures.0 ∙ bound_next _ ok _ _ m i.2 _ p _ i.1 in

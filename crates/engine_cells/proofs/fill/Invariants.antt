@@ -7,4 +7,4 @@ use Rattle.engine_cells.proofs.Laws.{Rows}
 use Rattle.engine_cells.proofs.fill.Given as goal
 
 abbrev pub invariant-loop-i : goal.invariant-loop-i
-invariant-loop-i l = (l.i ≤ l.count) × (l.cell ≡ sum_below l.i (cells_bound l.sheet)) × (l.k ≡ first_binding l.sheet l.i) × Rows l.sheet l.i l.cells
+invariant-loop-i l = (l.i ≤ l.count) × (l.cell ≡ sum_below l.i (cells_bound l.sheet.sheet.now)) × (l.k ≡ first_binding l.sheet.sheet.now l.i) × Rows l.sheet.sheet.now l.i l.cells

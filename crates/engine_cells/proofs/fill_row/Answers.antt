@@ -12,7 +12,7 @@ overflow_add-next c = let l = c.loop-n-test.true in
     let b = c.requires.3 in
     let e = c.loop-n.invariant.1 in
     let a = c.args in
-    record { fits = omega (arith, c.cells_taken-taken.ensures.0, variable-cells a.sheet.now a.c c.loop-n.n _ l) }
+    record { fits = omega (arith, c.cells_taken-taken.ensures.0, variable-cells a.sheet.now.sheet.now a.c c.loop-n.n _ l) }
 
 pub loop-n-preserved : goal.loop-n-preserved
 loop-n-preserved c = let l = c.loop-n-test.true in

@@ -5,4 +5,4 @@ use Rattle.engine_cells.specs.Cells.{Row}
 use Rattle.engine_cells.proofs.fill_row.Given as goal
 
 abbrev pub invariant-loop-n : goal.invariant-loop-n
-invariant-loop-n l = (l.n ≤ l.count) × (l.next ≡ l.cell + cells_before l.sheet l.c l.n) × Row l.sheet l.c l.at l.cell l.n l.initial.cells l.cells
+invariant-loop-n l = (l.n ≤ l.count) × (l.next ≡ l.cell + cells_before l.sheet.sheet.now l.c l.n) × Row l.sheet.sheet.now l.c l.at l.cell l.n l.initial.cells l.cells

@@ -19,7 +19,7 @@ unfolding externals_of field_at field_of
 loop-i-init c = (omega arith, c.field_at-first.ensures.0, c.elements-count.ensures.0, after_first _ _ _ c.requires, from_first _ _ _ _)
 
 pub overflow_add-first : goal.overflow_add-first
-overflow_add-first c = let s = c.args.yard.now.sheet in
+overflow_add-first c = let s = c.args.yard.now.sheet.sheet.now in
     let ok = c.args.yard.now.passed in
     let l = c.loop-i-test.true in
     let f = c.loop-i.invariant.1 in
@@ -28,7 +28,7 @@ overflow_add-first c = let s = c.args.yard.now.sheet in
 
 pub chart-requires : goal.chart-requires
 chart-requires c = let i = c.loop-i.i in
-    let s = c.args.yard.now.sheet in
+    let s = c.args.yard.now.sheet.sheet.now in
     let l = c.loop-i-test.true in
     let f = c.loop-i.invariant.1 in
     let n = c.loop-i.invariant.2 in
@@ -38,7 +38,7 @@ chart-requires c = let i = c.loop-i.i in
 pub prove-unreachable-requires : goal.prove-unreachable-requires
 prove-unreachable-requires c = absurd
     (let i = c.loop-i.i in
-    let s = c.args.yard.now.sheet in
+    let s = c.args.yard.now.sheet.sheet.now in
     let l = c.loop-i-test.true in
     let f = c.loop-i.invariant.1 in
     let n = c.loop-i.invariant.2 in
@@ -47,7 +47,7 @@ prove-unreachable-requires c = absurd
     has_chart s c.args.yard.now.passed _ (number_bound s i m) (ap (λ x. chart_of s (x + i)) (sym f) ∙ none))
 
 pub overflow_add-first-in-loop-i : goal.overflow_add-first-in-loop-i
-overflow_add-first-in-loop-i c = let s = c.args.yard.now.sheet in
+overflow_add-first-in-loop-i c = let s = c.args.yard.now.sheet.sheet.now in
     let ok = c.args.yard.now.passed in
     let l = c.loop-i-test.true in
     let f = c.loop-i.invariant.1 in
@@ -55,7 +55,7 @@ overflow_add-first-in-loop-i c = let s = c.args.yard.now.sheet in
     record { fits = omega (arith, elements-rest s ok, components_limit s ok) }
 
 pub overflow_mul-i : goal.overflow_mul-i
-overflow_mul-i c = let s = c.args.yard.now.sheet in
+overflow_mul-i c = let s = c.args.yard.now.sheet.sheet.now in
     let ok = c.args.yard.now.passed in
     let l = c.loop-i-test.true in
     let n = c.loop-i.invariant.2 in
@@ -64,7 +64,7 @@ overflow_mul-i c = let s = c.args.yard.now.sheet in
 pub slice_cells-requires : goal.slice_cells-requires
 slice_cells-requires c = let i = c.loop-i.i in
     let inv = c.loop-i.invariant in
-    let s = c.args.yard.now.sheet in
+    let s = c.args.yard.now.sheet.sheet.now in
     let ok = c.args.yard.now.passed in
     let l = c.loop-i-test.true in
     let f = inv.1 in
@@ -79,7 +79,7 @@ slice_cells-requires c = let i = c.loop-i.i in
 pub returns-in_err-slice_cells : goal.returns-in_err-slice_cells
 returns-in_err-slice_cells c = let inv = c.loop-i.invariant in
     let i = c.loop-i.i in
-    let s = c.args.yard.now.sheet in
+    let s = c.args.yard.now.sheet.sheet.now in
     let l = c.loop-i-test.true in
     let f = inv.1 in
     let n = inv.2 in
@@ -92,7 +92,7 @@ returns-in_err-slice_cells c = let inv = c.loop-i.invariant in
 pub loop-i-preserved : goal.loop-i-preserved
 loop-i-preserved c = let inv = c.loop-i.invariant in
     let i = c.loop-i.i in
-    let s = c.args.yard.now.sheet in
+    let s = c.args.yard.now.sheet.sheet.now in
     let l = c.loop-i-test.true in
     let f = inv.1 in
     let n = inv.2 in

@@ -9,7 +9,7 @@ use Rattle.engine_clocks.proofs.slice.Given as goal
 
 abbrev pub invariant-loop-i : goal.invariant-loop-i
 invariant-loop-i l = (l.i ≤ l.count)
-    × (l.first ≡ externals_of l.yard.sheet)
-    × (l.count ≡ elements_of l.yard.sheet)
-    × After l.yard.sheet (cell_at (first_cell l.yard.sheet (externals_of l.yard.sheet + l.i))) l.initial.st l.st
-    × (sliced_from l.yard.sheet (elements_of l.yard.sheet) (externals_of l.yard.sheet) l.initial.st ≡ sliced_from l.yard.sheet (elements_of l.yard.sheet - l.i) (externals_of l.yard.sheet + l.i) l.st)
+    × (l.first ≡ externals_of l.yard.sheet.sheet.now)
+    × (l.count ≡ elements_of l.yard.sheet.sheet.now)
+    × After l.yard.sheet.sheet.now (cell_at (first_cell l.yard.sheet.sheet.now (externals_of l.yard.sheet.sheet.now + l.i))) l.initial.st l.st
+    × (sliced_from l.yard.sheet.sheet.now (elements_of l.yard.sheet.sheet.now) (externals_of l.yard.sheet.sheet.now) l.initial.st ≡ sliced_from l.yard.sheet.sheet.now (elements_of l.yard.sheet.sheet.now - l.i) (externals_of l.yard.sheet.sheet.now + l.i) l.st)

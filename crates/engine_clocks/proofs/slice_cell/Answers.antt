@@ -40,7 +40,7 @@ returns-in-4 c = let args = c.args in
     let clock = is_clock_lem 4 _ c.type_at.ensures c.in-4.is (omega arith) (omega arith) in
     rw (← c.cell_at-at.ensures)
     (cell_ticks _ _ _ _ _ clock some
-    ∙ ap (λ k. ticks args.sheet.now args.e k c.cell_at-at.result args.st.now) (sym c.type_at.ensures ∙ c.in-4.is)
+    ∙ ap (λ k. ticks args.sheet.now.sheet.now args.e k c.cell_at-at.result args.st.now) (sym c.type_at.ensures ∙ c.in-4.is)
     ∙ c.tick_timer.ensures _ _)
 
 pub tick_timeout-requires : goal.tick_timeout-requires
@@ -56,7 +56,7 @@ returns-in-5 c = let args = c.args in
     let clock = is_clock_lem 5 _ c.type_at.ensures c.in-5.is (omega arith) (omega arith) in
     rw (← c.cell_at-at.ensures)
     (cell_ticks _ _ _ _ _ clock some
-    ∙ ap (λ k. ticks args.sheet.now args.e k c.cell_at-at.result args.st.now) (sym c.type_at.ensures ∙ c.in-5.is)
+    ∙ ap (λ k. ticks args.sheet.now.sheet.now args.e k c.cell_at-at.result args.st.now) (sym c.type_at.ensures ∙ c.in-5.is)
     ∙ c.tick_timeout.ensures _ c.requires.2.whole (cell_named _ _ _ _ _ _ c.cell_at-at.ensures c.requires.2 clock some (not_timer 5 _ c.type_at.ensures c.in-5.is (omega arith))))
 
 pub tick_cycler-requires : goal.tick_cycler-requires
@@ -72,7 +72,7 @@ returns-in-6 c = let args = c.args in
     let clock = is_clock_lem 6 _ c.type_at.ensures c.in-6.is (omega arith) (omega arith) in
     rw (← c.cell_at-at.ensures)
     (cell_ticks _ _ _ _ _ clock some
-    ∙ ap (λ k. ticks args.sheet.now args.e k c.cell_at-at.result args.st.now) (sym c.type_at.ensures ∙ c.in-6.is)
+    ∙ ap (λ k. ticks args.sheet.now.sheet.now args.e k c.cell_at-at.result args.st.now) (sym c.type_at.ensures ∙ c.in-6.is)
     ∙ c.tick_cycler.ensures _ c.requires.2.whole (cell_named _ _ _ _ _ _ c.cell_at-at.ensures c.requires.2 clock some (not_timer 6 _ c.type_at.ensures c.in-6.is (omega arith))))
 
 pub returns-in_default : goal.returns-in_default

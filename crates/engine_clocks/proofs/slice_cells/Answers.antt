@@ -21,7 +21,7 @@ pub bounds-yard-row : goal.bounds-yard-row
 bounds-yard-row c = let k = c.requires.1 in let l = c.loop-j-test.true in omega arith
 
 pub slice_cell-requires : goal.slice_cell-requires
-slice_cell-requires c = let s = c.args.yard.now.sheet in
+slice_cell-requires c = let s = c.args.yard.now.sheet.sheet.now in
     let x = c.args.c in
     let j = c.loop-j.j in
     let l = c.loop-j-test.true in
@@ -30,7 +30,7 @@ slice_cell-requires c = let s = c.args.yard.now.sheet in
     (c.requires.0, c.requires.2, subst (λ (i : ℕ). Cell s c.args.e (type_at s (x.f2 + j)) c.loop-j.st i) (sym row) here)
 
 pub returns-in_err-slice_cell : goal.returns-in_err-slice_cell
-returns-in_err-slice_cell c = let s = c.args.yard.now.sheet in
+returns-in_err-slice_cell c = let s = c.args.yard.now.sheet.sheet.now in
     let x = c.args.c in
     let j = c.loop-j.j in
     let l = c.loop-j-test.true in
@@ -39,7 +39,7 @@ returns-in_err-slice_cell c = let s = c.args.yard.now.sheet in
     c.loop-j.invariant.2 ∙ cells_here s c.args.e x _ c.requires.3 j l _ ∙ (let p = err_from_is_err_and c.from_residual.result c.from_residual.ensures.1 in rw (p.1, p.2) (then_refused _ _ _ _ _ here))
 
 pub loop-j-preserved : goal.loop-j-preserved
-loop-j-preserved c = let s = c.args.yard.now.sheet in
+loop-j-preserved c = let s = c.args.yard.now.sheet.sheet.now in
     let x = c.args.c in
     let j = c.loop-j.j in
     let l = c.loop-j-test.true in

@@ -14,7 +14,7 @@ loop-j-init c = (omega arith, refl, no_cells _ _ _, written_none _ c.args.c _ _)
 pub cells_alike-requires : goal.cells_alike-requires
 unfolding cell_at
 cells_alike-requires c = let l = c.loop-j-test.true in
-    let v = variable-cells c.args.sheet.now c.args.c c.loop-j.j _ l in
+    let v = variable-cells c.args.sheet.now.sheet.now c.args.c c.loop-j.j _ l in
     let e = c.loop-j.invariant.2 in
     let h = c.loop-j.invariant.1 in
     let x = c.cells_taken-taken.ensures.0 in
@@ -25,7 +25,7 @@ cells_alike-requires c = let l = c.loop-j-test.true in
 pub overflow_add-next : goal.overflow_add-next
 overflow_add-next c = let l = c.loop-j-test.true in
     let e = c.loop-j.invariant.2 in
-    let v = variable-cells c.args.sheet.now c.args.c c.loop-j.j _ l in
+    let v = variable-cells c.args.sheet.now.sheet.now c.args.c c.loop-j.j _ l in
     let w = c.requires.few in
     let x = c.cells_taken-taken.ensures.0 in
     record { fits = omega arith }
@@ -35,7 +35,7 @@ unfolding cell_at
 loop-j-preserved c = let l = c.loop-j-test.true in
     let args = c.args in
     let e = c.loop-j.invariant.2 in
-    let v = variable-cells args.sheet.now args.c c.loop-j.j _ l in
+    let v = variable-cells args.sheet.now.sheet.now args.c c.loop-j.j _ l in
     let w = c.requires.inside in
     let x = c.cells_taken-taken.ensures.0 in
     let z = given c.default_of-z.result c.default_of-z.type_inv ∙ c.default_of-z.ensures in (

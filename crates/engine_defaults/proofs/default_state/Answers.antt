@@ -40,7 +40,7 @@ default_cells-cell-requires c = let l = c.loop-i-test.true in
 
 pub overflow_add-k : goal.overflow_add-k
 overflow_add-k c = let l = c.loop-i-test.true in
-    record { fits = omega (arith, c.loop-i.invariant.5, (first_most c.args.sheet.now c.loop-i.i).1, c.field_at-components.ensures.1, c.saturating_sub-count.ensures, c.records_for-k.ensures.1) }
+    record { fits = omega (arith, c.loop-i.invariant.5, (first_most c.args.sheet.now.sheet.now c.loop-i.i).1, c.field_at-components.ensures.1, c.saturating_sub-count.ensures, c.records_for-k.ensures.1) }
 
 pub loop-i-preserved : goal.loop-i-preserved
 loop-i-preserved c = let l = c.loop-i-test.true in

@@ -9,4 +9,4 @@ use Rattle.engine_defaults.proofs.State.{Filled}
 use Rattle.engine_defaults.proofs.default_state.Given as goal
 
 abbrev pub invariant-loop-i : goal.invariant-loop-i
-invariant-loop-i l = (l.i ≤ l.count) × (l.count ≡ elements_of l.sheet) × (length l.st ≡ state_length l.sheet) × (l.cell ≡ sum_below l.i (cells_bound l.sheet)) × Filled l.sheet l.initial.st l.st l.cell l.i × (l.k ≡ first_binding l.sheet l.i)
+invariant-loop-i l = (l.i ≤ l.count) × (l.count ≡ elements_of l.sheet.sheet.now) × (length l.st ≡ state_length l.sheet.sheet.now) × (l.cell ≡ sum_below l.i (cells_bound l.sheet.sheet.now)) × Filled l.sheet.sheet.now l.initial.st l.st l.cell l.i × (l.k ≡ first_binding l.sheet.sheet.now l.i)

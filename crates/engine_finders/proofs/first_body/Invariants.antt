@@ -9,4 +9,4 @@ use Rattle.engine_finders.specs.Bodies.{Tests}
 use Rattle.engine_finders.proofs.first_body.Given as goal
 
 abbrev pub invariant-loop-j : goal.invariant-loop-j
-invariant-loop-j g l = (p : Record → Bool) → Tests l.sheet (goal.F-post g l.fits) p → (i : ℕ) → i < l.j → holds (record_of l.sheet bodies (l.first + i)) p ≡ false
+invariant-loop-j g l = (p : Record → Bool) → Tests l.sheet.sheet.now (goal.F-post g l.fits) p → (i : ℕ) → i < l.j → holds (record_of l.sheet.sheet.now bodies (l.first + i)) p ≡ false

@@ -9,4 +9,4 @@ use Rattle.engine_list_events.proofs.Laws.{behind, rest}
 use Rattle.engine_list_events.proofs.play_on.Given as goal
 
 abbrev pub invariant-loop-i : goal.invariant-loop-i
-invariant-loop-i l = OfSheet l.yard.sheet l.st × (length l.st ≡ length l.initial.st) × (length l.spare ≡ length l.initial.spare) × (length l.answers ≡ length l.initial.answers) × (l.i ≤ l.count) × (l.count ≡ length l.events / words_of_event) × (in_words (events_of l.yard.sheet (limit_of l.yard.sheet) l.initial.st (events_from l.events l.count 0)) ≡ behind (take (words_of_answer * l.i) l.answers) (rest l.yard.sheet l.events l.count l.i l.st))
+invariant-loop-i l = OfSheet l.yard.sheet.sheet.now l.st × (length l.st ≡ length l.initial.st) × (length l.spare ≡ length l.initial.spare) × (length l.answers ≡ length l.initial.answers) × (l.i ≤ l.count) × (l.count ≡ length l.events / words_of_event) × (in_words (events_of l.yard.sheet.sheet.now (limit_of l.yard.sheet.sheet.now) l.initial.st (events_from l.events l.count 0)) ≡ behind (take (words_of_answer * l.i) l.answers) (rest l.yard.sheet.sheet.now l.events l.count l.i l.st))

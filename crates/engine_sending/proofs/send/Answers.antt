@@ -22,6 +22,6 @@ pub returns : goal.returns
 returns c = let args = c.args in
     let d = data_given _ _ _ (rw c.data_range-g.ensures at c.in_ok-data.ensures) in
     let made = telegram_made _ _ _ args.r.f3 c.in_ok-data.data d.0 (element-small _ _ c.requires.0.running) c.ranges.receiver c.ranges.port (omega arith) (omega arith) (omega arith) (omega arith) (omega arith) d.1 in
-    c.append.ensures args.sheet.now args.lo.now c.requires.0.state.whole
-    ∙ ap (λ t. append args.sheet.now t c.in_ok-data.left args.st.now args.lo.now) made
+    c.append.ensures args.sheet.now.sheet.now args.lo.now c.requires.0.state.whole
+    ∙ ap (λ t. append args.sheet.now.sheet.now t c.in_ok-data.left args.st.now args.lo.now) made
     ∙ on_data _ _ _ _ _ _ d.2

@@ -56,7 +56,7 @@ enter-run-requires t c = let args = c.args in
     let h = c.if-depth-ge16.false in (
       omega arith,
       (
-        subst (λ lo. Ready args.sheet.now c.inner-inner.result args.st.now lo) (sym c.fresh_locals-locals.ensures)
+        subst (λ lo. Ready args.sheet.now.sheet.now c.inner-inner.result args.st.now lo) (sym c.fresh_locals-locals.ensures)
             (inner-ready _ _ _ _ _ _ c.requires.0 _ c.inner-inner.ensures),
         inner-statement _ _ _ _ _ _ c.requires.0 _ c.inner-inner.ensures,
         omega arith,
@@ -66,11 +66,11 @@ enter-run-requires t c = let args = c.args in
 pub enter-returns : goal.enter-returns
 enter-returns t c = let args = c.args in
     let inner-context-here = inner_context _ _ _ _ _ _ c.requires.0 _ c.inner-inner.ensures in
-    let inBody-here = in_body (context_at args.sheet.now args.context.now) args.b in
+    let inBody-here = in_body (context_at args.sheet.now.sheet.now args.context.now) args.b in
     λ lo. body-runs _ _ _ _ _ _ _ lo (let h = c.if-depth-ge16.false in omega arith) (fresh_there _ _ _ _ _ _ c.requires.0) _ _ _
     (c.run.ensures.1
-    ∙ ap (λ y. run_of args.sheet.now (args.depth + 1) y (root args.b) args.left args.st.now c.fresh_locals-locals.result) inner-context-here
-    ∙ ap (λ lo. run_of args.sheet.now (args.depth + 1) inBody-here (root args.b) args.left args.st.now lo) c.fresh_locals-locals.ensures)
+    ∙ ap (λ y. run_of args.sheet.now.sheet.now (args.depth + 1) y (root args.b) args.left args.st.now c.fresh_locals-locals.result) inner-context-here
+    ∙ ap (λ lo. run_of args.sheet.now.sheet.now (args.depth + 1) inBody-here (root args.b) args.left args.st.now lo) c.fresh_locals-locals.ensures)
 
 pub repeat-eval-requires : goal.repeat-eval-requires
 repeat-eval-requires t c = (c.loop-word.invariant.0.ready, loop_operand _ _ _ _ c.loop-word.invariant.0.ready _ _ c.loop-word.invariant.0.there c.loop-word.invariant.0.statement c.loop-word.invariant.0.form)

@@ -20,7 +20,7 @@ abbrev pub decreases-run : goal.decreases-run
 decreases-run l = 3 * l.left
 
 abbrev pub invariant-repeat-loop-word : goal.invariant-repeat-loop-word
-invariant-repeat-loop-word l = Visit l.sheet l.context l.st l.lo l.n l.r loop × (run_of l.sheet l.depth (context_at l.sheet l.context) l.n (suc l.left) l.initial.st l.initial.lo ≡ run_of l.sheet l.depth (context_at l.sheet l.context) l.n (suc l.l) l.st l.lo) × (l.l ≤ l.left) × (length l.st ≡ length l.initial.st) × (length l.lo ≡ length l.initial.lo)
+invariant-repeat-loop-word l = Visit l.sheet.sheet.now l.context l.st l.lo l.n l.r loop × (run_of l.sheet.sheet.now l.depth (context_at l.sheet.sheet.now l.context) l.n (suc l.left) l.initial.st l.initial.lo ≡ run_of l.sheet.sheet.now l.depth (context_at l.sheet.sheet.now l.context) l.n (suc l.l) l.st l.lo) × (l.l ≤ l.left) × (length l.st ≡ length l.initial.st) × (length l.lo ≡ length l.initial.lo)
 
 abbrev pub decreases-repeat-loop-word : goal.decreases-repeat-loop-word
 decreases-repeat-loop-word l = l.l

@@ -14,4 +14,4 @@ abbrev pub fits : List ℕ → ℕ → ℕ → List ℤ → ℕ → ℕ → Bool
 fits s e t st cell k = cell_fits s e t st (cell_at (cell + k))
 
 abbrev pub invariant-loop-k : goal.invariant-loop-k
-invariant-loop-k l = (l.k ≤ l.n) × ((e : ℕ) → chart_of l.sheet e ≡ Some l.c → all_below l.k (fits l.sheet e l.t l.st l.cell) ≡ true)
+invariant-loop-k l = (l.k ≤ l.n) × ((e : ℕ) → chart_of l.sheet.sheet.now e ≡ Some l.c → all_below l.k (fits l.sheet.sheet.now e l.t l.st l.cell) ≡ true)

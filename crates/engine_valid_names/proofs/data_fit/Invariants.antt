@@ -13,4 +13,4 @@ abbrev pub datum : List ℕ → Range → List ℤ → ℕ → ℕ → Bool
 datum s g st at j = datum_fits s g j (word_of st (at + j))
 
 abbrev pub invariant-loop-j : goal.invariant-loop-j
-invariant-loop-j l = all_below l.j (datum l.sheet l.g l.st l.at) ≡ true
+invariant-loop-j l = all_below l.j (datum l.sheet.sheet.now l.g l.st l.at) ≡ true

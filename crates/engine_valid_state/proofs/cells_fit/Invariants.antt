@@ -11,4 +11,4 @@ abbrev pub fits : List ℕ → List ℤ → ℕ → ℕ → Bool
 fits s st from i = element_fits s st (from + i)
 
 abbrev pub invariant-loop-i : goal.invariant-loop-i
-invariant-loop-i l = (l.i ≤ l.count) × (l.count < 64) × (l.from < 65536) × (all_below l.i (fits l.yard.sheet l.st l.from) ≡ true)
+invariant-loop-i l = (l.i ≤ l.count) × (l.count < 64) × (l.from < 65536) × (all_below l.i (fits l.yard.sheet.sheet.now l.st l.from) ≡ true)

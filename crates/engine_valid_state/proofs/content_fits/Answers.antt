@@ -11,7 +11,7 @@ use mathlib.Core.Bool.{not}
 use Rattle.engine_valid_state.proofs.content_fits.Goals as goal
 
 pub head_fits-requires : goal.head_fits-requires
-head_fits-requires c = omega (arith, at_least c.args.yard.now.sheet (length c.args.st.now) c.requires)
+head_fits-requires c = omega (arith, at_least c.args.yard.now.sheet.sheet.now (length c.args.st.now) c.requires)
 
 pub returns-then-not-head_fits : goal.returns-then-not-head_fits
 unfolding content_fits
@@ -23,7 +23,7 @@ returns-then-not-cells_fit c = rest_fails _ _ (first_fails_lem _ _ (no c.cells_f
 
 pub number_at-n-requires : goal.number_at-n-requires
 number_at-n-requires c = let head = so c.head_fits.ensures (ap not c.if-not-head_fits.false) in
-    (omega (arith, at_least c.args.yard.now.sheet (length c.args.st.now) c.requires), head_from _ head)
+    (omega (arith, at_least c.args.yard.now.sheet.sheet.now (length c.args.st.now) c.requires), head_from _ head)
 
 pub waiting_fit-requires : goal.waiting_fit-requires
 waiting_fit-requires c = let head = so c.head_fits.ensures (ap not c.if-not-head_fits.false) in

@@ -14,4 +14,4 @@ abbrev pub fits : List ℕ → List ℤ → ℕ → Bool
 fits s st j = telegram_fits s (telegram_in st (place_in (length st) j))
 
 abbrev pub invariant-loop-j : goal.invariant-loop-j
-invariant-loop-j l = (l.j ≤ l.n) × (all_below l.j (fits l.yard.sheet l.st) ≡ true)
+invariant-loop-j l = (l.j ≤ l.n) × (all_below l.j (fits l.yard.sheet.sheet.now l.st) ≡ true)

@@ -10,7 +10,7 @@ use Rattle.program_events.proofs.play_events.Given as goal
 
 abbrev pub invariant-loop-done : goal.invariant-loop-done
 invariant-loop-done g l =
-    OfSheet l.yard.sheet l.st × (length l.st ≡ length l.initial.st) × (length l.spare ≡ length l.initial.spare) × (length l.events ≡ room_events * bytes_of_event)
+    OfSheet l.yard.sheet.sheet.now l.st × (length l.st ≡ length l.initial.st) × (length l.spare ≡ length l.initial.spare) × (length l.events ≡ room_events * bytes_of_event)
     × (length l.words ≡ room_events * words_of_event) × (length l.answers ≡ room_events * words_of_answer) × (length l.out ≡ room_text) × (l.have < bytes_of_event) × (l.done ≤ l.most)
 
 abbrev pub decreases-loop-done : goal.decreases-loop-done

@@ -40,4 +40,4 @@ play_states-requires g c =
     let cells = c.args.yard.now.counted in
     let l : n ≤ longest = omega (arith, cells_limit _ c.args.yard.now.passed) in
     let f = fresh_front n longest (pos 0) l in
-    (sym f ∙ words ∙ words_with_lem c.args.yard.now.sheet _ cells, sym f ∙ f)
+    (sym f ∙ words ∙ words_with_lem c.args.yard.now.sheet.sheet.now _ cells, sym f ∙ f)

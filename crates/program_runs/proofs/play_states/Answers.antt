@@ -8,6 +8,6 @@ play_begun-end-requires g c =
     let begin = c.begin-a in
     let p = c.requires in
     record {
-      state = λ accepted. begun args.yard.now.sheet c.args.yard.now.passed args.st.now begin.result begin.new.st p.0 begin.ensures accepted;
+      state = λ accepted. begun args.yard.now.sheet.sheet.now c.args.yard.now.passed args.st.now begin.result begin.new.st p.0 begin.ensures accepted;
       spare = p.1 ∙ sym begin.auto.st;
     }

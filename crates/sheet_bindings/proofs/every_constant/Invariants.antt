@@ -13,4 +13,4 @@ abbrev pub meets : List ℕ → ℕ → (ℕ → ℕ → Bool) → ℕ → Bool
 meets s k p j = holds (constant_binding s k j) (λ b. p j (constant_of b j))
 
 abbrev pub invariant-loop-j : goal.invariant-loop-j
-invariant-loop-j g l = (l.count < 65536) × ((p : ℕ → ℕ → Bool) → TestsBoth (goal.F-post g l.fits) p → all_below l.j (meets l.sheet l.k p) ≡ true)
+invariant-loop-j g l = (l.count < 65536) × ((p : ℕ → ℕ → Bool) → TestsBoth (goal.F-post g l.fits) p → all_below l.j (meets l.sheet.sheet.now l.k p) ≡ true)

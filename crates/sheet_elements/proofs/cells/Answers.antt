@@ -18,7 +18,7 @@ unfolding sum_below first_binding
 loop-init c = (omega arith, refl, refl)
 
 pub record_behind-k-requires : goal.record_behind-k-requires
-record_behind-k-requires c = omega (arith, c.field_at-components.ensures.1, c.saturating_sub-end.ensures, c.loop.invariant.2, c.loop-test.true, (first_most c.args.sheet.now c.loop.counter).1)
+record_behind-k-requires c = omega (arith, c.field_at-components.ensures.1, c.saturating_sub-end.ensures, c.loop.invariant.2, c.loop-test.true, (first_most c.args.sheet.now.sheet.now c.loop.counter).1)
 
 pub loop-preserved : goal.loop-preserved
 loop-preserved c = let x = c.loop.invariant in

@@ -6,4 +6,4 @@ use Rattle.sheet_rules.specs.Shape.{cells_bound}
 use Rattle.sheet_elements.proofs.cells.Given as goal
 
 abbrev pub invariant-loop : goal.invariant-loop
-invariant-loop l = (l.sum ≤ 4294967296 * l.counter) × (l.sum ≡ sum_below l.counter (cells_bound l.sheet)) × (l.k ≡ first_binding l.sheet l.counter)
+invariant-loop l = (l.sum ≤ 4294967296 * l.counter) × (l.sum ≡ sum_below l.counter (cells_bound l.sheet.sheet.now)) × (l.k ≡ first_binding l.sheet.sheet.now l.counter)

@@ -9,4 +9,4 @@ abbrev pub cells_from : List ℕ → ℕ → ℕ → ℕ
 cells_from s first j = cells_taken s (first + j)
 
 abbrev pub invariant-loop-j : goal.invariant-loop-j
-invariant-loop-j l = (l.j ≤ l.count) × (l.count < 65536) × (l.first < 65536) × (l.sum ≤ 65535 * l.j) × (l.sum ≡ sum_below l.j (cells_from l.sheet l.first))
+invariant-loop-j l = (l.j ≤ l.count) × (l.count < 65536) × (l.first < 65536) × (l.sum ≤ 65535 * l.j) × (l.sum ≡ sum_below l.j (cells_from l.sheet.sheet.now l.first))

@@ -1,7 +1,5 @@
-use mathlib.Core.Path.{ap, ◌∙◌}
-use Rattle.sheet.specs.Sheet.{directory_of}
 use Rattle.sheet.proofs.Sheet.{count_opened}
 use Rattle.sheet_opened.proofs.Reader.count.Goals as goal
 
 pub returns : goal.returns
-returns c = count_opened _ _ _ c.count_in.ensures _ (c.self.invariant ∙ ap directory_of c.self.view_is)
+returns c = count_opened _ _ _ c.count_in.ensures _ c.args.self.now.opened
