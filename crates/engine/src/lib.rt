@@ -2,13 +2,15 @@
 #![tactic(auto)]
 
 ghost use Rattle.std.specs.Prelude.{◌≡◌, length};
+ghost use Rattle.sheet_rules.specs.declared.Checked.TheVariants.{Passed};
+ghost use Rattle.sheet_rules.specs.Check.{check_of};
 ghost use Rattle.machine.specs.Lists.{StartGives, EventGives};
 ghost use Rattle.machine.specs.Play.{limit_of};
 ghost use Rattle.machine.specs.Valid.{OfSheet};
 ghost use Rattle.machine.specs.State.{state_length};
 
 use engine_answering::answered;
-use engine_cells::Yard;
+use engine_cells::{LAYOUT, Yard};
 use machine::Answer;
 use sheet_opened::Reader;
 use sheet_rules::Checked;
@@ -36,20 +38,28 @@ pub fn event(sheet: &[u8], old: &[i32], res: &mut [i32], ev: &[i32]) -> Answer
     match checker::check_opened(&opened) {
         Checked::Shape => answered(1, 0),
         Checked::Static => answered(2, 0),
-        Checked::Passed => on_passed(&Yard::new(opened), old, res, ev),
+        Checked::Passed => on_passed(&opened, old, res, ev),
     }
 }
 
-fn on_passed(yard: &Yard, old: &[i32], res: &mut [i32], ev: &[i32]) -> Answer
-    ensures { EventGives yard.now.sheet.sheet.now (limit_of yard.now.sheet.sheet.now) old.now res.old ev.now result res.new }
+// The table of cells, 17 KB, is filled where it lies: a call of `Yard::new` moves it.
+fn on_passed(sheet: &Reader, old: &[i32], res: &mut [i32], ev: &[i32]) -> Answer
+    requires { check_of sheet.now.sheet.now ≡ Passed }
+    ensures { EventGives sheet.now.sheet.now (limit_of sheet.now.sheet.now) old.now res.old ev.now result res.new }
 {
+    let mut yard = Yard {
+        sheet: *sheet,
+        cells: [0usize; LAYOUT],
+        count: 0,
+    };
+    yard.count = engine_cells::fill(sheet, &mut yard.cells);
     if !engine_lengths::is_state(yard.count, old.len()) {
         return answered(3, 0);
     }
     if !engine_lengths::is_state(yard.count, res.len()) {
         return answered(3, 0);
     }
-    if !engine_valid_state::content_fits(yard, old) {
+    if !engine_valid_state::content_fits(&yard, old) {
         return answered(3, 0);
     }
     let e = engine_valid_events::event_of(&yard.sheet, ev);
@@ -58,7 +68,7 @@ fn on_passed(yard: &Yard, old: &[i32], res: &mut [i32], ev: &[i32]) -> Answer
     }
     engine_copies::copy(old, res);
     let j = engine_sought::sought(res, e);
-    engine_kinds::happened(yard, old, res, e, j)
+    engine_kinds::happened(&yard, old, res, e, j)
 }
 
 // Start on a passed sheet.
@@ -77,15 +87,23 @@ pub fn start(sheet: &[u8], res: &mut [i32]) -> Answer
     match checker::check_opened(&opened) {
         Checked::Shape => answered(1, 0),
         Checked::Static => answered(2, 0),
-        Checked::Passed => start_passed(&Yard::new(opened), res),
+        Checked::Passed => start_passed(&opened, res),
     }
 }
 
-fn start_passed(yard: &Yard, res: &mut [i32]) -> Answer
-    ensures { StartGives yard.now.sheet.sheet.now (limit_of yard.now.sheet.sheet.now) res.old result res.new }
+// The table is filled where it lies here too.
+fn start_passed(sheet: &Reader, res: &mut [i32]) -> Answer
+    requires { check_of sheet.now.sheet.now ≡ Passed }
+    ensures { StartGives sheet.now.sheet.now (limit_of sheet.now.sheet.now) res.old result res.new }
 {
+    let mut yard = Yard {
+        sheet: *sheet,
+        cells: [0usize; LAYOUT],
+        count: 0,
+    };
+    yard.count = engine_cells::fill(sheet, &mut yard.cells);
     if !engine_lengths::is_state(yard.count, res.len()) {
         return answered(3, 0);
     }
-    begin(yard, res)
+    begin(&yard, res)
 }

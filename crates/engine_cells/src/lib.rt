@@ -40,17 +40,19 @@ pub struct Yard<'a> {
 }
 
 impl<'a> Yard<'a> {
+    // The table is filled where it lies: 17 KB, which a call that was not inlined would move.
+    #[inline(always)]
     pub fn new(sheet: Reader<'a>) -> Self
         requires { check_of sheet.sheet.now ≡ Passed }
         ensures { result.sheet ≡ sheet.entry }
     {
-        let mut cells = [0usize; LAYOUT];
-        let count = fill(&sheet, &mut cells);
-        Yard {
+        let mut yard = Yard {
             sheet,
-            cells,
-            count,
-        }
+            cells: [0usize; LAYOUT],
+            count: 0,
+        };
+        yard.count = fill(&sheet, &mut yard.cells);
+        yard
     }
 
     // How many bound elements there are.

@@ -3,8 +3,8 @@ use Rattle.sheet_rules.specs.Check.{check_of}
 use Rattle.engine.proofs.Calls.{shape-event, static-event}
 use Rattle.engine.proofs.event.Goals as goal
 
-pub new-requires : goal.new-requires
-new-requires c = sym c.check_opened.ensures.0 ∙ c.in-Passed.is
+pub on_passed-requires : goal.on_passed-requires
+on_passed-requires c = sym c.check_opened.ensures.0 ∙ c.in-Passed.is
 
 pub returns-in-Shape : goal.returns-in-Shape
 returns-in-Shape c = shape-event _ _ _ _ _ c.answered.ensures (ap (λ r. check_of r.now) (sym c.new-opened.ensures.0) ∙ sym c.check_opened.ensures.0 ∙ c.in-Shape.is)

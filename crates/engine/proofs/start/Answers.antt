@@ -5,8 +5,8 @@ use Rattle.machine.specs.Play.{ended}
 use Rattle.machine_events.proofs.Laws.{start-shape, start-static}
 use Rattle.engine.proofs.start.Goals as goal
 
-pub new-requires : goal.new-requires
-new-requires c = sym c.check_opened.ensures.0 ∙ c.in-Passed.is
+pub start_passed-requires : goal.start_passed-requires
+start_passed-requires c = sym c.check_opened.ensures.0 ∙ c.in-Passed.is
 
 pub returns-in-Shape : goal.returns-in-Shape
 returns-in-Shape c = let result = c.args.res.now in
